@@ -1,0 +1,245 @@
+#!/usr/bin/python3
+"""Uses the page as a person does, in Chromium and in Firefox: the built file alone, from the disk.
+
+usage: page/test_page.py [--page FILE] [--tool PROGRAM] [chromium] [firefox]
+
+PROGRAM is a built mklittlefs, which makes the images and reads what the page saves. Needs Debian's chromium-driver, python3-selenium and
+firefox-esr, so it runs by /usr/bin/python3. Fails at the first thing that isn't as it should be. In Chromium files and folders are also
+dropped, and the page may ask for nothing but itself.
+"""
+
+import argparse
+from pathlib import Path
+import random
+import shutil
+import struct
+import subprocess
+import tempfile
+import time
+import zipfile
+import zlib
+
+import browsers
+
+TOP = Path(__file__).resolve().parent.parent
+
+
+def png(width, height):
+    """A picture with colours that run over."""
+    rows = b"".join(b"\0" + bytes(v for x in range(width) for v in (x * 255 // width, y * 255 // height, 150)) for y in range(height))
+    part = lambda kind, data: struct.pack(">I", len(data)) + kind + data + struct.pack(">I", zlib.crc32(kind + data))
+    return b"\x89PNG\r\n\x1a\n" + part(b"IHDR", struct.pack(">IIBBBBB", width, height, 8, 2, 0, 0, 0)) + part(b"IDAT", zlib.compress(rows)) + part(b"IEND", b"")
+
+
+def same(what, got, wanted):
+    if got != wanted:
+        raise SystemExit(f"{what}: {got!r:.400} and not {wanted!r:.400}")
+
+
+def make_folder(at):
+    files = {
+        "settings/wifi.json": b'{\n  "ssid": "workshop",\n  "channel": 11,\n  "password": "not this one"\n}\n',
+        "settings/name": "K\u00fcche \u2013 21.5 \u00b0C\n".encode(),
+        "log/2026-11-29.csv": b"time,degrees\n" + b"".join(b"%02d:%02d,%d.%d\n" % (h, m, 18 + h % 5, m % 10) for h in range(24) for m in range(0, 60, 5)),
+        "log/today.csv": b"time,degrees\n00:00,19.5\n",
+        "www/index.html": b"<!doctype html><title>board</title><h1>Board</h1>\n",
+        "www/logo.png": png(180, 120),
+        "firmware.bin": random.Random(5).randbytes(40000),
+        "empty": b"",
+    }
+    for name, data in files.items():
+        path = at / name
+        path.parent.mkdir(parents=True, exist_ok=True)
+        path.write_bytes(data)
+    (at / "spare").mkdir()
+    return files
+
+
+class Use:
+    """A person who uses the page, with a folder of their own and the tool beside it."""
+
+    def __init__(self, page, tool, work):
+        self.page, self.tool, self.work = page, tool, work
+        self.files = make_folder(work / "board")
+        same("the tool", self.run("-c", work / "board", "-s", "256k", "--times", work / "board.img").returncode, 0)
+        self.listed = [line.split(" ", 2)[2] for line in self.run("-l", work / "board.img").stdout.decode().splitlines()]
+
+    def run(self, *words):
+        return subprocess.run([self.tool, *map(str, words)], stdout=subprocess.PIPE, stderr=subprocess.PIPE)
+
+    def give(self, what, selector, *paths):
+        """Clicks a button that asks for files, and gives it these."""
+        self.page.do(what)
+        self.page.give(selector, *paths)
+
+    def unpacked(self, data):
+        """Returns the files of an image, as the tool unpacks it."""
+        image, folder = self.work / "saved.img", self.work / "unpacked"
+        shutil.rmtree(folder, ignore_errors=True)
+        image.write_bytes(data)
+        same("the saved image", self.run("--check", image).returncode, 0)
+        self.run("-u", folder, image)
+        return {str(it.relative_to(folder)): it.read_bytes() for it in folder.rglob("*") if it.is_file()}
+
+    def view(self):
+        page, work = self.page, self.work
+        self.give("choose-image", "#pick-image", work / "board.img")
+        page.until("the image is open", lambda: page.rows() == ["/", *self.listed])
+        check = dict(line.split(" ", 1) for line in self.run("--check", work / "board.img").stdout.decode().splitlines()[1:])
+        facts = page.script("return Object.fromEntries([...document.querySelectorAll('#facts div')].map((it) => [it.firstChild.textContent, it.lastChild.textContent]))")
+        same("the facts", [facts["Files"], facts["Folders"], facts["Used"]], [check["files"], check["directories"], check["used"].replace(" blocks", "")])
+        same("the verdict", page.text("#verdict"), "Accepted; nothing is left to recover")
+        page.choose("/settings/wifi.json")
+        page.until("its text is shown", lambda: '"ssid": "workshop"' in page.text("#panel"))
+        page.choose("/www/logo.png")
+        page.until("the picture is shown", lambda: page.script("return document.querySelector('#panel img')?.naturalWidth") == 180)
+        page.choose("/firmware.bin")
+        page.until("bytes are shown", lambda: page.text("#panel").startswith("000000  " + self.files["firmware.bin"][:8].hex(" ")))
+        page.button("#view", "Download")
+        same("a file", page.downloaded("firmware.bin"), self.files["firmware.bin"])
+        page.do("download-all")
+        (work / "all.zip").write_bytes(page.downloaded("board.zip"))
+        with zipfile.ZipFile(work / "all.zip") as archive:
+            same("the .zip", {it: archive.read(it) for it in archive.namelist() if not it.endswith("/")}, self.files)
+            same("its folders", "spare/" in archive.namelist(), True)
+            day = time.strftime("%Y-%m-%d", time.gmtime((work / "board/empty").stat().st_mtime))
+            same("its times", "%04d-%02d-%02d" % archive.getinfo("empty").date_time[:3], day)
+
+    def keys(self):
+        page = self.page
+        page.choose("/")
+        for _ in range(2):
+            page.press("ArrowDown")
+        same("the second row", page.chosen(), self.listed[1])
+        page.press("End")
+        same("the last row", page.chosen(), self.listed[-1])
+        page.choose("/log")
+        was = page.rows()
+        page.press("ArrowLeft")
+        same("a folder closes", page.rows() != was, True)
+        page.press("ArrowRight")
+        same("a folder opens again", page.rows(), was)
+        page.choose("/empty")
+        page.press("Delete")
+        page.until("a file is removed", lambda: "/empty" not in page.rows())
+        page.choose("/log/today.csv")
+        page.press("F2")
+        page.answer(path="/log/2026-11-30.csv")
+        page.until("a file has another path", lambda: page.chosen() == "/log/2026-11-30.csv")
+
+    def change(self):
+        page, work = self.page, self.work
+        page.choose("/spare")
+        page.do("new-folder")
+        page.answer(name="")
+        page.until("a name that is empty is refused", lambda: "isn't empty" in page.text("#ask .error"))
+        page.answer(name="deep")
+        page.until("a folder is made", lambda: "/spare/deep" in page.rows())
+        (work / "new file.txt").write_text("added\n")
+        self.give("add-files", "#pick-files", work / "new file.txt", work / "board/settings/name")
+        page.until("files are added", lambda: {"/spare/deep/new file.txt", "/spare/deep/name"} <= set(page.rows()))
+        if page.takes_folders:
+            self.give("add-folder", "#pick-folder", work / "board/www")
+            page.until("a folder is added", lambda: "/spare/deep/www/logo.png" in page.rows())
+        page.choose("/settings/wifi.json")
+        page.button("#view", "Edit")
+        page.script("document.querySelector('#panel textarea').value += '// changed'; document.querySelector('#panel button.main').click()")
+        page.until("the text is put into the image", lambda: "// changed" in page.text("#panel"))
+        page.do("save")
+        wanted = {name: data for name, data in self.files.items() if name not in ("empty", "log/today.csv")}
+        wanted |= {"log/2026-11-30.csv": self.files["log/today.csv"], "spare/deep/new file.txt": b"added\n", "spare/deep/name": self.files["settings/name"],
+                   "settings/wifi.json": self.files["settings/wifi.json"] + b"// changed"}
+        if page.takes_folders:
+            wanted |= {f"spare/deep/{name}": data for name, data in self.files.items() if name.startswith("www/")}
+        same("what the tool reads of it", self.unpacked(page.downloaded("board.img")), wanted)
+
+    def refusals(self):
+        page, work = self.page, self.work
+        (work / "large").write_bytes(bytes(400000))
+        page.choose("/")
+        self.give("add-files", "#pick-files", work / "large")
+        page.until("too much is refused", lambda: "too few blocks are free" in page.text("#status"))
+        same("and isn't there", "/large" in page.rows(), False)
+        page.do("close")
+        page.answer()
+        page.until("the image is closed", lambda: page.script("return document.querySelector('#image').hidden"))
+        broken = bytearray((work / "board.img").read_bytes())
+        for at in range(16, 60):
+            broken[at] ^= 0x55
+            broken[4096 + at] ^= 0x55
+        (work / "broken.img").write_bytes(broken)
+        self.give("choose-image", "#pick-image", work / "broken.img")
+        reason = self.run("--check", "-b", "auto", "--also-2.1", work / "broken.img").stdout.decode().splitlines()[1]
+        page.until("an image is refused, with the tool's reason", lambda: page.text("#refused .reason") == reason)
+        with open(work / "huge.bin", "wb") as huge:
+            huge.truncate(300 << 20)
+        self.give("choose-image", "#pick-image", work / "huge.bin")
+        page.until("no image is found in 300 MiB", lambda: "300 MiB" in page.text("#status") and "no superblock" in page.text("#status"))
+
+    def flash(self):
+        """A whole flash that has an image, and a folder of which an image is made."""
+        page, work = self.page, self.work
+        flash = random.Random(6).randbytes(0x90000) + (work / "board.img").read_bytes() + b"\xff" * 0x10000
+        (work / "flash.bin").write_bytes(flash)
+        self.give("choose-image", "#pick-image", work / "flash.bin")
+        page.until("a part is found", lambda: "0x90000" in page.text("#refused .parts"))
+        page.click("#refused .parts button")
+        page.until("the part is open", lambda: page.rows() == ["/", *self.listed])
+        page.choose("/empty")
+        page.press("Delete")
+        page.until("a file is removed", lambda: "/empty" not in page.rows())
+        page.press("s", ctrlKey=True)
+        saved = page.downloaded("flash.bin")
+        same("the flash before and behind the image", [len(saved), saved[:0x90000], saved[-0x10000:]], [len(flash), flash[:0x90000], flash[-0x10000:]])
+        plain = work / "plain"
+        if page.takes_folders:
+            shutil.copytree(work / "board", plain, ignore=shutil.ignore_patterns("spare"))
+            self.give("choose-folder", "#pick-folder", plain)
+        else:
+            shutil.copytree(work / "board/log", plain)
+            page.drop_texts({it.name: it.read_text() for it in plain.iterdir()})
+        page.answer()
+        name = "plain.img" if page.takes_folders else "the files.img"
+        page.until("an image is made", lambda: page.text("#image-name") == name)
+        page.do("save")
+        self.run("-c", plain, "-s", "auto", work / "auto.img")
+        same("an image of a folder", page.downloaded(name), (work / "auto.img").read_bytes())
+        page.do("new-empty")
+        page.answer(size="1M")
+        page.until("an empty image is made", lambda: page.text("#image-name") == "littlefs.img" and page.rows() == ["/"])
+
+    def drops(self):
+        page, work = self.page, self.work
+        page.drop("#image .columns", work / "board/www")
+        page.until("a folder is dropped into the image", lambda: page.rows() == ["/", "/www", "/www/index.html", "/www/logo.png"])
+        page.drop("#image .columns", work / "board/firmware.bin")
+        page.until("a file is dropped into it", lambda: "/firmware.bin" in page.rows())
+
+
+def main():
+    parser = argparse.ArgumentParser(usage=__doc__.split("usage: ")[1].split("\n")[0])
+    parser.add_argument("--page", type=Path, default=TOP / "page/out/index.html")
+    parser.add_argument("--tool", default=str(TOP / "ports/out/x86_64/mklittlefs"))
+    parser.add_argument("which", nargs="*", choices=[[], "chromium", "firefox"])
+    given = parser.parse_args()
+    for name in given.which or ["chromium", "firefox"]:
+        with tempfile.TemporaryDirectory(ignore_cleanup_errors=True) as folder:
+            work, profile, saved = [Path(folder) / it for it in ("work", "profile", "saved")]
+            for it in (work, profile, saved):
+                it.mkdir()
+            address = given.page.resolve().as_uri()
+            page = getattr(browsers, name.capitalize())(address, profile, saved)
+            try:
+                page.until("the library starts", lambda: page.script("return document.body.dataset.ready") == "yes")
+                use = Use(page, given.tool, work)
+                use.view(), use.keys(), use.change(), use.refusals(), use.flash()
+                if name == "chromium":
+                    use.drops()
+                    same("nothing else is asked for", [it for it in page.requests() if not it.startswith((address, "blob:", "data:", "chrome:"))], [])
+            finally:
+                page.quit()
+        print(f"{page.name}: all as it should be", flush=True)
+
+
+if __name__ == "__main__":
+    main()

@@ -1,7 +1,10 @@
 """Makes a wheel of littlefs_c with the library in it, for pip, and needs nothing else.
 
     pip install ./bindings/python
-    python3 bindings/python/build_wheel.py FOLDER     # a wheel in a folder, for machines like this one
+    python3 bindings/python/build_wheel.py FOLDER                  # a wheel in a folder, for machines like this one
+    python3 bindings/python/build_wheel.py FOLDER LIBRARY TAG      # with another library, as littlefs_c.dll and py3-none-win_amd64
+
+The same files make the same wheel, byte for byte.
 """
 
 import base64
@@ -23,21 +26,22 @@ Summary: littlefs images in memory, by a proved library
 License: BSD-3-Clause
 Requires-Python: >=3.9
 """
-WHEEL = f"""Wheel-Version: 1.0
+WHEEL = """Wheel-Version: 1.0
 Generator: build_wheel
 Root-Is-Purelib: false
-Tag: {TAG}
+Tag: {}
 """
+LONG_AGO = 1980, 1, 1, 0, 0, 0
 
 
-def files_of_wheel():
+def files_of_wheel(library, tag):
     """The bytes of each file of the wheel, by its name there."""
-    if not LIBRARY.exists():
-        sys.exit(f"{LIBRARY} isn't there: run `rt lib` in crates/littlefs_c and `make` in bindings/c")
+    if not library.exists():
+        sys.exit(f"{library} isn't there: run `rt lib` in crates/littlefs_c and `make` in bindings/c")
     package = HERE / NAME
     files = {f"{NAME}/{path.name}": path.read_bytes() for path in sorted(package.iterdir()) if path.suffix in (".py", ".typed")}
     info = f"{NAME}-{VERSION}.dist-info"
-    return {**files, f"{NAME}/{LIBRARY.name}": LIBRARY.read_bytes(), f"{info}/METADATA": METADATA.encode(), f"{info}/WHEEL": WHEEL.encode()}
+    return {**files, f"{NAME}/{library.name}": library.read_bytes(), f"{info}/METADATA": METADATA.encode(), f"{info}/WHEEL": WHEEL.format(tag).encode()}
 
 
 def line_of_record(name, data):
@@ -47,13 +51,20 @@ def line_of_record(name, data):
 
 def build_wheel(folder, config_settings=None, metadata_directory=None):
     """Writes the wheel to a folder, and answers its name: what pip calls."""
-    files = files_of_wheel()
+    return write_wheel(folder, LIBRARY, TAG)
+
+
+def write_wheel(folder, library, tag):
+    """Writes a wheel with a library, for the machines of a tag, and answers its name."""
+    files = files_of_wheel(library, tag)
     record = f"{NAME}-{VERSION}.dist-info/RECORD"
     files[record] = ("".join(line_of_record(*it) for it in files.items()) + f"{record},,\n").encode()
-    wheel = f"{NAME}-{VERSION}-{TAG}.whl"
+    wheel = f"{NAME}-{VERSION}-{tag}.whl"
     with zipfile.ZipFile(os.path.join(folder, wheel), "w", zipfile.ZIP_DEFLATED) as archive:
         for name, data in files.items():
-            archive.writestr(name, data)
+            entry = zipfile.ZipInfo(name, LONG_AGO)
+            entry.create_system, entry.external_attr = 3, 0o100644 << 16
+            archive.writestr(entry, data, zipfile.ZIP_DEFLATED)
     return wheel
 
 
@@ -63,4 +74,4 @@ def build_sdist(folder, config_settings=None):
 
 
 if __name__ == "__main__":
-    print(build_wheel(sys.argv[1]))
+    print(write_wheel(sys.argv[1], Path(sys.argv[2]), sys.argv[3]) if len(sys.argv) == 4 else build_wheel(sys.argv[1]))

@@ -14,14 +14,14 @@ LONGER_FIRST, SHORTER_FIRST = 0, 1
 READ, WRITE, CREATE, EXCLUSIVE, TRUNCATE, APPEND = 0x1, 0x2, 0x100, 0x200, 0x400, 0x800
 
 # the numbers of littlefs_c.h: their names there, and what is said of those that the system has no such words for
-ERRORS = {errno.ENOENT: "NoEnt", errno.EBADF: "BadFile", errno.ENOMEM: "NoMemory", errno.EBUSY: "Busy", errno.EEXIST: "Exist",
-          errno.ENOTDIR: "NotDir", errno.EISDIR: "IsDir", errno.EINVAL: "Invalid", errno.EFBIG: "TooBig", errno.ENOSPC: "NoSpace",
-          errno.EROFS: "ReadOnly", errno.ENAMETOOLONG: "NameTooLong", errno.ENOTEMPTY: "NotEmpty", 61: "NoAttr", 84: "Corrupt",
+ERRORS = {2: "NoEnt", 9: "BadFile", 12: "NoMemory", 16: "Busy", 17: "Exist",
+          20: "NotDir", 21: "IsDir", 22: "Invalid", 27: "TooBig", 28: "NoSpace",
+          30: "ReadOnly", 36: "NameTooLong", 39: "NotEmpty", 61: "NoAttr", 84: "Corrupt",
           200: "Failed", 201: "EntryFull"}
 MEANINGS = {
-    errno.EBUSY: "an open file prevents it",
-    errno.EINVAL: "no image of that geometry, or a path, a position or a number is out of range",
-    errno.EROFS: "the image can be read, and images like it aren't written",
+    16: "an open file prevents it",
+    22: "no image of that geometry, or a path, a position or a number is out of range",
+    30: "the image can be read, and images like it aren't written",
     61: "the attribute isn't there",
     84: "no image is accepted in these bytes; one of version 2.1 is with also_2_1=True",
     200: "an earlier call had no memory, and remount() mends it",
@@ -67,8 +67,9 @@ _TYPES = {"n": [ctypes.c_uint32], "q": [ctypes.c_uint64], "g": [ctypes.POINTER(C
 def built_library() -> Path:
     """The shared library: beside this module where a wheel has put it, else in bindings/c."""
     here = Path(__file__).resolve().parent
-    installed = here / "littlefs_c.so"
-    return installed if installed.exists() else here.parent.parent / "c" / "littlefs_c.so"
+    name = "littlefs_c.dll" if os.name == "nt" else "littlefs_c.so"
+    installed = here / name
+    return installed if installed.exists() else here.parent.parent / "c" / name
 
 
 def load(path: Optional[PathName] = None) -> dict[str, Any]:

@@ -1,0 +1,244 @@
+#!/usr/bin/python3
+"""Packs what a release gives out into release/out: the same files make the same bytes.
+
+usage: release/packages.py [--ports FOLDER] [--out FOLDER]
+
+FOLDER is what ports/build.py made, ports/out. Makes for Linux on x86-64 and AArch64 a tarball, a Debian package and a wheel; for
+Windows a .zip and a wheel; the npm package; the page; and SHA256SUMS. Times of files in them are SOURCE_DATE_EPOCH, or else the time
+of the last commit.
+"""
+
+import argparse
+import email.utils
+import gzip
+import hashlib
+import io
+import os
+from pathlib import Path
+import re
+import shutil
+import subprocess
+import sys
+import tarfile
+import tempfile
+import time
+import zipfile
+
+TOP = Path(__file__).resolve().parent.parent
+sys.path[:0] = [str(TOP / "bindings/python"), str(TOP / "page")]
+import build as page
+import build_wheel
+
+NAME, VERSION = "mklittlefs", build_wheel.VERSION
+SHARED = f"liblittlefs_c.so.{VERSION}"
+MACHINES = {"x86_64": ("amd64", "x86_64-linux-gnu"), "aarch64": ("arm64", "aarch64-linux-gnu")}
+MAINTAINER = "littlefs proved developers <nobody@example.org>"  # whoever releases it writes an address here
+COPYRIGHT = """Format: https://www.debian.org/doc/packaging-manuals/copyright-format/1.0/
+
+Files: *
+Copyright: the authors of littlefs, proved
+License: BSD-3-Clause
+Comment: The program is linked with the GNU C Library, which is under the LGPL
+ 2.1 or later. mklittlefs.o is the program's own code, to link it with another
+ version: cc -static -o mklittlefs mklittlefs.o
+
+License: BSD-3-Clause
+"""
+
+
+def epoch():
+    given = os.environ.get("SOURCE_DATE_EPOCH")
+    if not given:
+        given = subprocess.run(["git", "log", "-1", "--format=%ct"], cwd=TOP, check=True, stdout=subprocess.PIPE, text=True).stdout
+    return int(given)
+
+
+def packed(data):
+    return gzip.compress(data, 9, mtime=0)
+
+
+# ---- what is in a package: each file's bytes and mode, or a link's text, by its path
+
+def configured(name, libdir, shared):
+    """Returns one of the files by which a build finds the library, for a package with these paths."""
+    up = "/".join([".."] * (len(Path(libdir).parts) + (2 if name.endswith(".cmake") else 1)))
+    text = (TOP / "release" / name).read_text()
+    for word, value in (("PREFIX", up), ("LIBDIR", libdir), ("SHARED", shared), ("VERSION", VERSION)):
+        text = text.replace(f"@{word}@", value)
+    return text.encode(), 0o644
+
+
+def for_builds(libdir, shared):
+    cmake = f"{libdir}/cmake/littlefs_c"
+    return {
+        "include/littlefs_c.h": ((TOP / "bindings/c/littlefs_c.h").read_bytes(), 0o644),
+        f"{libdir}/pkgconfig/littlefs_c.pc": configured("littlefs_c.pc", libdir, shared),
+        **{f"{cmake}/{it}": configured(it, libdir, shared) for it in ("littlefs_c-config.cmake", "littlefs_c-config-version.cmake")},
+    }
+
+
+def documents(name):
+    return {f"share/doc/{name}/{it}": ((TOP / path / it).read_bytes(), 0o644) for path, it in (("bindings/c", "example.c"), (".", "LICENSE"), (".", "CHANGELOG.md"))}
+
+
+def files_for_linux(ports, machine, libdir="lib"):
+    made = ports / machine
+    return {
+        f"bin/{NAME}": ((made / NAME).read_bytes(), 0o755),
+        f"{libdir}/liblittlefs_c.a": ((made / "liblittlefs_c.a").read_bytes(), 0o644),
+        f"{libdir}/{SHARED}": ((made / "littlefs_c.so").read_bytes(), 0o644),
+        f"{libdir}/liblittlefs_c.so.1": SHARED,
+        f"{libdir}/liblittlefs_c.so": SHARED,
+        f"{libdir}/{NAME}/{NAME}.o": ((made / "program.o").read_bytes(), 0o644),
+        f"share/man/man1/{NAME}.1": ((TOP / f"release/{NAME}.1").read_bytes(), 0o644),
+        **for_builds(libdir, f"{libdir}/{SHARED}"),
+        **documents(NAME),
+    }
+
+
+def files_for_windows(ports):
+    made = ports / "windows"
+    return {
+        "bin/littlefs_c.dll": ((made / "littlefs_c.dll").read_bytes(), 0o644),
+        **{f"lib/{it}": ((made / it).read_bytes(), 0o644) for it in ("liblittlefs_c.a", "liblittlefs_c.dll.a")},
+        **for_builds("lib", "bin/littlefs_c.dll"),
+        **documents("littlefs_c"),
+    }
+
+
+# ---- packages
+
+def tarball(to, top, files, when):
+    entries = {str(parent): None for path in files for parent in Path(path).parents if str(parent) != "."} | files
+    with gzip.GzipFile(to, "wb", 9, mtime=0) as out, tarfile.open(fileobj=out, mode="w", format=tarfile.GNU_FORMAT) as tar:
+        for path, file in sorted(entries.items()):
+            entry = tarfile.TarInfo(f"{top}/{path}")
+            entry.mtime = when
+            if file is None:
+                entry.type, entry.mode = tarfile.DIRTYPE, 0o755
+                tar.addfile(entry)
+            elif isinstance(file, str):
+                entry.type, entry.linkname, entry.mode = tarfile.SYMTYPE, file, 0o777
+                tar.addfile(entry)
+            else:
+                entry.size, entry.mode = len(file[0]), file[1]
+                tar.addfile(entry, io.BytesIO(file[0]))
+
+
+def zipped(to, top, files, when):
+    with zipfile.ZipFile(to, "w", zipfile.ZIP_DEFLATED) as archive:
+        for path, (data, mode) in sorted(files.items()):
+            entry = zipfile.ZipInfo(f"{top}/{path}", time.gmtime(when)[:6])
+            entry.create_system, entry.external_attr = 3, (0o100000 | mode) << 16
+            archive.writestr(entry, data, zipfile.ZIP_DEFLATED)
+
+
+def copyright_text():
+    licence = (TOP / "LICENSE").read_text().rstrip().splitlines()
+    return COPYRIGHT + "".join(f" {line or '.'}\n" for line in licence)
+
+
+def debian_files(ports, machine, when):
+    """Returns the files of the Debian package, at Debian's paths."""
+    renamed = {}
+    for path, file in files_for_linux(ports, machine, f"lib/{MACHINES[machine][1]}").items():
+        if path.endswith("/LICENSE"):
+            path, file = path.replace("LICENSE", "copyright"), (copyright_text().encode(), 0o644)
+        elif path.endswith(("CHANGELOG.md", ".1")) and not isinstance(file, str):
+            path, file = path.replace("CHANGELOG.md", "changelog") + ".gz", (packed(file[0]), 0o644)
+        elif path.endswith("example.c"):
+            path = path.replace("example.c", "examples/example.c")
+        renamed[f"usr/{path}"] = file
+    date = email.utils.formatdate(when)
+    changes = f"{NAME} ({VERSION}-1) unstable; urgency=medium\n\n  * Release {VERSION}: changelog.gz says what is in it.\n\n -- {MAINTAINER}  {date}\n"
+    renamed[f"usr/share/doc/{NAME}/changelog.Debian.gz"] = packed(changes.encode()), 0o644
+    return renamed
+
+
+def debian(to, machine, files, when):
+    arch, real = MACHINES[machine][0], {path: file for path, file in files.items() if not isinstance(file, str)}
+    size = sum((len(data) + 1023) // 1024 for data, _ in real.values()) + len(files)
+    control = f"""Package: {NAME}
+Version: {VERSION}-1
+Architecture: {arch}
+Maintainer: {MAINTAINER}
+Depends: libc6 (>= 2.17)
+Installed-Size: {size}
+Section: utils
+Priority: optional
+Description: make, check, unpack and change images of littlefs
+ The program mklittlefs makes images of folders in the format of the flash
+ file system littlefs, and lists, checks, unpacks and changes them. With it
+ comes littlefs_c, a library for C over images in memory. Their code is proved
+ to keep its contracts.
+"""
+    with tempfile.TemporaryDirectory() as folder:
+        root = Path(folder) / "root"
+        for path, file in files.items():
+            at = root / path
+            at.parent.mkdir(parents=True, exist_ok=True)
+            if isinstance(file, str):
+                at.symlink_to(file)
+            else:
+                at.write_bytes(file[0])
+                at.chmod(file[1])
+        (root / "DEBIAN").mkdir()
+        (root / "DEBIAN/control").write_text(control)
+        (root / "DEBIAN/triggers").write_text("activate-noawait ldconfig\n")
+        sums = "".join(f"{hashlib.md5(data).hexdigest()}  {path}\n" for path, (data, _) in sorted(real.items()))
+        (root / "DEBIAN/md5sums").write_text(sums)
+        for at in [root, *root.rglob("*")]:
+            if at.is_dir() and not at.is_symlink():
+                at.chmod(0o755)
+            os.utime(at, (when, when), follow_symlinks=False)
+        env = {**os.environ, "SOURCE_DATE_EPOCH": str(when)}
+        subprocess.run(["dpkg-deb", "--root-owner-group", "-Zxz", "--threads-max=1", "--build", str(root), str(to)], check=True, env=env, stdout=subprocess.DEVNULL)
+
+
+def wheel_for_linux(out, ports, machine):
+    library = ports / machine / "littlefs_c.so"
+    readelf = subprocess.run(["readelf", "-W", "--version-info", str(library)], check=True, stdout=subprocess.PIPE, text=True).stdout
+    needed = [tuple(map(int, it.split("."))) for it in re.findall(r"GLIBC_([\d.]+)", readelf)]
+    if max(needed) > (2, 17):
+        sys.exit(f"{library} needs a glibc above 2.17, and the tag of its wheel and the Debian package say that 2.17 is enough")
+    build_wheel.write_wheel(out, library, f"py3-none-manylinux_2_17_{machine}")
+
+
+def npm(out, ports):
+    with tempfile.TemporaryDirectory() as folder:
+        at = Path(folder) / "package"
+        shutil.copytree(TOP / "bindings/js", at, ignore=shutil.ignore_patterns("test", "*.wasm", "*.tgz", "node_modules"))
+        shutil.copy(TOP / "LICENSE", at)
+        for name in ("littlefs.wasm", "littlefs64.wasm", "mklittlefs.wasm"):
+            shutil.copy(ports / "wasm" / name, at)
+        for file in at.iterdir():
+            file.chmod(0o755 if file.name == f"{NAME}.js" else 0o644)
+        subprocess.run(["npm", "pack", "--silent", "--offline", "--pack-destination", str(out)], cwd=at, check=True, stdout=subprocess.DEVNULL)
+
+
+def main():
+    parser = argparse.ArgumentParser(usage=__doc__.split("usage: ")[1].split("\n")[0])
+    parser.add_argument("--ports", type=Path, default=TOP / "ports/out")
+    parser.add_argument("--out", type=Path, default=TOP / "release/out")
+    given = parser.parse_args()
+    out, ports, when = given.out.resolve(), given.ports.resolve(), epoch()
+    shutil.rmtree(out, ignore_errors=True)
+    out.mkdir(parents=True)
+    for machine, (arch, _) in MACHINES.items():
+        name = f"{NAME}-{VERSION}-linux-{machine}"
+        tarball(out / f"{name}.tar.gz", name, files_for_linux(ports, machine), when)
+        debian(out / f"{NAME}_{VERSION}-1_{arch}.deb", machine, debian_files(ports, machine, when), when)
+        wheel_for_linux(out, ports, machine)
+    name = f"littlefs_c-{VERSION}-windows-x86_64"
+    zipped(out / f"{name}.zip", name, files_for_windows(ports), when)
+    build_wheel.write_wheel(out, ports / "windows/littlefs_c.dll", "py3-none-win_amd64")
+    npm(out, ports)
+    (out / f"littlefs-page-{VERSION}.html").write_text(page.page(ports / "wasm"))
+    made = sorted(it for it in out.iterdir())
+    (out / "SHA256SUMS").write_text("".join(f"{hashlib.sha256(it.read_bytes()).hexdigest()}  {it.name}\n" for it in made))
+    for it in made:
+        print(f"{it.stat().st_size:>9}  {it.name}")
+
+
+if __name__ == "__main__":
+    main()

@@ -33,6 +33,7 @@ NAME, VERSION = "mklittlefs", build_wheel.VERSION
 SHARED = f"liblittlefs_c.so.{VERSION}"
 MACHINES = {"x86_64": ("amd64", "x86_64-linux-gnu"), "aarch64": ("arm64", "aarch64-linux-gnu")}
 MAINTAINER = "littlefs proved developers <nobody@example.org>"  # whoever releases it writes an address here
+SUMMARY = "make, check, unpack and change images of littlefs"
 COPYRIGHT = """Format: https://www.debian.org/doc/packaging-manuals/copyright-format/1.0/
 
 Files: *
@@ -55,6 +56,15 @@ def epoch():
 
 def packed(data):
     return gzip.compress(data, 9, mtime=0)
+
+
+def manual(ports):
+    """Returns the manual page: what the tool prints for --help."""
+    text = subprocess.run([str(ports / "x86_64" / NAME), "--help"], check=True, stdout=subprocess.PIPE, text=True).stdout
+    lines = [it.replace("\\", "\\e").replace("-", "\\-") for it in text.splitlines()]
+    body = "".join(("\\&" if it.startswith((".", "'")) else "") + it + "\n" for it in lines)
+    head = f'.TH MKLITTLEFS 1 "" "littlefs, proved {VERSION}" "User Commands"\n.SH NAME\n{NAME} \\- {SUMMARY}\n.SH DESCRIPTION\n.nf\n'
+    return f"{head}{body}.fi\n".encode(), 0o644
 
 
 # ---- what is in a package: each file's bytes and mode, or a link's text, by its path
@@ -90,7 +100,7 @@ def files_for_linux(ports, machine, libdir="lib"):
         f"{libdir}/liblittlefs_c.so.1": SHARED,
         f"{libdir}/liblittlefs_c.so": SHARED,
         f"{libdir}/{NAME}/{NAME}.o": ((made / "program.o").read_bytes(), 0o644),
-        f"share/man/man1/{NAME}.1": ((TOP / f"release/{NAME}.1").read_bytes(), 0o644),
+        f"share/man/man1/{NAME}.1": manual(ports),
         **for_builds(libdir, f"{libdir}/{SHARED}"),
         **documents(NAME),
     }
@@ -166,7 +176,7 @@ Depends: libc6 (>= 2.17)
 Installed-Size: {size}
 Section: utils
 Priority: optional
-Description: make, check, unpack and change images of littlefs
+Description: {SUMMARY}
  The program mklittlefs makes images of folders in the format of the flash
  file system littlefs, and lists, checks, unpacks and changes them. With it
  comes littlefs_c, a library for C over images in memory. Their code is proved

@@ -6,10 +6,10 @@ set -eu
 package=$(realpath "$1")
 root=${2:-$(mktemp -d)}
 [ -e "$root/bin/sh" ] || debootstrap --variant=minbase bookworm "$root" "${MIRROR:?an address of the packages, as apt has it}" > "$root.log" 2>&1
-cp "$package" "$root/tmp/package.deb"
+cp "$package" "$root/package.deb"
 chroot "$root" /bin/sh -eu <<'INSIDE'
-dpkg -i /tmp/package.deb
-rm -rf /tmp/work && mkdir -p /tmp/work/data/log && cd /tmp/work && echo "21.5 degrees" > data/log/today
+dpkg -i package.deb
+cd "$(mktemp -d)" && mkdir -p data/log && echo "21.5 degrees" > data/log/today
 mklittlefs --version
 mklittlefs -c data -s 64k disk.img
 [ "$(mklittlefs -l disk.img)" = "d 0 /log

@@ -57,11 +57,11 @@ LFS_* lfs_dir_find_match lfs_bd_prog struct malloc free realloc lfs.h LittleFS _
 rt antt KIT RT_* rattle-kit-* search grind omega simp subst cc rw refl ap elim absurd Bazel
 Vec Option Result Ok Err None Some String Box RefCell Cell Send Sync Drop Copy Model Iterator Read Write Error Debug u8 u16 u32 u64 usize bool
 std core alloc libc byteorder arrayvec lru bitflags clap itoa thiserror anyhow std_alloc std_heap
-objdump perf cat cksum cp mkfs genext2fs zlib echo sync gzip exec
+npx objdump perf cat cksum cp mkfs genext2fs zlib echo sync gzip exec
 allow_other LICENSE-MIT LICENSE-APACHE strsim
 extern unsafe safe ensures requires ghost impl fn let match mod use
 """.split())
-COMMANDS_FROM_OUTSIDE = ("rt ", "gcc", "cp ", "fs.", "pio ", "sync ", "cat ", "grep ")
+COMMANDS_FROM_OUTSIDE = ("rt ", "gcc", "npx ", "cp ", "fs.", "pio ", "sync ", "cat ", "grep ")
 
 
 class Repository:

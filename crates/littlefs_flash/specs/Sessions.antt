@@ -1,0 +1,137 @@
+-- What a call does to a session that C holds.
+use Rattle.std.specs.Prelude.{ℕ, ℤ, Bool, ◌≡◌, ◌≤◌, ◌==◌, not, true, pos, ◌-ℤ◌, List, length, drop, take, map, MatchResult, Option, Box, Vec, None, Some, Result, Ok, Err}
+use Rattle.std.specs.Option.{option_map}
+use Rattle.std.specs.Int.RustNames.{bit_and}
+use Rattle.lfs_device.specs.declared.error.Error.{Error}
+use Rattle.lfs_device.specs.declared.error.Error.TheVariants.{NoMemory}
+use Rattle.lfs_model.specs.session.Operations as ops
+use Rattle.lfs_model.specs.session.Operations.{FlagsOfOpen, ListedEntry, Operation, Reply}
+use Rattle.lfs_lookup.specs.Finds.{listed_item_view, stat_view}
+use Rattle.lfs_lookup.specs.RefusalErrors.{is_refusal}
+use Rattle.lfs_lookup.specs.declared.kinds.ListItem.{ListItem}
+use Rattle.lfs_lookup.specs.declared.kinds.Stat.{Stat}
+use Rattle.lfs_model.specs.format.EntryTypes.{SuperblockFields}
+use Rattle.lfs_model.specs.tree.Profile.{image_fields}
+use Rattle.lfs_fs.specs.CallEffects.{IsCall}
+use Rattle.lfs_fs.specs.GstateView.{returned_gstate_reply}
+use Rattle.lfs_fs.specs.ImageLimits.{FailedByRead, OnlyReadsSession}
+use Rattle.lfs_fs.specs.Replies.{reply_from}
+use Rattle.lfs_fs.specs.SessionView.{SessionView}
+use Rattle.lfs_fs.specs.declared.gstate.Gstate.{Gstate}
+use Rattle.littlefs_flash.specs.Buffers.{item_lines, buffer_if_fitting}
+use Rattle.littlefs_flash.specs.Codes.{bool_number, gstate_number, result_code, stat_number}
+use Rattle.littlefs_flash.specs.declared.sessions.FsInfo.{FsInfo}
+use Rattle.std.specs.Global.{Global}
+
+-- minus the number of EBADFD, the answer of a handle without a session
+abbrev pub closed_code : ℤ
+closed_code = pos 0 -ℤ pos 77
+
+-- There is no session before or after, and the code says so; or there is one before and after, and P holds of them.
+abbrev pub CallsSession : (SessionView → SessionView → Type 0) → ℤ → Option SessionView → Option SessionView → Type 0
+CallsSession P code None None = code ≡ closed_code
+CallsSession P code (Some old) (Some new) = P old new
+CallsSession P code old new = ⊥
+
+-- the value in a box, if there is one
+abbrev pub boxed_value : {X : Type 0} → Option (Box X Global) → Option X
+boxed_value held = option_map (λ b. b.value) held
+
+-- the same of a session in a box
+abbrev pub CallsHeld : (SessionView → SessionView → Type 0) → ℤ → Option (Box SessionView Global) → Option (Box SessionView Global) → Type 0
+CallsHeld P code old new = CallsSession P code (boxed_value old) (boxed_value new)
+
+-- ---- calls with a number alone
+
+-- a session's call of that operation, whose result has this code
+abbrev pub IsCodedCall : {X : Type 0} → (X → ℕ) → Operation → (X → Reply) → ℤ → SessionView → SessionView → Type 0
+IsCodedCall {X} number op reply code old new = (r : Result X Error) × ((code ≡ result_code number r) × IsCall old op (reply_from reply r) new)
+
+-- the same of calls that return nothing, a number, or a file's or a directory's size
+abbrev pub IsUnitCall : Operation → ℤ → SessionView → SessionView → Type 0
+IsUnitCall op code old new = IsCodedCall {X = Unit} (λ _. 0) op (λ _. ops.Done) code old new
+
+abbrev pub IsCountCall : Operation → (ℕ → Reply) → ℤ → SessionView → SessionView → Type 0
+IsCountCall op reply code old new = IsCodedCall {X = ℕ} (λ n. n) op reply code old new
+
+abbrev pub IsStatCall : List ℕ → ℤ → SessionView → SessionView → Type 0
+IsStatCall path code old new = IsCodedCall {X = Stat} stat_number (ops.Stat path) (λ stat. ops.StatIs (stat_view stat)) code old new
+
+-- the same of a question about a block, and of what a recovery has to end
+abbrev pub IsUsedCall : ℕ → ℤ → SessionView → SessionView → Type 0
+IsUsedCall block code old new = IsCodedCall {X = Bool} bool_number (ops.IsUsed block) ops.Yes code old new
+
+abbrev pub IsGstateCall : ℤ → SessionView → SessionView → Type 0
+IsGstateCall code old new = IsCodedCall {X = Gstate} gstate_number ops.AskGstate returned_gstate_reply code old new
+
+-- how a file is opened, by the bits of a number
+abbrev pub flags_of_number : ℕ → FlagsOfOpen
+flags_of_number n = record {
+  read = bit_and n 0x1 == 0x1;
+  write = bit_and n 0x2 == 0x2;
+  create = bit_and n 0x100 == 0x100;
+  exclusive = bit_and n 0x200 == 0x200;
+  truncate = bit_and n 0x400 == 0x400;
+  append = bit_and n 0x800 == 0x800;
+  unknown = not (bit_and n 0xf03 == n);
+}
+
+-- ---- calls with a buffer
+
+-- a buffer after a call that returns bytes
+abbrev pub filled_buffer : Result (Vec ℕ Global) Error → List ℕ → List ℕ
+filled_buffer (Ok v) buffer = buffer_if_fitting v.items buffer
+filled_buffer (Err e) buffer = buffer
+
+-- a session's call of that operation, whose bytes are copied to a buffer
+abbrev pub IsBytesCall : Operation → ℤ → List ℕ → List ℕ → SessionView → SessionView → Type 0
+IsBytesCall op code buffer filled old new = (r : Result (Vec ℕ Global) Error) × ((code ≡ result_code (λ (v : Vec ℕ Global). length v.items) r) × ((filled ≡ filled_buffer r buffer) × IsCall old op (reply_from (λ (v : Vec ℕ Global). ops.Bytes v.items) r) new))
+
+-- A session's read of an open file into a buffer, whose rest stays. All of it stays if the read is refused.
+abbrev pub IsReadCall : ℕ → ℤ → List ℕ → List ℕ → SessionView → SessionView → Type 0
+IsReadCall file code buffer filled old new = (r : Result ℕ Error) × ((code ≡ result_code (λ n. n) r) × (MatchResult r (λ n. (n ≤ length buffer) × (drop n filled ≡ drop n buffer)) (λ e. is_refusal e ≡ true → filled ≡ buffer) × IsCall old (ops.Read file (length buffer)) (reply_from (λ n. ops.Bytes (take n filled)) r) new))
+
+abbrev pub entries_of_items : Vec ListItem Global → List ListedEntry
+entries_of_items items = map listed_item_view items.items
+
+-- The buffer has the lines of the entries, if they fit, and n is the room that they need; or the listing failed, or memory was refused.
+abbrev pub FillsWithLines : Result (Vec ListItem Global) Error → Result ℕ Error → List ℕ → List ℕ → Type 0
+FillsWithLines (Ok x) (Ok n) buffer filled = (n ≡ length (item_lines (entries_of_items x))) × (filled ≡ buffer_if_fitting (item_lines (entries_of_items x)) buffer)
+FillsWithLines (Ok x) (Err e) buffer filled = (e ≡ NoMemory) × (filled ≡ buffer)
+FillsWithLines (Err e) (Ok n) buffer filled = ⊥
+FillsWithLines (Err e) (Err e') buffer filled = (e' ≡ e) × (filled ≡ buffer)
+
+-- a session's listing, whose lines are copied to a buffer
+abbrev pub IsListCall : List ℕ → ℤ → List ℕ → List ℕ → SessionView → SessionView → Type 0
+IsListCall path code buffer filled old new = (r : Result (Vec ListItem Global) Error) × ((t : Result ℕ Error) × ((code ≡ result_code (λ n. n) t) × (FillsWithLines r t buffer filled × IsCall old (ops.ListAll path) (reply_from (λ (items : Vec ListItem Global). ops.Items (map listed_item_view items.items)) r) new)))
+
+-- ---- calls of the library alone
+
+-- the session stays, and P holds of it and of an answer with this code
+abbrev pub WithCode : {X : Type 0} → (X → ℤ) → (SessionView → X → Type 0) → ℤ → SessionView → SessionView → Type 0
+WithCode {X} number P code old new = (new ≡ old) × ((x : X) × ((code ≡ number x) × P old x))
+
+-- an answer about an open file
+abbrev pub IsFileAnswer : (SessionView → Result ℕ Error → Type 0) → ℤ → SessionView → SessionView → Type 0
+IsFileAnswer P code old new = WithCode {X = Result ℕ Error} (λ r. result_code (λ n. n) r) P code old new
+
+-- ---- the superblock
+
+abbrev pub info_fields : FsInfo → SuperblockFields
+info_fields i = record {
+  version = i.version;
+  block_size = i.block_size;
+  block_count = i.block_count;
+  name_max = i.name_max;
+  file_max = i.file_max;
+  attr_max = i.attr_max;
+}
+
+-- The fields are those of the image's superblock, and the session was only read; or they are as they were, and the session failed by a read.
+abbrev pub ReadsInfo : Result Unit Error → FsInfo → FsInfo → SessionView → SessionView → Type 0
+ReadsInfo (Ok x) info filled old new = (image_fields old.tree.pairs ≡ Some (info_fields filled)) × OnlyReadsSession old new
+ReadsInfo (Err e) info filled old new = (filled ≡ info) × FailedByRead old new e
+
+-- the same of a result with this code
+abbrev pub IsInfoCall : FsInfo → FsInfo → ℤ → SessionView → SessionView → Type 0
+IsInfoCall info filled code old new = (r : Result Unit Error) × ((code ≡ result_code (λ _. 0) r) × ReadsInfo r info filled old new)

@@ -1,0 +1,140 @@
+// The calls on a session as a whole.
+
+ghost use Rattle.lfs_model.specs.session.Operations as ops;
+ghost use Rattle.littlefs_flash.specs.Sessions.{CallsHeld, IsCountCall, IsGstateCall, IsInfoCall, IsUnitCall, IsUsedCall, ReadsInfo};
+
+use crate::codes::{CLOSED, bool_code, count_code, gstate_code, unit_code};
+use lfs_device::{BlockDevice, Error};
+use lfs_fs::Session;
+use std::alloc::Global;
+
+/// Closes all files and reads the flash again, after a failure too. Returns 0.
+///
+/// # Errors
+///
+/// 77 without a session. `Corrupt` if no accepted image is on the flash, `Io` if a read failed,
+/// `NoMemory` if memory isn't granted; after each of these the session has failed.
+pub fn remount<D: BlockDevice + Drop>(
+    alloc: Global,
+    held: &mut Option<Box<Session<D>, Global>>,
+) -> i64
+    ensures { CallsHeld (IsUnitCall ops.Remount result) result held.old held.new }
+{
+    let Some(session) = held else {
+        return CLOSED;
+    };
+    unit_code(session.remount(alloc))
+}
+
+/// Ends what a loss of power left on the flash. The tree stays. Returns 0.
+///
+/// # Errors
+///
+/// 77 without a session, and the refusals of a session's `recover` (docs/OPERATIONS.md).
+pub fn recover<D: BlockDevice + Drop>(
+    alloc: Global,
+    held: &mut Option<Box<Session<D>, Global>>,
+) -> i64
+    ensures { CallsHeld (IsUnitCall ops.Recover result) result held.old held.new }
+{
+    let Some(session) = held else {
+        return CLOSED;
+    };
+    unit_code(session.recover(alloc))
+}
+
+/// Returns how many blocks the image uses.
+///
+/// # Errors
+///
+/// 77 without a session, and `Failed` if it has failed.
+pub fn used_blocks<D: BlockDevice + Drop>(held: &Option<Box<Session<D>, Global>>) -> i64
+    ensures { CallsHeld (IsCountCall ops.UsedCount ops.Count result) result held.now held.now }
+{
+    let Some(session) = held else {
+        return CLOSED;
+    };
+    count_code(session.used_count())
+}
+
+/// Returns 1 if the image uses a block, and 0 if the block is free.
+///
+/// # Errors
+///
+/// 77 without a session, `Failed` if it has failed, and `Invalid` if there is no such block.
+pub fn is_used<D: BlockDevice + Drop>(held: &Option<Box<Session<D>, Global>>, block: u32) -> i64
+    ensures { CallsHeld (IsUsedCall block result) result held.now held.now }
+{
+    let Some(session) = held else {
+        return CLOSED;
+    };
+    bool_code(session.is_used(block))
+}
+
+/// Returns what a recovery has to end: 0 for nothing, 1 if metadata pairs may be orphans, 2 if a
+/// move isn't ended, 3 for both.
+///
+/// # Errors
+///
+/// 77 without a session, and `Failed` if it has failed.
+pub fn gstate<D: BlockDevice + Drop>(held: &Option<Box<Session<D>, Global>>) -> i64
+    ensures { CallsHeld (IsGstateCall result) result held.now held.now }
+{
+    let Some(session) = held else {
+        return CLOSED;
+    };
+    gstate_code(session.gstate())
+}
+
+/// The fields of a superblock, in the order of littlefs's `lfs_fsinfo`. Sizes are in bytes.
+#[repr(C)]
+#[derive(Drop)]
+pub struct FsInfo {
+    /// The major version in the upper 16 bits, the minor one in the lower.
+    pub version: u32,
+    pub block_size: u32,
+    pub block_count: u32,
+    pub name_max: u32,
+    pub file_max: u32,
+    pub attr_max: u32,
+}
+
+// Reads the superblock's fields.
+fn read_info<D: BlockDevice + Drop>(
+    alloc: Global,
+    session: &mut Session<D>,
+    info: &mut FsInfo,
+) -> Result<(), Error>
+    ensures { ReadsInfo result info.old info.new session.old session.new }
+{
+    let fields = session.superblock(alloc)?;
+    *info = FsInfo {
+        version: fields.version,
+        block_size: fields.block_size,
+        block_count: fields.block_count,
+        name_max: fields.name_max,
+        file_max: fields.file_max,
+        attr_max: fields.attr_max,
+    };
+    Ok(())
+}
+
+/// Reads the superblock's fields into `info`: the version, the sizes, and the limits that the image
+/// was made with. Returns 0.
+///
+/// # Errors
+///
+/// 77 without a session, and `Failed` if it has failed. `Io` if the read failed, and `NoMemory` if
+/// memory isn't granted; the session has failed then. After an error `info` is as it was.
+pub fn stat_fs<D: BlockDevice + Drop>(
+    alloc: Global,
+    held: &mut Option<Box<Session<D>, Global>>,
+    info: &mut FsInfo,
+) -> i64
+    ensures { CallsHeld (IsInfoCall info.old info.new result) result held.old held.new }
+{
+    let Some(session) = held else {
+        return CLOSED;
+    };
+    unit_code(read_info(alloc, session, info))
+}

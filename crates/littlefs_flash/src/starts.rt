@@ -1,0 +1,144 @@
+// How sessions on a flash begin and end.
+
+ghost use Rattle.std.specs.Prelude.{◌≡◌, pos, None, IfErr, IfOk};
+ghost use Rattle.littlefs_flash.specs.Configs.{config_profile};
+ghost use Rattle.littlefs_flash.specs.Sessions.{boxed_value};
+ghost use Rattle.littlefs_flash.specs.Starts.{FormatsOrRefuses, IsFormatCode, IsMountCode, IsMountedFlash, IsValidStart, LeavesFlash, MountsOrRefuses, PreventsMount, RefusesStart};
+
+use crate::chip::Chip;
+use crate::codes::unit_code;
+use crate::config::Config;
+use crate::flash::{Flash, FlashDevice};
+use lfs_device::Error;
+use lfs_fs::{Session, format_ordered, mount};
+use std::alloc::Global;
+use std::mem::replace;
+
+// Makes a device of a chip, by a configuration. Returns the chip with an error.
+fn device_of_chip<F: Flash>(chip: Chip, config: &Config) -> Result<FlashDevice<F>, (Chip, Error)>
+    ensures ok { IfOk result (λ d. IsValidStart config.now chip × (d.chip ≡ chip) × (d.geometry.profile ≡ config_profile config.now)) }
+    ensures err { IfErr result (λ e. RefusesStart config.now chip e.0 e.1) }
+{
+    if !config.is_valid() {
+        return Err((chip, Error::Invalid));
+    }
+    match FlashDevice::new(chip, config.profile()) {
+        Ok(device) => Ok(device),
+        Err(back) => Err((back, Error::Invalid)),
+    }
+}
+
+// Formats a chip, and returns it.
+fn format_chip<F: Flash + Drop>(
+    alloc: Global,
+    chip: Chip,
+    config: &Config,
+) -> (Chip, Result<(), Error>)
+    ensures { FormatsOrRefuses config.now result.1 chip result.0 }
+{
+    let device: FlashDevice<F> = match device_of_chip(chip, config) {
+        Ok(device) => device,
+        Err((back, error)) => return (back, Err(error)),
+    };
+    match format_ordered(alloc, device, config.name_order()) {
+        Ok(session) => (session.unmount().into_chip(), Ok(())),
+        Err((device, error)) => (device.into_chip(), Err(error)),
+    }
+}
+
+/// Makes an empty file system on a flash, and begins no session. Only blocks 0 and 1 are written.
+/// Returns 0.
+///
+/// # Errors
+///
+/// `Invalid` if a number is out of range, or a session owns the flash. `Io` if the flash failed;
+/// the two blocks may hold any bytes then. `NoMemory` if memory isn't granted; nothing is written
+/// then.
+pub fn format_flash<F: Flash + Drop>(alloc: Global, chip: &mut Chip, config: &Config) -> i64
+    ensures { IsFormatCode config.now result chip.old chip.new }
+{
+    let (back, answer) = format_chip::<F>(alloc, replace(chip, Chip::none()), config);
+    *chip = back;
+    unit_code(answer)
+}
+
+// Mounts a chip, or returns it with an error.
+fn mount_chip<F: Flash + Drop>(
+    alloc: Global,
+    chip: Chip,
+    config: &Config,
+) -> Result<Box<Session<FlashDevice<F>>, Global>, (Chip, Error)>
+    ensures ok { IfOk result (λ b. IsMountedFlash config.now chip b.value) }
+    ensures err { IfErr result (λ e. PreventsMount config.now chip e.0 e.1) }
+{
+    let device: FlashDevice<F> = match device_of_chip(chip, config) {
+        Ok(device) => device,
+        Err(refused) => return Err(refused),
+    };
+    match mount(alloc, device) {
+        Ok(session) => match Box::new(alloc, session) {
+            Ok(held) => Ok(held),
+            Err(failed) => Err((failed.value.unmount().into_chip(), Error::NoMemory)),
+        },
+        Err((device, error)) => Err((device.into_chip(), error)),
+    }
+}
+
+// Mounts a chip, unless there is a session.
+fn mount_where_none<F: Flash + Drop>(
+    alloc: Global,
+    held: &mut Option<Box<Session<FlashDevice<F>>, Global>>,
+    chip: &mut Chip,
+    config: &Config,
+) -> Result<(), Error>
+    ensures { MountsOrRefuses config.now result (boxed_value held.old) (boxed_value held.new) chip.old chip.new }
+{
+    if held.is_some() {
+        return Err(Error::Busy);
+    }
+    match mount_chip::<F>(alloc, replace(chip, Chip::none()), config) {
+        Ok(made) => {
+            *held = Some(made);
+            Ok(())
+        }
+        Err((back, error)) => {
+            *chip = back;
+            Err(error)
+        }
+    }
+}
+
+/// Begins a session on a flash. Returns 0. The session owns the chip from then on, and
+/// [`Chip::none`] takes its place.
+///
+/// # Errors
+///
+/// `Busy` if there is a session. `Invalid` if a number is out of range. `Corrupt` if the flash
+/// holds an accepted image in neither order of names. `Io` if a read failed, and `NoMemory` if
+/// memory isn't granted. After an error the chip is in its place, with the blocks that it had.
+pub fn mount_flash<F: Flash + Drop>(
+    alloc: Global,
+    held: &mut Option<Box<Session<FlashDevice<F>>, Global>>,
+    chip: &mut Chip,
+    config: &Config,
+) -> i64
+    ensures { IsMountCode config.now result (boxed_value held.old) (boxed_value held.new) chip.old chip.new }
+{
+    unit_code(mount_where_none(alloc, held, chip, config))
+}
+
+/// Ends a session, and puts its chip back. Nothing is written: changes that aren't synced are lost.
+/// Returns 0, without a session too.
+pub fn unmount_flash<F: Flash + Drop>(
+    held: &mut Option<Box<Session<FlashDevice<F>>, Global>>,
+    chip: &mut Chip,
+) -> i64
+    ensures closed { held.new ≡ None }
+    ensures left { LeavesFlash (boxed_value held.old) chip.old chip.new }
+    ensures code { result ≡ pos 0 }
+{
+    if let Some(ended) = held.take() {
+        *chip = Box::into_inner(ended).unmount().into_chip();
+    }
+    0
+}

@@ -15,6 +15,7 @@ config_profile config = record {
   attr_max = config.attr_max;
   inline_max = config.inline_max;
   pair_cycles = config.pair_cycles;
+  search_seed = 0;
 }
 
 abbrev pub config_order : Config → NameOrder

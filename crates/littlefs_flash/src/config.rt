@@ -39,6 +39,7 @@ impl Config {
             attr_max: self.attr_max,
             inline_max: self.inline_max,
             pair_cycles: self.pair_cycles,
+            search_seed: 0,
         }
     }
 

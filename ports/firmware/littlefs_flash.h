@@ -220,9 +220,9 @@ int64_t lfs_flash_file_close(lfs_flash *fs, uint32_t file);
  *   - Nothing else writes to these blocks while the flash is mounted: no other code, no other core, no bootloader.
  *   - Once a function returns 0, the next read sees it, also after a loss of power. A driver that queues or caches waits first.
  *   - A program changes no other page than its own, and an erase no other block than its own, even if they fail or are cut short.
- * If power is lost during a program, its pages may hold any mixture of old and new bytes; during an erase, its block may hold what
- * it held, or bytes without a valid commit at the block's beginning. An erase leaves 0xff, or any bytes without a valid commit.
- * Torn bytes could be a commit with a valid checksum only by chance, and that chance isn't covered by the proofs. */
+ * If power is lost during a program, its pages may hold any mixture of old and new bytes. An erase, cut short or not, may leave 0xff,
+ * what the block held, the beginning of that, or other bytes without a valid commit at the block's beginning. Torn bytes could be a
+ * commit with a valid checksum only by chance, and that chance isn't covered by the proofs. */
 
 /* Reads a block's bytes from an offset on into the buffer. After a failure the buffer may hold anything. */
 uint32_t lfs_flash_read(const lfs_flash_chip *chip, uint32_t block, uint32_t offset, uint8_t *buffer, lfs_flash_size buffer_len);

@@ -78,11 +78,8 @@ def retargeted(text, triple, keeps_probes=False):
     return text + HEAP.replace("RESULT", result[1].replace("noundef ", ""))
 
 
-def compile_module(kept, made, triple, *words, keeps_probes=False):
-    """Compiles what `rattle_words.lift` kept for a machine, by the kit's clang with the words that rattle gave it; returns the object."""
-    made.mkdir(parents=True, exist_ok=True)
-    text, to = made / "module.ll", made / "proved.o"
-    text.write_text(retargeted((kept / "module.ll").read_text(), triple, keeps_probes))
+def clang_words(kept):
+    """Returns the words that rattle gave clang for what `rattle_words.lift` kept, but those for x86-64 and for its files."""
     given, theirs = (kept / "words").read_text().split("\n")[:-1], []
     at = 0
     while at < len(given):
@@ -94,5 +91,13 @@ def compile_module(kept, made, triple, *words, keeps_probes=False):
         elif not FOR_X86_64.fullmatch(word) and not word.endswith((".bc", ".o")):
             theirs.append(word)
         at += 1
-    subprocess.run([kit() / "toolchain/bin/clang", f"--target={triple}", *theirs, *words, "-c", "-x", "ir", text, "-o", to], check=True)
+    return theirs
+
+
+def compile_module(kept, made, triple, *words, keeps_probes=False):
+    """Compiles what `rattle_words.lift` kept for a machine, by the kit's clang with the words that rattle gave it; returns the object."""
+    made.mkdir(parents=True, exist_ok=True)
+    text, to = made / "module.ll", made / "proved.o"
+    text.write_text(retargeted((kept / "module.ll").read_text(), triple, keeps_probes))
+    subprocess.run([kit() / "toolchain/bin/clang", f"--target={triple}", *clang_words(kept), *words, "-c", "-x", "ir", text, "-o", to], check=True)
     return to

@@ -57,7 +57,7 @@ def words_of(name, target):
     for dep in below(name, known):
         words += ["-L", f"dependency={rlib_of(dep).parent}"]
     words += ["--antt-project", str(kit() / "rattle/logic/antt-project.json"), "--logic-built", str(kit() / "logic_built")]
-    words += ["--jobs", os.environ.get("JOBS", "1"), "--links", f"{name}=", "--target", target, "--backend", "llvm"]
+    words += ["--jobs", os.environ.get("JOBS", "1"), "--links", f"{name}={'c' * (TOP / 'crates' / name / 'c').is_dir()}", "--target", target, "--backend", "llvm"]
     return words + ["--crate-type", "staticlib"] * ("staticlib" in kinds)
 
 

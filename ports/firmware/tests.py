@@ -1,0 +1,234 @@
+#!/usr/bin/env python3
+"""Tests the library on the boards, in the emulator.
+
+usage: ports/firmware/tests.py [TEST..] [--boards BOARD..] [--count N] [--every N] [--littlefs FOLDER] [--out FOLDER]
+
+build.py comes first: the tests link the libraries that it leaves in ports/firmware/out, or in FOLDER. TEST is one of these, or all are run:
+- example: the example application, three times on one flash chip;
+- work: the work of test/work.c, with a table of instructions, stack, heap and calls of the flash, also with blocks of 1,024 bytes;
+- replay: COUNT operations (1,000), in blocks of 1,024 and 4,096 bytes: each answer, each buffer and the flash as by the x86-64 library;
+- faults: a flash that fails at each of its calls, and a heap that refuses each allocation, or at each Nth by --every;
+- power: power is lost at each program and erase of the work, or at each Nth by --every: the emulator is stopped, and started again with
+  the flash as it was left.
+
+LITTLEFS is a folder with littlefs's own code, as lib/littlefs of Debian's source package micropython. With it the same work by that code is
+measured, and on the host that code reads what each test leaves.
+"""
+
+import argparse
+from dataclasses import dataclass
+from pathlib import Path
+import re
+import sys
+
+HERE = Path(__file__).resolve().parent
+sys.path[:0] = [str(HERE.parent), str(HERE.parent.parent / "bench")]
+from boards import BOARDS, c_object, link, run, run_program, sizes  # noqa: E402
+import littlefs_code  # noqa: E402
+import rattle_words  # noqa: E402
+
+COMMON = "flash.c", "driver.c", "counted_heap.c"
+WORK = "by_library.c", "work.c"
+
+
+@dataclass
+class Given:
+    out: Path
+    count: int
+    every: int
+    littlefs: Path
+    code: str  # littlefs's own code as a program of the host, or None
+
+
+def expect(is_so, what):
+    if not is_so:
+        sys.exit(f"not so: {what}")
+
+
+def program(board, made, name, sources, *words):
+    """Links a test with the library."""
+    words = [f"-I{HERE}", f"-I{HERE / 'test'}", *words]
+    objects = [c_object(board, HERE / "test" / it, made / f"{Path(it).stem}.o", *words) for it in (*sources, *COMMON)]
+    return link(board, made, name, [*objects, made / "liblittlefs_flash.a"])
+
+
+def folder(made, name):
+    """Returns an empty folder for a program's files."""
+    it = made / name
+    it.mkdir(exist_ok=True)
+    for file in it.iterdir():
+        file.unlink()
+    return it
+
+
+def tree_of(code, image, block):
+    """Returns the tree that littlefs's own code finds in an image: of each path a file's size and checksum, or None."""
+    shown = littlefs_code.shown(code, str(image), (block, 64, 0))
+    expect(shown and not shown.missing and not shown.twice, f"littlefs's own code reads {image}")
+    return {path.decode(): content for path, (content, _) in shown.tree.items() if path}
+
+
+# ---- the example
+
+def test_example(board, made, given):
+    page = (HERE.parent.parent / "docs/FIRMWARE.md").read_text()
+    expect((HERE / "example/nor_flash.c").read_text() in page, "docs/FIRMWARE.md shows the example's driver")
+    at = folder(made, "example-files")
+    for boot in (1, 2, 3):
+        lines = run_program(board, made / "example.elf", at)
+        expect(lines == f"boot {boot}, a measurement each 60 seconds\n", f"{board.name}: boot {boot}, and not {lines}")
+    if given.code:
+        tree = tree_of(given.code, at / "nor.img", 4096)
+        expect(sorted(tree) == ["/boots", "/log", "/settings"] and tree["/log"][0] == 3 * len(lines), f"the example's files: {tree}")
+    print(f"{board.name}: example: boots 1, 2 and 3 on one chip", flush=True)
+
+
+# ---- the work, measured
+
+def littlefs_program(board, made, littlefs, cache, words):
+    """Links the work with littlefs's own code, whose names may begin with lfs2."""
+    prefix = "lfs2" if (littlefs / "lfs2.c").exists() else "lfs"
+    names = set(re.findall(r"\b(?:lfs|LFS)_\w+", (HERE / "test/by_littlefs.c").read_text())) - {"LFS_H", "LFS_MULTIVERSION"}
+    renamed = [f"-D{it}={it.replace('lfs', 'lfs2', 1).replace('LFS', 'LFS2', 1)}" for it in sorted(names)] if prefix == "lfs2" else []
+    switches = [f"-D{prefix.upper()}_{it}" for it in ("NO_DEBUG", "NO_WARN", "NO_ERROR", "NO_ASSERT", "MULTIVERSION")]
+    switches += [f"-I{littlefs}", f"-I{HERE}", f"-I{HERE / 'test'}", "-DLFS_MULTIVERSION", *words]
+    objects = [c_object(board, littlefs / f"{it}.c", made / f"{it}.o", *switches, "-Wno-unused-parameter", "-Wno-unused-function", "-Wno-error")
+               for it in (prefix, f"{prefix}_util")]
+    objects.append(c_object(board, HERE / "test/by_littlefs.c", made / "by_littlefs.o", *switches, *renamed, f'-DLFS_H="{prefix}.h"', f"-DCACHE={cache}"))
+    objects += [c_object(board, HERE / "test" / it, made / f"{Path(it).stem}.o", *switches) for it in ("measured.c", "work.c", "flash.c", "counted_heap.c")]
+    return link(board, made, f"littlefs-{cache}", objects)
+
+
+def show(title, elf, lines):
+    print(f"== {title}")
+    for whose, at in sorted(sizes(elf.with_suffix(".map")).items(), key=lambda it: -it[1]["code"])[:4]:
+        print(f"   {whose:24} code {at['code']:7}  data {at['data']:5}")
+    print(lines, end="", flush=True)
+
+
+def test_work(board, made, given):
+    for block, page in ((4096, 256), (1024, 64)):
+        at = folder(made, "work-files")
+        words = [f"-DBLOCK_BYTES={block}", f"-DPAGE_BYTES={page}"]
+        elf = program(board, made, f"work-{block}", ("measured.c", *WORK), *words)
+        show(f"{board.name}: the library, blocks of {block}", elf, run_program(board, elf, at, counts=True))
+        if not given.code:
+            continue
+        tree = tree_of(given.code, at / "flash.img", block)
+        for cache in (page, block):
+            elf = littlefs_program(board, made, given.littlefs, cache, words)
+            show(f"{board.name}: littlefs's own code {littlefs_code.release(given.littlefs)}, blocks of {block}, caches of {cache}", elf,
+                 run_program(board, elf, at, counts=True))
+            expect(tree_of(given.code, at / "flash.img", block) == tree, f"{board.name}: littlefs's own code leaves the same tree")
+
+
+# ---- the same as the x86-64 library
+
+def test_replay(board, made, given):
+    for block in (1024, 4096):
+        words = [f"-DCOUNT={given.count}", f"-DBLOCK_BYTES={block}", "-DPAGE_BYTES=64", "-DFLASH_BYTES=524288"]
+        at, host = folder(made, "replay-files"), folder(given.out, "replay-files")
+        sources = [HERE / "test" / it for it in ("replay.c", "flash.c", "driver.c")] + [HERE / "board/native.c"]
+        run("gcc", "-O2", "-std=gnu11", *words, f"-I{HERE}", *sources, given.out / "kept/x86_64.a", rattle_words.kit() / "c/liblibc_c.a",
+            "-o", given.out / "replay")
+        run(given.out / "replay", cwd=host, stdout=(host / "lines").open("w"))
+        elf = program(board, made, f"replay-{block}", ("replay.c",), *words)
+        lines = run_program(board, elf, at)
+        expect(lines == (host / "lines").read_text(), f"{board.name}: the answers with blocks of {block}:\n{lines}")
+        expect((at / "flash.img").read_bytes() == (host / "flash.img").read_bytes(), f"{board.name}: the flash with blocks of {block}")
+        print(f"{board.name}: replay: {given.count} operations, blocks of {block}: {lines.splitlines()[-1]}, all as on x86-64", flush=True)
+        if given.code:
+            expect(littlefs_code.shown(given.code, str(at / "flash.img"), (block, 64, 0)), "littlefs's own code reads the replay's flash")
+
+
+# ---- failures
+
+def test_faults(board, made, given):
+    elf = program(board, made, "faults", ("faults.c",), f"-DEVERY={given.every}", "-DFLASH_BYTES=131072", "-DBLOCK_BYTES=4096", "-DPAGE_BYTES=256")
+    print(f"{board.name}: faults: {run_program(board, elf, folder(made, 'faults-files'))}", end="", flush=True)
+
+
+@dataclass
+class Start:
+    """What a start after a loss of power finds, and what it leaves: trees with their checksums."""
+
+    found: str
+    left: str
+    tree: dict
+    then: dict
+
+
+def start_of(lines):
+    """Reads what a start prints."""
+    parts = re.split(r"^tree ([0-9a-f]{8})\n", lines.removeprefix("no file system\n"), flags=re.M)
+    expect(len(parts) == 5 and not parts[4], f"a start prints two trees:\n{lines}")
+    trees = []
+    for part in (parts[0], parts[2]):
+        rows = [it.split(" ") for it in part.splitlines()]
+        trees.append({row[-1]: (int(row[1]), int(row[2], 16)) if row[0] == "f" else None for row in rows})
+    return Start(parts[1], parts[3], *trees)
+
+
+def lose_power(board, elf, at, number, sums):
+    """Stops the work at its program or erase of that number, starts again, and returns what the start finds."""
+    (at / "orders.txt").write_text(f"stop {number}")
+    changes = int(re.fullmatch(r"stopped after (\d+)\n", run_program(board, elf, at))[1])
+    stopped = (at / "flash.img").read_bytes()
+    (at / "orders.txt").write_text("start")
+    lines = run_program(board, elf, at)
+    expect(not changes or not lines.startswith("no file system"), f"{board.name}: power lost at {number}: the flash is accepted")
+    start = start_of(lines)
+    allowed = sums[max(changes - 1, 0) : changes + 1]
+    expect(start.found in allowed, f"{board.name}: power lost at {number}: the tree from before or after change {changes + 1}")
+    expect({**start.tree, "/after": (13, start.then["/after"][1])} == start.then, f"{board.name}: power lost at {number}: the work goes on")
+    return stopped, start
+
+
+def test_power(board, made, given):
+    at = folder(made, "power-files")
+    elf = program(board, made, "power", ("power.c", *WORK), "-DBLOCK_BYTES=4096", "-DPAGE_BYTES=256", "-DFLASH_BYTES=262144")
+    (at / "orders.txt").write_text("all")
+    lines = run_program(board, elf, at)
+    sums, writes = re.findall(r"^tree (\w+)$", lines, re.M), int(re.search(r"^writes (\d+)$", lines, re.M)[1])
+    tried, read = 0, 0
+    for number in range(1, writes + 1, given.every):
+        stopped, start = lose_power(board, elf, at, number, sums)
+        tried += 1
+        if not given.code:
+            continue
+        expect(tree_of(given.code, at / "flash.img", 4096) == start.then, f"{board.name}: power lost at {number}: littlefs's own code finds the tree")
+        (at / "stopped.img").write_bytes(stopped)
+        shown = littlefs_code.shown(given.code, str(at / "stopped.img"), (4096, 64, 0))
+        if shown:
+            tree = {path.decode(): content for path, (content, _) in shown.tree.items() if path}
+            read += tree == start.tree
+    print(f"{board.name}: power: lost at {tried} of {writes} programs and erases, {len(sums)} changes: the tree from before or after each time", flush=True)
+    if given.code:
+        print(f"   littlefs's own code finds the same tree in what each start leaves, and in {read} of the flashes as they were left without power", flush=True)
+
+
+TESTS = {"example": test_example, "work": test_work, "replay": test_replay, "faults": test_faults, "power": test_power}
+
+
+def main():
+    parser = argparse.ArgumentParser(usage=__doc__.split("usage: ")[1].split("\n\n")[0])
+    parser.add_argument("tests", nargs="*", choices=[[], *TESTS])
+    parser.add_argument("--boards", nargs="+", choices=list(BOARDS), default=list(BOARDS))
+    parser.add_argument("--count", type=int, default=1000)
+    parser.add_argument("--every", type=int, default=1)
+    parser.add_argument("--littlefs", type=Path)
+    parser.add_argument("--out", type=Path, default=HERE / "out")
+    given = parser.parse_args()
+    out = given.out.resolve()
+    code = given.littlefs and littlefs_code.build(str(given.littlefs), str(out / "littlefs"))
+    all_ = Given(out, given.count, given.every, given.littlefs, code)
+    for name in given.boards:
+        board, made = BOARDS[name], out / name
+        if not (made / "example.elf").is_file():
+            sys.exit(f"there is no {made / 'example.elf'}: run build.py {name}")
+        for test in given.tests or TESTS:
+            TESTS[test](board, made, all_)
+
+
+if __name__ == "__main__":
+    main()

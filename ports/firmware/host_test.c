@@ -60,6 +60,12 @@ uint32_t lfs_flash_is_blank(const lfs_flash_chip *chip, uint32_t block, uint32_t
     return fails(chip, block, offset, count) ? 2 : (uint32_t)is_erased(block, offset, count);
 }
 
+static int are_others_erased(void) {
+    for (uint32_t block = 2; block < BLOCKS; block++)
+        if (!is_erased(block, 0, BLOCK)) return 0;
+    return 1;
+}
+
 static void start_anew(void) {
     memset(flash, 0xff, sizeof flash);
     calls = writes = fails_at = 0;
@@ -71,7 +77,7 @@ static void test_starts(void) {
     start_anew();
     MUST(lfs_flash_mount(&fs, &config) == -LFS_FLASH_CORRUPT && !writes && fs.chip.block_count == BLOCKS);
     MUST(lfs_flash_stat(&fs, PATH("/")) == -LFS_FLASH_NO_SESSION);
-    MUST(lfs_flash_format(&fs, &config) == 0 && is_erased(2, 0, (BLOCKS - 2) * BLOCK));
+    MUST(lfs_flash_format(&fs, &config) == 0 && are_others_erased());
     MUST(lfs_flash_mount(&fs, &config) == 0 && fs.is_open == 1);
     MUST(lfs_flash_mount(&fs, &config) == -LFS_FLASH_BUSY && lfs_flash_format(&fs, &config) == -LFS_FLASH_INVALID);
     MUST(lfs_flash_stat(&fs, PATH("/")) == LFS_FLASH_DIRECTORY);
@@ -160,28 +166,36 @@ static int perform_steps(void) {
     return told;
 }
 
-static void test_faults(void) {
-    uint32_t failed = 0, last = 0;
-    for (uint32_t at = 1; at == 1 || last >= at; at++) {
+/* Formats, mounts, performs the steps and lists, with the failure of a call on the way; returns how often a call told it. */
+static int run_with_failure(void) {
+    int64_t formatted = lfs_flash_format(&fs, &config);
+    MUST(!formatted || (formatted == -LFS_FLASH_IO && !lfs_flash_format(&fs, &config)));
+    int64_t mounted = lfs_flash_mount(&fs, &config);
+    MUST(!mounted || (mounted == -LFS_FLASH_IO && !lfs_flash_mount(&fs, &config)));
+    int told = (formatted < 0) + (mounted < 0) + perform_steps();
+    int left = entries();
+    MUST(left == 10 || (left == -LFS_FLASH_IO && fails_at == calls));
+    MUST(!lfs_flash_unmount(&fs));
+    return told + (left != 10);
+}
+
+static void test_failures(void) {
+    uint32_t at = 1;
+    for (;; at++) {
         start_anew();
         fails_at = at;
-        int64_t answer = lfs_flash_format(&fs, &config);
-        if (answer) MUST(answer == -LFS_FLASH_IO && !lfs_flash_format(&fs, &config));
-        answer = lfs_flash_mount(&fs, &config);
-        if (answer) MUST(answer == -LFS_FLASH_IO && !lfs_flash_mount(&fs, &config));
-        failed += perform_steps() > 0;
-        MUST(entries() == 10 || (fails_at == calls && entries() == -LFS_FLASH_FAILED));
-        MUST(!lfs_flash_unmount(&fs));
-        last = calls;
+        int told = run_with_failure();
+        if (calls < at) break;
+        MUST(told == 1);
     }
-    MUST(failed > 100);
-    printf("%u failures of the flash, each told\n", failed);
+    MUST(at > STEPS);
+    printf("each of %u calls of the driver failed in turn, and one answer told it\n", at - 1);
 }
 
 int main(int count, char **words) {
     test_starts();
     test_calls();
-    test_faults();
+    test_failures();
     FILE *file = count > 1 ? fopen(words[1], "wb") : NULL;
     if (file) MUST(fwrite(flash, 1, sizeof flash, file) == sizeof flash && !fclose(file));
     puts("passed");

@@ -1,5 +1,5 @@
 -- A session on a fresh disk, for examples: its disk's pairs, and what a loss of power leaves before the first call.
-use Rattle.std.proofs.Common.{ℕ, ◌≡◌, ◌<◌, inl, true, List, [], ◌∷◌, Some, refl, sym, ap, ◌∙◌, arith}
+use Rattle.std.proofs.Common.{ℕ, ◌≡◌, ◌<◌, inl, true, List, [], ◌∷◌, length, Some, refl, sym, ap, ◌∙◌, arith}
 use Rattle.std.specs.Prelude.{All, slice_index}
 use Rattle.lfs_model.proofs.Common.{Disk, ordered_disk, disk_block, block_count, default_profile, content_at, zero_gstate, Pair, AreLinked, anchor_address, pairs_blocks, Tree, IsAccepted, IsWritableDisk, disk_tree, fresh_pair, empty_tree, Operation, Session, DiskSummary, IsSummary, SessionHealth, HasFailed, Healthy, mounted_session, operation_result, HasEitherTree, IsHealthySession, SurvivesPowerLoss, small_image, two_commit_image, fresh_state, blockless_disk}
 use Rattle.lfs_model.specs.declared.order.NameOrder.{NameOrder}
@@ -45,6 +45,10 @@ none_in_order order ps ok = go ps ok.thread.links ok.thread.in_range
 
 pub none_accepted : (ps : List Pair) → IsAccepted blockless_disk ps → ⊥
 none_accepted ps ok = none_in_order blockless_disk.order ps ok
+
+-- it has two blocks
+pub no_blocks : [] ≡ small_image.blocks → ⊥
+no_blocks e = absurd (let k : 0 ≡ 2 = ap length e in cc)
 
 pub differ : small_image ≡ two_commit_image → ⊥
 differ e = apart (slice_index (disk_block small_image 0) 128) (slice_index (disk_block two_commit_image 0) 128) refl refl (ap (λ (d : Disk). slice_index (disk_block d 0) 128) e)

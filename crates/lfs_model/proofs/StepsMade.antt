@@ -1,6 +1,6 @@
 -- From what an operation does to the disk to its step in a run.
 use Rattle.std.proofs.Common.{◌≡◌, true, false, cond, List, [], ◌++◌, Option, Some, None, refl, sym, ap, subst, ◌∙◌}
-use Rattle.lfs_model.proofs.Common.{Disk, SameGeometry, block_count, ordered_disk, content_at, zero_gstate, Pair, pairs_gstate, IsAccepted, DiskView, HasDiskView, disk_view, disk_tree, IsWritable, CallEvent, Operation, Reply, Refusal, Session, DiskSummary, FileReader, file_reader, file_numbered, operation_refusal, operation_effect, read_effect, unless_refused, IsSummary, SessionHealth, HasFailed, Healthy, is_remount, remount_result, nonremount_result, mounted_session, IsRecovered, is_refusal, IsDiskEffect, IsStep}
+use Rattle.lfs_model.proofs.Common.{Disk, SameGeometry, block_count, ordered_disk, content_at, zero_gstate, Pair, pairs_gstate, IsAccepted, DiskView, HasDiskView, disk_view, disk_tree, IsWritable, AllCalls, CallEvent, IsRead, Operation, Reply, Refusal, Session, DiskSummary, FileReader, file_reader, file_numbered, operation_refusal, operation_effect, read_effect, unless_refused, IsSummary, SessionHealth, HasFailed, Healthy, is_remount, remount_result, nonremount_result, mounted_session, IsRecovered, is_refusal, IsDiskEffect, IsStep}
 use Rattle.lfs_model.specs.declared.order.NameOrder.{NameOrder}
 use Rattle.lfs_model.specs.declared.order.NameOrder.TheVariants.{LongerFirst, ShorterFirst}
 use Rattle.lfs_model.specs.session.Operations as ops
@@ -247,9 +247,9 @@ failed_step disk around op old other = record {
 
 -- What surrounds a session that worked is asked for, and not used.
 pub remounted_step : (disk : Disk) (order : NameOrder) (ps : List Pair) (around : DiskSummary) (state : SessionHealth) (calls old : List CallEvent) → ((s : Session) → state ≡ Healthy s → (xs : List Pair) × (IsAccepted disk xs × IsSummary disk xs around)) →
-    IsAccepted (ordered_disk order disk) ps → (order ≡ ShorterFirst → (qs : List Pair) → IsAccepted (ordered_disk LongerFirst disk) qs → ⊥) → WriteNothing calls →
+    IsAccepted (ordered_disk order disk) ps → (order ≡ ShorterFirst → (qs : List Pair) → IsAccepted (ordered_disk LongerFirst disk) qs → ⊥) → WriteNothing calls → AllCalls (IsRead disk.blocks) calls →
     IsStep (record { disk = disk; calls = old; state = state }) ops.Remount ops.Done (record { disk = ordered_disk order disk; calls = calls ++ old; state = Healthy (mounted_session (disk_tree disk ps)) })
-remounted_step disk order ps around state calls old surrounds ok longer writes = record {
+remounted_step disk order ps around state calls old surrounds ok longer writes reads = record {
   answered = record {
     around = around;
     shown = Some (disk_tree disk ps);
@@ -262,7 +262,7 @@ remounted_step disk order ps around state calls old surrounds ok longer writes =
   calls = calls;
   called = refl;
   refused = λ h. absurd (cc);
-  remounted = λ h. record { untouched = (refl, writes); longer = longer };
+  remounted = λ h. record { untouched = (refl, writes); reads = reads; longer = longer };
   failed = λ h. absurd (cc);
   effect_on_disk = λ h t e xs ys x y. carried_of t xs ys x y;
 }

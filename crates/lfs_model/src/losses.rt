@@ -31,6 +31,7 @@ pub fn session_failure_ends_run_of_operations()
 pub fn failure_of_nonwriting_operation_writes_nothing()
     ensures no_call { OperationFails failed_state (ops.Stat (codes "/")) (record failed_state { calls = repeated_reads 1 }) → ⊥ }
     ensures no_write { OperationFails fresh_state ops.Remount (record failed_state { disk = two_commit_image }) → ⊥ }
+    ensures no_other_blocks { OperationFails fresh_state ops.Remount (record failed_state { calls = repeated_reads 1 }) → ⊥ }
     ensures itself { OperationFails fresh_state (ops.Rename (codes "/a") (codes "/a")) (record failed_state { calls = state_after_open.calls }) → ⊥ }
     ensures unwritten { OperationFails (record fresh_state { disk = blockless_disk }) (ops.Mkdir (codes "/d")) (record failed_state { disk = blockless_disk; calls = state_after_open.calls }) → ⊥ }
 {}

@@ -4,14 +4,15 @@ use Rattle.lfs_model.specs.format.Disk.{SameGeometry}
 use Rattle.lfs_model.specs.format.Thread.{Pair}
 use Rattle.lfs_model.specs.tree.View.{IsAccepted}
 use Rattle.lfs_model.specs.tree.Profile.{IsWritable}
-use Rattle.lfs_model.specs.session.History.{CallEvent}
+use Rattle.lfs_model.specs.session.History.{AllCalls, CallEvent, IsRead}
 use Rattle.lfs_model.specs.session.Operations.{Operation}
 use Rattle.lfs_model.specs.session.Session.{Session}
 use Rattle.lfs_model.specs.session.State.{HasFailed, Healthy, is_remount}
 use Rattle.lfs_model.specs.session.Run.{SystemState, is_read_only, renames_itself, IsUntouched}
 
 -- The session fails in an operation. A query, a rename to itself and a remount write nothing. Nor does any operation on an image
--- outside the writing profile. A session that had failed makes no call but for a remount.
+-- outside the writing profile. Each call of a remount read, and found and left the disk's blocks. A session that had failed makes
+-- no call but for a remount.
 pub record OperationFails (from : SystemState) (op : Operation) (to : SystemState) : Type 0 where
   pub failed : to.state ≡ HasFailed
   pub geometry : SameGeometry from.disk to.disk
@@ -21,4 +22,5 @@ pub record OperationFails (from : SystemState) (op : Operation) (to : SystemStat
   pub itself : renames_itself op ≡ true → IsUntouched from.disk calls to.disk
   pub unwritten : ((ps : List Pair) → IsAccepted from.disk ps → IsWritable from.disk ps → ⊥) → IsUntouched from.disk calls to.disk
   pub remounted : is_remount op ≡ true → IsUntouched from.disk calls to.disk
+  pub reads : is_remount op ≡ true → AllCalls (IsRead from.disk.blocks) calls
   pub silent : from.state ≡ HasFailed → is_remount op ≡ false → (to.disk ≡ from.disk) × (calls ≡ [])

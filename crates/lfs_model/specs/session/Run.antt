@@ -10,7 +10,7 @@ use Rattle.lfs_model.specs.session.TreeEdits.{same_path}
 use Rattle.lfs_model.specs.tree.View.{DiskView, HasDiskView, IsAccepted}
 use Rattle.lfs_model.specs.tree.Profile.{IsWritable}
 use Rattle.lfs_model.specs.tree.Shown.{disk_tree}
-use Rattle.lfs_model.specs.session.History.{CallEvent, program_count, erase_count}
+use Rattle.lfs_model.specs.session.History.{AllCalls, CallEvent, IsRead, program_count, erase_count}
 use Rattle.lfs_model.specs.session.Operations as ops
 use Rattle.lfs_model.specs.session.Operations.{Operation, Reply}
 use Rattle.lfs_model.specs.session.Session.{Session, DiskSummary, OpenFile, Reading, Writing, FileWriter, file_reader, file_writer, file_numbered}
@@ -124,9 +124,11 @@ IsUntouched disk calls new = (new ≡ disk) × WriteNothing calls
 abbrev pub operation_disk : Operation → NameOrder → Disk → Disk
 operation_disk op order disk = if is_remount op then ordered_disk order disk else disk
 
--- A remount found the order of the names, and wrote nothing. Where both orders fit, the longer names come first.
+-- A remount found the order of the names. Each of its calls read, and found and left the disk's blocks. Where both orders fit, the
+-- longer names come first.
 pub record IsRemountedDisk (disk : Disk) (calls : List CallEvent) (new : Disk) : Type 0 where
   pub untouched : IsUntouched (ordered_disk new.order disk) calls new
+  pub reads : AllCalls (IsRead disk.blocks) calls
   pub longer : new.order ≡ ShorterFirst → (ps : List Pair) → IsAccepted (ordered_disk LongerFirst disk) ps → ⊥
 
 -- ---- an operation

@@ -26,6 +26,7 @@ cut = record {
     itself = λ e. absurd (cc);
     unwritten = λ none. (refl, (refl, refl));
     remounted = λ e. absurd (cc);
+    reads = λ e. absurd (cc);
     silent = λ e. absurd (cc);
   };
   survives_loss = surviving (ops.Mkdir (codes "/d")) HasFailed;

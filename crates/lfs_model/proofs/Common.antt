@@ -6,7 +6,7 @@ pub use Rattle.lfs_model.specs.crash.Performed.{ArePerformed, IsRun, IsPerformed
 pub use Rattle.lfs_model.specs.crash.PowerLoss.{FailsLikeLoss, HasEitherTree, IsHealthySession, SurvivesStoppedCalls, SurvivesLossSince, SurvivesPowerLoss, with_blocks}
 pub use Rattle.lfs_model.specs.crash.Premises.{MeetsPremises}
 pub use Rattle.lfs_model.specs.crash.ReadBounds.{accepted_operation}
-pub use Rattle.lfs_model.specs.crash.RepeatedPowerLoss.{IsMounted, KeepsTree, LossAfterRun, SurvivesLoss}
+pub use Rattle.lfs_model.specs.crash.RepeatedPowerLoss.{IsMounted, KeepsTree}
 pub use Rattle.lfs_model.specs.crash.Stops.{ErasesCleanly, LeftByLoss, MayEraseLeave, MayProgramLeave, erases_cleanly, may_stop_leave}
 pub use Rattle.lfs_model.specs.examples.Histories.{after_erase, after_program, after_read, example_after_program, example_before_erase, failed_read, program_event}
 pub use Rattle.lfs_model.specs.examples.Images.{appending_commit, large_image, small_block, small_commit, small_image, superblock_struct_with, tree_of_nodes, two_commit_image}

@@ -9,4 +9,7 @@ pub mod Premises
 pub mod FailedCalls
 pub mod Standing
 pub mod Performed
+pub mod Lives
+pub mod LifeHeadline
 pub mod RepeatedPowerLoss
+pub mod LifeTrees

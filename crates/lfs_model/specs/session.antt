@@ -13,4 +13,5 @@ pub mod Layout
 pub mod Moved
 pub mod InDirectory
 pub mod Run
+pub mod Accepted
 pub mod Headline

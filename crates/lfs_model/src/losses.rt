@@ -11,12 +11,13 @@ ghost use Rattle.lfs_model.specs.session.Operations as ops;
 ghost use Rattle.lfs_model.specs.session.Operations.{Operation, Reply};
 ghost use Rattle.lfs_model.specs.session.Run.{HealthyHasDiskTree, IsStep, SystemState};
 ghost use Rattle.lfs_model.specs.crash.Failure.{OperationFails};
-ghost use Rattle.lfs_model.specs.crash.Performed.{FailsDuringRun, IsRun};
+ghost use Rattle.lfs_model.specs.crash.Performed.{FailsDuringRun};
 ghost use Rattle.lfs_model.specs.crash.PowerLoss.{HasEitherTree, SurvivesLossSince, SurvivesStoppedCalls, SurvivesPowerLoss, with_blocks};
 ghost use Rattle.lfs_model.specs.crash.Standing.{SameConformingDevice};
 ghost use Rattle.lfs_model.specs.crash.Stops.{ErasesCleanly};
 ghost use Rattle.lfs_model.specs.tree.Tree.{Tree};
-ghost use Rattle.lfs_model.specs.crash.RepeatedPowerLoss.{RecoversTree, KeepsTree, LeftInCall, SurvivesLoss, LeftAfterMount, LeftByLosses, MeetsRunPremises, CrashSafe};
+ghost use Rattle.lfs_model.specs.crash.Lives.{Turn, IsLife, FailLikeLossInside, answered};
+ghost use Rattle.lfs_model.specs.crash.RepeatedPowerLoss.{RecoversTree, KeepsTree, LeftInCall, SurvivesLossInLife, LeftByLife, LeftByLosses, MeetsRunPremises, CrashSafe};
 ghost use Rattle.lfs_model.specs.examples.Images.{small_image, two_commit_image};
 ghost use Rattle.lfs_model.specs.examples.Runs.{fresh_state, failed_state, state_after_open, blockless_disk, repeated_reads};
 
@@ -54,23 +55,24 @@ pub fn fresh_disk_keeps_its_tree()
     ensures not_safe { (tree : Tree) → KeepsTree tree blockless_disk → ⊥ }
 {}
 
-/// Wherever power is lost in a run, it is survived, and so is each loss after it.
+/// Wherever power is lost in a life, it is survived, and so is each loss after it.
 pub fn power_loss_is_survived()
-    ensures run { (from : SystemState) (operations : List Operation) (to : SystemState) → IsRun from operations to → MeetsRunPremises from to → CrashSafe from operations to }
+    ensures life { (from : SystemState) (turns : List Turn) (to : SystemState) → IsLife from turns to → FailLikeLossInside from turns → MeetsRunPremises from to → CrashSafe from turns to }
 
-    // A session on a fresh disk may lose power. No disk without blocks is left, and no other tree. Where no operation was begun,
-    // the tree is the one that was there.
+    // A session on a fresh disk may lose power. No disk without blocks is left, and no other tree. Where there was no turn, the
+    // tree is the one that was there.
     ensures may { MeetsRunPremises fresh_state fresh_state }
-    ensures none_begun { (to : SystemState) (run : IsRun fresh_state [] to) (left : Disk) (s : SurvivesLoss fresh_state [] to run left) → s.tree ≡ empty_tree }
-    ensures not_lost { (to : SystemState) (run : IsRun fresh_state (ops.Stat (codes "/") ∷ []) to) → SurvivesLoss fresh_state (ops.Stat (codes "/") ∷ []) to run blockless_disk → ⊥ }
-    ensures not_changed { (to : SystemState) (run : IsRun fresh_state (ops.Stat (codes "/") ∷ []) to) (s : SurvivesLoss fresh_state (ops.Stat (codes "/") ∷ []) to run small_image) → s.tree ≡ (λ path. None) → ⊥ }
+    ensures survived { SurvivesLossInLife fresh_state (answered (ops.Stat (codes "/")) (ops.StatIs None) fresh_state ∷ []) fresh_state small_image }
+    ensures none_begun { (to : SystemState) → IsLife fresh_state [] to → (left : Disk) (s : SurvivesLossInLife fresh_state [] to left) → s.tree ≡ empty_tree }
+    ensures not_lost { (turns : List Turn) (to : SystemState) → SurvivesLossInLife fresh_state turns to blockless_disk → ⊥ }
+    ensures not_changed { (turns : List Turn) (to : SystemState) (s : SurvivesLossInLife fresh_state turns to small_image) → s.tree ≡ (λ path. None) → ⊥ }
 {}
 
 /// Power may be lost again and again, but the tree isn't lost.
 pub fn repeated_power_losses_keep_tree()
-    ensures once { LeftAfterMount small_image small_image }
+    ensures once { LeftByLife small_image small_image }
     ensures again { LeftByLosses small_image (small_image ∷ small_image ∷ []) }
-    ensures not_all { LeftAfterMount small_image blockless_disk → ⊥ }
+    ensures not_all { LeftByLife small_image blockless_disk → ⊥ }
     ensures in_a_read { (blocks : Blocks) → LeftInCall [] (call_event (Read 0 0 4) blocks blocks false ∷ []) blocks }
     ensures not_in_none { (blocks : Blocks) → LeftInCall [] [] blocks → ⊥ }
 {}

@@ -1,6 +1,5 @@
--- Losses of power in runs, any number of them one after another.
-use Rattle.std.proofs.Common.{inl, inr}
-use Rattle.std.specs.Prelude.{◌≡◌, ◌⊎◌, false, List, [], ◌∷◌, ◌++◌, Option, Some, None, All, Any}
+-- Losses of power in a life of a session, any number of them one after another.
+use Rattle.std.specs.Prelude.{◌≡◌, ◌⊎◌, false, List, [], ◌∷◌, ◌++◌, Some, All, Any}
 use Rattle.lfs_model.specs.format.Blocks.{Blocks}
 use Rattle.lfs_model.specs.format.Disk.{Disk, ordered_disk}
 use Rattle.lfs_model.specs.declared.order.NameOrder.{NameOrder}
@@ -19,8 +18,7 @@ use Rattle.lfs_model.specs.session.State.{Healthy, is_remount, mounted_session}
 use Rattle.lfs_model.specs.session.Recovery.{IsRecovered}
 use Rattle.lfs_model.specs.session.Run.{SystemState, ShowsTree, IsStep}
 use Rattle.lfs_model.specs.session.Headline.{HasDiskTree}
-use Rattle.lfs_model.specs.crash.Performed.{ArePerformed, IsRun}
-use Rattle.lfs_model.specs.crash.ReadBounds.{accepted_operation}
+use Rattle.lfs_model.specs.crash.Lives.{Turn, IsTurn, IsLife, FailLikeLossInside}
 use Rattle.lfs_model.specs.crash.PowerLoss.{with_blocks, FailsLikeLoss, IsHealthySession}
 
 -- ---- a mount and a recovery
@@ -71,7 +69,7 @@ LeftBetween from to left =
     ⊎ (((blocks : Blocks) × ((left ≡ with_blocks blocks from.disk) × LeftInCall from.calls to.calls blocks))
     ⊎ ((left ≡ to.disk) × AllCallsSince FailsLikeLoss from.calls to.calls))
 
--- Power was lost in this operation of a run. The tree is the one from before the operation, or the one from after it.
+-- Power was lost in this operation. The tree is the one from before the operation, or the one from after it.
 pub record LossInOperation (from : SystemState) (op : Operation) (next : SystemState) (left : Disk) (tree : Tree) : Type 0 where
   pub stop : LeftBetween from next left
   pub session : Session
@@ -80,57 +78,60 @@ pub record LossInOperation (from : SystemState) (op : Operation) (next : SystemS
   pub work : IsHealthySession from session pairs around
   pub either : (tree ≡ session.tree) ⊎ (tree ≡ (operation_result around session op).1.tree)
 
--- Power was lost after all operations of a run. The tree is the session's.
-pub record LossAfterRun (at : SystemState) (left : Disk) (tree : Tree) : Type 0 where
+-- Power was lost in one of these turns of a life, whose session worked before it.
+pub record LossInTurn (from : SystemState) (turns : List Turn) (left : Disk) (tree : Tree) : Type 0 where
+  pub done : List Turn
+  pub cut : Turn
+  pub others : List Turn
+  pub are : turns ≡ done ++ cut ∷ others
+  pub at : SystemState
+  pub lived : IsLife from done at
+  pub turn : IsTurn at cut
+  pub loss : LossInOperation at cut.op cut.to left tree
+
+-- Power was lost after all turns of a life. The tree is the session's.
+pub record LossAfterLife (at : SystemState) (left : Disk) (tree : Tree) : Type 0 where
   pub stays : left ≡ at.disk
   pub session : Session
   pub healthy : at.state ≡ Healthy session
   pub is : tree ≡ session.tree
 
--- Power was lost in one of the operations that were performed, or after all of them.
-abbrev pub LossInOperations : (before : Option Operation) (from : SystemState) (operations : List Operation) (replies : List Reply) (to : SystemState) → ArePerformed before from operations replies to → Disk → Tree → Type 0 → Type 0
-LossInOperations before from [] replies to steps left tree AtEnd = AtEnd
-LossInOperations before from (op ∷ operations) [] to steps left tree AtEnd = ⊥
-LossInOperations before from (op ∷ operations) (reply ∷ replies) to (next, (one, others)) left tree AtEnd =
-    LossInOperation from op next left tree ⊎ LossInOperations (accepted_operation op reply) next operations replies to others left tree AtEnd
+-- in one of the turns, or after them
+abbrev pub LossInLife : SystemState → List Turn → SystemState → Disk → Tree → Type 0
+LossInLife from turns to left tree = LossInTurn from turns left tree ⊎ LossAfterLife to left tree
 
--- Power was lost in one of the operations of this run, or after all of them. An error may have ended the last operation.
-abbrev pub LossInRun : (from : SystemState) (operations : List Operation) (to : SystemState) → IsRun from operations to → Disk → Tree → Type 0
-LossInRun from operations to (inl (replies, steps)) left tree = LossInOperations None from operations replies to steps left tree (LossAfterRun to left tree)
-LossInRun from operations to (inr short) left tree = LossInOperations None from short.done short.replies short.at short.performed left tree (LossInOperation short.at short.next to left tree)
+-- ---- a loss of power in a life
 
--- ---- a loss of power in a run
-
--- The disk that was left has the tree from before the operation that was cut, or from after it. A mount and a recovery keep that
--- tree. The names are in the order that the session had there, which only a remount finds anew.
-pub record SurvivesLoss (from : SystemState) (operations : List Operation) (to : SystemState) (run : IsRun from operations to) (left : Disk) : Type 0 where
+-- The disk that was left has the tree from before the turn that was cut, or from after it. A mount and a recovery keep that tree.
+-- The names are in the order that the session had there, which only a remount finds anew.
+pub record SurvivesLossInLife (from : SystemState) (turns : List Turn) (to : SystemState) (left : Disk) : Type 0 where
   pub order : NameOrder
-  pub stays : All (λ op. is_remount op ≡ false) operations → order ≡ left.order
+  pub stays : All (λ turn. is_remount turn.op ≡ false) turns → order ≡ left.order
   pub tree : Tree
-  pub cut : LossInRun from operations to run (ordered_disk order left) tree
+  pub cut : LossInLife from turns to (ordered_disk order left) tree
   pub safe : KeepsTree tree (ordered_disk order left)
 
--- A session mounts the disk and performs operations, a recovery for example. Power is lost during them, and another disk is left.
-pub record LeftAfterMount (disk left : Disk) : Type 0 where
-  pub other : Disk
-  pub same : SameBytes disk other
+-- A session mounts the disk and lives, by a recovery for example. Power is lost then, and another disk is left.
+pub record LeftByLife (disk left : Disk) : Type 0 where
   pub begin : SystemState
-  pub mounts : IsMounted other begin
-  pub operations : List Operation
+  pub same : SameBytes disk begin.disk
+  pub mounts : IsMounted begin.disk begin
+  pub turns : List Turn
   pub to : SystemState
-  pub run : IsRun begin operations to
+  pub lived : IsLife begin turns to
+  pub failed : FailLikeLossInside begin turns
   pub cleanly : AllCallsSince ErasesCleanly begin.calls to.calls
   pub stop : LeftBetween begin to left
 
 -- power is lost on the disk, then on the one that was left, and so on
 abbrev pub LeftByLosses : Disk → List Disk → Type 0
 LeftByLosses disk [] = Unit {0}
-LeftByLosses disk (left ∷ others) = LeftAfterMount disk left × LeftByLosses left others
+LeftByLosses disk (left ∷ others) = LeftByLife disk left × LeftByLosses left others
 
 -- and each time it is survived
 abbrev pub SurvivesLosses : (disk : Disk) (lefts : List Disk) → LeftByLosses disk lefts → Type 0
 SurvivesLosses disk [] losses = Unit {0}
-SurvivesLosses disk (left ∷ others) losses = SurvivesLoss losses.0.begin losses.0.operations losses.0.to losses.0.run left × SurvivesLosses left others losses.1
+SurvivesLosses disk (left ∷ others) losses = SurvivesLossInLife losses.0.begin losses.0.turns losses.0.to left × SurvivesLosses left others losses.1
 
 -- a session with its disk's tree, on an image in the writing profile, whose erases leave no log, or one with the revision that was there
 pub record MeetsRunPremises (from to : SystemState) : Type 0 where
@@ -138,9 +139,9 @@ pub record MeetsRunPremises (from to : SystemState) : Type 0 where
   pub profile : IsWritableDisk from.disk
   pub cleanly : AllCallsSince ErasesCleanly from.calls to.calls
 
--- The operations were a run between these states. Wherever power is lost in that run, it is survived, in the operation that was
--- cut. So is any number of losses after it, also in the recovery.
-pub record CrashSafe (from : SystemState) (operations : List Operation) (to : SystemState) : Type 0 where
-  pub run : IsRun from operations to
-  pub once : (left : Disk) → LeftBetween from to left → SurvivesLoss from operations to run left
+-- The turns are a life between these states. Wherever power is lost in it, it is survived, in the turn that was cut. So is any
+-- number of losses after it, also in the recovery.
+pub record CrashSafe (from : SystemState) (turns : List Turn) (to : SystemState) : Type 0 where
+  pub lived : IsLife from turns to
+  pub once : (left : Disk) → LeftBetween from to left → SurvivesLossInLife from turns to left
   pub again : (left : Disk) (lefts : List Disk) → LeftBetween from to left → (losses : LeftByLosses left lefts) → SurvivesLosses left lefts losses

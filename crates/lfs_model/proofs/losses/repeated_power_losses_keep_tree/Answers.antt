@@ -3,24 +3,25 @@ use Rattle.std.specs.Prelude.{Any, codes}
 use Rattle.lfs_model.proofs.Common.{Read, call_event, LeftByLoss, empty_tree, small_image, fresh_state, blockless_disk}
 use Rattle.lfs_model.proofs.Sites.{any_from, among_from}
 use Rattle.lfs_model.specs.session.Operations as ops
-use Rattle.lfs_model.specs.crash.RepeatedPowerLoss.{LeftAfterMount}
+use Rattle.lfs_model.specs.crash.RepeatedPowerLoss.{LeftByLife}
+use Rattle.lfs_model.specs.crash.Lives.{answered}
 use Rattle.lfs_model.proofs.Fresh.{shows}
-use Rattle.lfs_model.proofs.AskedStep.{asked}
-use Rattle.lfs_model.proofs.Survived.{again_survived}
+use Rattle.lfs_model.proofs.FreshLife.{lived}
+use Rattle.lfs_model.proofs.LivesSurvived.{again_survived}
 use Rattle.lfs_model.proofs.FreshSession.{pairs, are_accepted, none_in_order}
 use Rattle.lfs_model.proofs.SafeImage.{is_safe}
 use Rattle.lfs_model.proofs.losses.repeated_power_losses_keep_tree.Goals as goal
 
 -- power is lost before the first call of a stat
-once : LeftAfterMount small_image small_image
+once : LeftByLife small_image small_image
 once = record {
-  other = small_image;
-  same = refl;
   begin = fresh_state;
+  same = refl;
   mounts = record { on = refl; tree = empty_tree; shows = (pairs, (are_accepted, sym (shows small_image))); healthy = refl };
-  operations = ops.Stat (codes "/") ∷ [];
+  turns = answered (ops.Stat (codes "/")) (ops.StatIs None) fresh_state ∷ [];
   to = fresh_state;
-  run = inl (ops.StatIs None ∷ [], (fresh_state, (asked, refl)));
+  lived = lived;
+  failed = ((λ is. absurd (cc)), tt);
   cleanly = record { events = []; extends = refl; each = tt };
   stop = inl refl;
 }

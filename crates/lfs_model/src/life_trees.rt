@@ -1,0 +1,59 @@
+// What turns define: what an accepted operation does, which tree a loss of power leaves, which session may lose power.
+
+ghost use Rattle.std.specs.Prelude.{◌≡◌, ℕ, true, false, List, [], ◌∷◌, Some, None, codes};
+ghost use Rattle.lfs_model.specs.format.Disk.{Disk};
+ghost use Rattle.lfs_model.specs.tree.Tree.{DirectoryNode};
+ghost use Rattle.lfs_model.specs.tree.Fresh.{IsFreshDisk, empty_tree};
+ghost use Rattle.lfs_model.specs.session.TreeEdits.{tree_creating};
+ghost use Rattle.lfs_model.specs.session.History.{AllCallsSince};
+ghost use Rattle.lfs_model.specs.crash.Stops.{ErasesCleanly};
+ghost use Rattle.lfs_model.specs.session.Operations as ops;
+ghost use Rattle.lfs_model.specs.session.Operations.{FlagsOfOpen, Operation, Reply, Exist};
+ghost use Rattle.lfs_model.specs.session.Session.{OpenFile, OpenFilesByNumber, Session, DiskSummary, file_numbered, files_with_file};
+ghost use Rattle.lfs_model.specs.session.State.{Healthy, is_remount, mounted_session};
+ghost use Rattle.lfs_model.specs.session.Run.{SystemState, IsStep, is_refusal};
+ghost use Rattle.lfs_model.specs.session.Accepted.{IsAcceptedOpen, IsAcceptedStep};
+ghost use Rattle.lfs_model.specs.crash.Lives.{Turn, IsLife, answered, failed, all_answered, fails_last};
+ghost use Rattle.lfs_model.specs.crash.RepeatedPowerLoss.{LeftBetween, MeetsRunPremises};
+ghost use Rattle.lfs_model.specs.crash.LifeTrees.{IsTreeOfLife, LeavesTreeOfLife, MayLosePower};
+ghost use Rattle.lfs_model.specs.examples.Sessions.{creating_flags, read_flags};
+ghost use Rattle.lfs_model.specs.examples.Runs.{fresh_state, failed_state};
+
+/// An operation that wasn't refused passed its checks, and had its effect.
+pub fn accepted_operations_have_their_effect()
+    ensures effect { (from to : SystemState) (op : Operation) (reply : Reply) (s : Session) → from.state ≡ Healthy s → is_remount op ≡ false → is_refusal reply ≡ false → IsStep from op reply to → IsAcceptedStep from s op reply to }
+    ensures open { (from to : SystemState) (s : Session) (path : List ℕ) (flags : FlagsOfOpen) (fd : ℕ) → from.state ≡ Healthy s → IsStep from (ops.Open path flags) (ops.Opened fd) to → IsAcceptedOpen s path flags fd }
+
+    // What is written under that number, is found there.
+    ensures file { (files : OpenFilesByNumber) (fd : ℕ) (old new : OpenFile) → file_numbered files fd ≡ Some old → file_numbered (files_with_file files fd (Some new)) fd ≡ Some new }
+
+    // A file is made where none is, if the open may create it.
+    ensures made { IsAcceptedOpen (mounted_session empty_tree) (codes "/b") creating_flags 0 }
+    ensures not_made { IsAcceptedOpen (mounted_session empty_tree) (codes "/b") read_flags 0 → ⊥ }
+{}
+
+/// Wherever power is lost in a life, one of its trees is left.
+pub fn power_loss_leaves_a_tree_of_the_life()
+    ensures { (around : DiskSummary) (s : Session) (from : SystemState) (turns : List Turn) (to : SystemState) (left : Disk) → from.state ≡ Healthy s → fails_last turns ≡ true → IsLife from turns to → MeetsRunPremises from to
+        → LeftBetween from to left → LeavesTreeOfLife around s turns left }
+{}
+
+/// Where the premises about a session hold: after a format, after a recovery that isn't refused, and after more turns. What is left
+/// of them is about the device's erases.
+pub fn session_may_lose_power()
+    ensures fresh { (at : SystemState) → IsFreshDisk at.disk → at.state ≡ Healthy (mounted_session empty_tree) → MayLosePower at }
+    ensures recovered { (from to : SystemState) (s : Session) → from.state ≡ Healthy s → IsStep from ops.Recover ops.Done to → MayLosePower to }
+    ensures goes_on { (from : SystemState) (turns : List Turn) (to : SystemState) → MayLosePower from → IsLife from turns to → all_answered turns ≡ true → MayLosePower to }
+    ensures premises { (from to : SystemState) → MayLosePower from → AllCallsSince ErasesCleanly from.calls to.calls → MeetsRunPremises from to }
+    ensures may { MayLosePower fresh_state }
+    ensures may_not { MayLosePower failed_state → ⊥ }
+{}
+
+/// The trees of a life: the directory is made, and the second time refused.
+pub fn trees_of_life_are_defined_by_turns()
+    ensures first { (around : DiskSummary) (a b : SystemState) → IsTreeOfLife around (mounted_session empty_tree) (answered (ops.Mkdir (codes "/d")) ops.Done a ∷ []) empty_tree }
+    ensures after { (around : DiskSummary) (a b : SystemState) → IsTreeOfLife around (mounted_session empty_tree) (answered (ops.Mkdir (codes "/d")) ops.Done a ∷ answered (ops.Mkdir (codes "/d")) (ops.Refused Exist) b ∷ [])
+        (tree_creating (codes "d" ∷ []) (DirectoryNode [] []) empty_tree) }
+    ensures failed { (around : DiskSummary) (a b : SystemState) → IsTreeOfLife around (mounted_session empty_tree) (failed (ops.Mkdir (codes "/d")) a ∷ []) (tree_creating (codes "d" ∷ []) (DirectoryNode [] []) empty_tree) }
+    ensures not_refused { (around : DiskSummary) (b : SystemState) → IsTreeOfLife around (mounted_session empty_tree) (answered (ops.Mkdir (codes "/d")) (ops.Refused Exist) b ∷ []) (λ path. None) → ⊥ }
+{}

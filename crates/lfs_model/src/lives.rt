@@ -1,0 +1,55 @@
+// Lives of a session: joined, parted, made of runs, and what they make of it.
+
+ghost use Rattle.std.specs.Prelude.{◌≡◌, true, false, List, [], ◌∷◌, ◌++◌, Option, Some, None, codes};
+ghost use Rattle.lfs_model.specs.format.Disk.{ordered_disk};
+ghost use Rattle.lfs_model.specs.declared.order.NameOrder.TheVariants.{LongerFirst};
+ghost use Rattle.lfs_model.specs.session.Operations as ops;
+ghost use Rattle.lfs_model.specs.session.Operations.{Operation, Reply, Failed};
+ghost use Rattle.lfs_model.specs.session.Run.{SystemState, HealthyHasDiskTree};
+ghost use Rattle.lfs_model.specs.crash.Performed.{ArePerformed, IsRun};
+ghost use Rattle.lfs_model.specs.crash.Lives.{Turn, IsTurn, IsLife, IsLifeOfRun, IsRunInTurns, FailLikeLossInside, answered, failed, fails_last};
+ghost use Rattle.lfs_model.specs.crash.LifeHeadline.{AnswersAsDisk, LifeMatchesDisk};
+ghost use Rattle.lfs_model.specs.examples.Images.{small_image};
+ghost use Rattle.lfs_model.specs.examples.Runs.{fresh_state, failed_state, state_after_open};
+
+/// Lives join, and a life can be parted after any turn.
+pub fn lives_are_joined()
+    ensures joined { (turns more : List Turn) (a b c : SystemState) → IsLife a turns b → IsLife b more c → IsLife a (turns ++ more) c }
+    ensures parted { (turns more : List Turn) (a c : SystemState) → IsLife a (turns ++ more) c → (b : SystemState) × (IsLife a turns b × IsLife b more c) }
+    ensures one { (turn : Turn) (a : SystemState) → IsTurn a turn → IsLife a (turn ∷ []) turn.to }
+{}
+
+/// A run is a life of as many turns as it performs operations. An error ends no turn but the last one.
+pub fn runs_are_lives()
+    ensures performed { (before : Option Operation) (operations : List Operation) (replies : List Reply) (from to : SystemState) → ArePerformed before from operations replies to → IsLifeOfRun from operations replies to }
+    ensures run { (from : SystemState) (operations : List Operation) (to : SystemState) → IsRun from operations to → (turns : List Turn) × IsRunInTurns from operations turns to }
+
+    // Where an error ended the last turn alone, nothing is supposed of the calls that failed.
+    ensures last { (from : SystemState) (turns : List Turn) → fails_last turns ≡ true → FailLikeLossInside from turns }
+{}
+
+/// Where the session of a life works, it has what its disk shows.
+pub fn session_agrees_with_its_disk_all_its_life()
+    ensures { (from : SystemState) (turns : List Turn) (at : SystemState) → HealthyHasDiskTree from.disk from.state → IsLife from turns at → LifeMatchesDisk from turns at }
+{}
+
+/// A stat of the root, then an operation that fails, then refusals, then a remount.
+pub fn session_lives_on_after_error()
+    ensures asked { IsLife fresh_state (answered (ops.Stat (codes "/")) (ops.StatIs None) fresh_state ∷ []) fresh_state }
+    ensures ended { IsLife fresh_state (answered (ops.Stat (codes "/")) (ops.StatIs None) fresh_state ∷ failed (ops.Mkdir (codes "/d")) failed_state ∷ []) failed_state }
+    ensures again { IsLife failed_state (answered (ops.Stat (codes "/")) (ops.Refused Failed) failed_state ∷ answered ops.Remount ops.Done (record fresh_state { disk = ordered_disk LongerFirst small_image }) ∷ [])
+        (record fresh_state { disk = ordered_disk LongerFirst small_image }) }
+
+    // No other size is answered. No session works after an operation that failed, and none that has failed answers.
+    ensures not_answered { (to : SystemState) → IsLife fresh_state (answered (ops.Stat (codes "/")) (ops.StatIs (Some 5)) to ∷ []) to → ⊥ }
+    ensures not_ended { IsLife fresh_state (failed (ops.Mkdir (codes "/d")) fresh_state ∷ []) fresh_state → ⊥ }
+    ensures not_again { (next to : SystemState) → IsLife fresh_state (failed (ops.Mkdir (codes "/d")) next ∷ answered (ops.Stat (codes "/")) (ops.StatIs None) to ∷ []) to → ⊥ }
+{}
+
+/// What holds of a life on a fresh disk, and what is said of turns that failed.
+pub fn fresh_session_agrees_with_its_disk()
+    ensures matches { LifeMatchesDisk fresh_state (answered (ops.Stat (codes "/")) (ops.StatIs None) fresh_state ∷ []) fresh_state }
+    ensures not_failed { AnswersAsDisk failed_state → ⊥ }
+    ensures last { fails_last (answered (ops.Stat (codes "/")) (ops.StatIs None) fresh_state ∷ failed (ops.Mkdir (codes "/d")) failed_state ∷ []) ≡ true }
+    ensures not_last { fails_last (failed (ops.Mkdir (codes "/d")) failed_state ∷ answered (ops.Stat (codes "/")) (ops.Refused Failed) failed_state ∷ []) ≡ false }
+{}

@@ -73,6 +73,7 @@ asking_fails e old op tree files works broken error = record {
     itself = λ h. (broken.disk, writes);
     unwritten = λ none. (broken.disk, writes);
     remounted = λ h. (broken.disk, writes);
+    reads = λ h. broken.reads.each;
     silent = λ f other. absurd (works_not_failed old works f);
   };
   errors = widened e error.errors;
@@ -96,6 +97,7 @@ broken_fails e old op mid new files works other asks itself sound writable asked
     itself = λ h. absurd (let k = sym itself ∙ h in cc);
     unwritten = λ none. absurd (none old.tree.pairs sound.accepted (sound.fits writable));
     remounted = λ h. absurd (let k = sym other ∙ h in cc);
+    reads = λ h. absurd (let k = sym other ∙ h in cc);
     silent = λ f h. absurd (works_not_failed old works f);
   };
   errors = widened e error.errors;
@@ -130,6 +132,7 @@ memory_fails_at_once old op = record {
     itself = λ h. (refl, (refl, refl));
     unwritten = λ none. (refl, (refl, refl));
     remounted = λ h. (refl, (refl, refl));
+    reads = λ h. tt;
     silent = λ f other. (refl, refl);
   };
   errors = inr (inl refl);

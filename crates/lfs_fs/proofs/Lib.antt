@@ -54,3 +54,5 @@ pub mod ImageLimits
 pub mod ReadOnly
 mod FileAnswers
 pub mod Common
+pub mod SessionTurns
+pub mod Users

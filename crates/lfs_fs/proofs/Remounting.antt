@@ -69,6 +69,7 @@ remount_fails e old new files broken error = record {
     itself = λ h. absurd (cc);
     unwritten = λ none. (broken.disk, writes);
     remounted = λ h. (broken.disk, writes);
+    reads = λ h. broken.reads.each;
     silent = λ f other. absurd (cc);
   };
   errors = widened error.errors;
@@ -90,7 +91,7 @@ remount_steps old new sound r =
     (remounted_step old.tree.disk new.disk.order new.pairs (tree_summary old.tree) (system_state old).state m.reads.events old.tree.history
     (λ s at. let over = is_over old.tree old.files (sound (works_at old s at)) in (old.tree.pairs, (over.accepted, over.surrounds)))
     (subst (λ d. IsAccepted d new.pairs) m.disk_is m.sound.accepted) r.longer
-    (reads_write_nothing old.tree.disk.blocks m.reads.events m.reads.each))
+    (reads_write_nothing old.tree.disk.blocks m.reads.events m.reads.each) m.reads.each)
   where
     m : IsMountedTree (ordered_disk new.disk.order old.tree.disk) old.tree.history new
     m = r.mounted

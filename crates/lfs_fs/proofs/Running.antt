@@ -5,7 +5,7 @@ use Rattle.std.proofs.Common.{Ok, ℕ, ◌≡◌, ◌+◌, ◌<◌, ◌≤◌, B
 use Rattle.std.proofs.lemmas.List.{append_cancel_right, take_more, take-append-drop}
 use Rattle.lfs_device.specs.declared.error.Error.{Error}
 use Rattle.lfs_model.specs.session.Operations as ops
-use Rattle.lfs_model.specs.crash.Performed.{ArePerformed}
+use Rattle.lfs_model.specs.crash.Performed.{ArePerformed, IsPerformed}
 use Rattle.lfs_model.specs.crash.ReadBounds.{SparesAndBoundsReads, RepeatReadsNothing, accepted_operation}
 use Rattle.lfs_model.proofs.Performing.{last_accepted, last_further, performed_further}
 use Rattle.lfs_fs.specs.SessionView.{FailsRun}
@@ -39,7 +39,15 @@ call_within_read_bounds before old op reply new warm call turn = record {
     go None w s at ps a = tt
     go (Some b) w s at ps a = λ k. call.asks.none k.again (kept_hand ps b op k old.tree (w k.path k.stat s at ps a (kept_small ps b op k))) turn.calls turn.called
 
-warm_behind : (old : SessionView) (op : Operation) (reply : ops.Reply) (new : SessionView) → IsCall old op (Ok reply) new → IsWarm (accepted_operation op reply) new
+-- an answered call, by what is cached
+pub call_performed : (before : Option Operation) (old : SessionView) (op : Operation) (reply : ops.Reply) (new : SessionView) → IsWarm before old → IsCall old op (Ok reply) new → IsPerformed before (system_state old) op reply (system_state new)
+call_performed before old op reply new warm call = record {
+  turn = call.answers;
+  survives_loss = call.survives_loss;
+  read_bounds = call_within_read_bounds before old op reply new warm call call.answers;
+}
+
+pub warm_behind : (old : SessionView) (op : Operation) (reply : ops.Reply) (new : SessionView) → IsCall old op (Ok reply) new → IsWarm (accepted_operation op reply) new
 warm_behind old op reply new call = go (model.is_refusal reply) refl
   where
     go : (b : Bool) → model.is_refusal reply ≡ b → IsWarm (cond b None (Some op)) new
@@ -59,11 +67,7 @@ none_run a replies none = subst (λ rs. HaveRun (system_state a) [] (map reply_v
 
 one_more : (operations : List Operation) (op : Operation) (replies : List ops.Reply) (reply : ops.Reply) (a : SystemState) (b c : SessionView) → HaveRun a operations replies b → IsCall b op (Ok reply) c → HaveRun a (operations ++ op ∷ []) (replies ++ reply ∷ []) c
 one_more operations op replies reply a b c done call = record {
-  performed = performed_further None operations op replies reply a (system_state b) (system_state c) done.performed (record {
-    turn = call.answers;
-    survives_loss = call.survives_loss;
-    read_bounds = call_within_read_bounds (last_accepted None operations replies) b op reply c done.warm call call.answers;
-  });
+  performed = performed_further None operations op replies reply a (system_state b) (system_state c) done.performed (call_performed (last_accepted None operations replies) b op reply c done.warm call);
   no_fault = call.ends.no_fault refl ∙ done.no_fault;
   warm = subst (λ o. IsWarm o c) (sym (last_further None operations op replies reply a (system_state b) done.performed)) (warm_behind b op reply c call);
 }

@@ -27,3 +27,5 @@ pub mod CallEffects
 pub mod ImageLimits
 pub mod ReadOnly
 pub mod FileAnswers
+pub mod Turns
+pub mod Starts

@@ -11,7 +11,7 @@ ghost use Rattle.lfs_model.specs.tree.Profile.{image_fields};
 ghost use Rattle.lfs_model.specs.session.State.{Healthy, mounted_session};
 ghost use Rattle.lfs_model.specs.session.Run.{AreSteps, SystemState};
 ghost use Rattle.lfs_model.specs.crash.Performed.{ArePerformed};
-ghost use Rattle.lfs_model.specs.crash.RepeatedPowerLoss.{IsMounted, MeetsRunPremises, CrashSafe};
+ghost use Rattle.lfs_model.specs.crash.RepeatedPowerLoss.{IsMounted, MeetsRunPremises};
 ghost use Rattle.lfs_model.specs.crash.PowerLoss.{SurvivesPowerLoss};
 ghost use Rattle.lfs_model.specs.declared.order.NameOrder.{NameOrder};
 ghost use Rattle.lfs_model.specs.declared.order.NameOrder.TheVariants.{LongerFirst, ShorterFirst};
@@ -27,6 +27,7 @@ ghost use Rattle.lfs_tree.specs.TreeState.{kept_thread};
 ghost use Rattle.lfs_fs.specs.GstateView.{returned_gstate_reply};
 ghost use Rattle.lfs_fs.specs.ImageLimits.{FailedByRead, OnlyReadsSession};
 ghost use Rattle.lfs_fs.specs.ReadOnly.{IsReadOnlyReason, MayWrite};
+ghost use Rattle.lfs_fs.specs.Turns.{IsSafeRun};
 ghost use Rattle.lfs_fs.specs.SessionView.{BeginsByMount, FailsRun, system_state};
 ghost use Rattle.lfs_fs.specs.FlagsView.{flags_view};
 ghost use Rattle.lfs_fs.specs.OpView.{HasRefusalError, op_view, result_view, reply_view};
@@ -713,7 +714,7 @@ impl<D: BlockDevice> Session<D> {
         ensures no_fault { OnOk result (fault_count self.new.tree.history ≡ fault_count self.old.tree.history) }
         ensures headline { IfOk result (λ replies. (from : SystemState) (done : List Operation) (answers : List Answer) → HasDiskTree from → AreSteps from done answers (system_state self.old)
             → SessionMatchesDisk from (done ++ map op_view ops.now) (answers ++ map reply_view replies.items) (system_state self.new)) }
-        ensures survives { MeetsRunPremises (system_state self.old) (system_state self.new) → CrashSafe (system_state self.old) (map op_view ops.now) (system_state self.new) }
+        ensures survives { MeetsRunPremises (system_state self.old) (system_state self.new) → IsSafeRun (system_state self.old) (map op_view ops.now) (system_state self.new) }
         ensures ended { IfErr result (λ e. FailsRun e (system_state self.old) (map op_view ops.now) (system_state self.new)) }
     {
         let mut replies = Vec::new(alloc);

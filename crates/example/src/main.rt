@@ -22,7 +22,8 @@ fn new_session(alloc: Global) -> Result<Session<RamDevice>, Error> {
 fn write_and_read(alloc: Global) -> Result<Vec<u8>, Error> {
     let mut session = new_session(alloc)?;
     session.mkdir(alloc, b"/log")?;
-    let file = session.open(alloc, b"/log/today", OpenFlags::WRITE | OpenFlags::CREATE)?;
+    let new_file = OpenFlags::WRITE.union(OpenFlags::CREATE);
+    let file = session.open(alloc, b"/log/today", new_file)?;
     session.write(alloc, file, b"21.5 degrees")?;
     session.close(alloc, file)?;
     session.remount(alloc)?;

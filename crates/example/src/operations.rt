@@ -11,7 +11,7 @@ fn replies_to_example_operations(alloc: Global) -> Result<Vec<Reply>, Error> {
     let mut session = format(alloc, device).map_err(|(_, error)| error)?;
     let operations = [
         Op::Mkdir(b"/log"),
-        Op::Open(b"/log/today", OpenFlags::WRITE | OpenFlags::CREATE),
+        Op::Open(b"/log/today", OpenFlags::WRITE.union(OpenFlags::CREATE)),
         Op::Write(0, b"21.5 degrees"),
         Op::Close(0),
         Op::Stat(b"/log/today"),

@@ -55,4 +55,5 @@ pub mod ReadOnly
 mod FileAnswers
 pub mod Common
 pub mod SessionTurns
+mod FlagBits
 pub mod Users

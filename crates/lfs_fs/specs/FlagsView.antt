@@ -1,5 +1,5 @@
 -- What contracts see of the flags of an open.
-use Rattle.std.specs.Prelude.{◌==◌, not}
+use Rattle.std.specs.Prelude.{◌==◌, ◌||◌, not}
 use Rattle.std.specs.Int.RustNames.{bit_and}
 use Rattle.lfs_model.specs.session.Operations.{FlagsOfOpen}
 use Rattle.lfs_fs.specs.declared.flags.OpenFlags.{OpenFlags}
@@ -13,4 +13,16 @@ flags_view f = record {
   truncate = bit_and f.0 0x400 == 0x400;
   append = bit_and f.0 0x800 == 0x800;
   unknown = not (bit_and f.0 0xf03 == f.0);
+}
+
+-- the flags of both
+abbrev pub joined_flags : FlagsOfOpen → FlagsOfOpen → FlagsOfOpen
+joined_flags f g = record {
+  read = f.read || g.read;
+  write = f.write || g.write;
+  create = f.create || g.create;
+  exclusive = f.exclusive || g.exclusive;
+  truncate = f.truncate || g.truncate;
+  append = f.append || g.append;
+  unknown = f.unknown || g.unknown;
 }

@@ -624,6 +624,14 @@ impl<D: BlockDevice> Session<D> {
         superblock
     }
 
+    /// Returns whether the session has failed. Then each call but [`remount`](Session::remount) is
+    /// refused as `Failed`. Does not access the device.
+    pub fn has_failed(&self) -> bool
+        ensures { result ≡ self.now.tree.failed }
+    {
+        self.tree.has_failed()
+    }
+
     /// Returns whether the session may write: it hasn't failed, and its image is in the writing
     /// profile. Then no operation is refused as `ReadOnly`, and [`run`](Session::run) survives a
     /// power loss. Does not access the device.

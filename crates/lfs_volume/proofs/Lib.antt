@@ -1,0 +1,17 @@
+pub mod Asking
+pub mod Common
+pub mod Entries
+pub mod Finding
+pub mod Hulls
+pub mod Loading
+pub mod NodeCalls
+pub mod NodesByNumber
+pub mod Runs
+pub mod Saving
+pub mod SessionOperations
+pub mod Soundness
+pub mod Steps
+pub mod TreesKept
+pub mod VolumeSteps
+pub mod Working
+pub mod WrittenBytes

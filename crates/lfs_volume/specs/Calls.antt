@@ -1,0 +1,255 @@
+-- Calls of a volume: which check refuses each, and what it replies and changes where none does.
+use Rattle.std.specs.Prelude.{ℕ, ◌+◌, ◌==◌, nat_lt, max, Bool, true, false, not, ◌&&◌, ◌||◌, if◌then◌else◌, List, [], ◌∷◌, ◌++◌, length, take, drop, map, slice_set, Option, Some, None, is_some, is_none, nat_eq, unwrap_or}
+use Rattle.std.specs.List.{list_any, position_or_len, starts_with}
+use Rattle.std.specs.Option.{option_map, option_and_then}
+use Rattle.lfs_model.specs.format.Names.{same_name, slash_byte}
+use Rattle.lfs_model.specs.format.Disk.{profile_file_max}
+use Rattle.lfs_model.specs.tree.Tree.{Tree}
+use Rattle.lfs_model.specs.session.Operations as ops
+use Rattle.lfs_model.specs.session.Operations.{Refusal, BadFile, Invalid, TooBig, NoSpace, FlagsOfOpen, Operation, Reply}
+use Rattle.lfs_model.specs.session.Session.{DiskSummary, refuse_if, first_refusal, list_block_count}
+use Rattle.lfs_model.specs.session.Refusals.{path_or_root, operation_refusal}
+use Rattle.lfs_model.specs.session.TreeEdits.{file_bytes, tree_with_change}
+use Rattle.lfs_model.specs.session.Effects.{node_with_bytes, operation_effect}
+use Rattle.lfs_volume.specs.declared.handles.Handle.{Handle}
+use Rattle.lfs_volume.specs.Opened.{reading_flags, writing_flags}
+use Rattle.lfs_volume.specs.Volume.{NodeView, Volume, entry_at, idle_session, loaded_node, node_bytes, opened_node, resized_node, synced_node, unlinked_node, with_position, write_place, written_node}
+
+pub data Call : Type 0 where
+  Open : (path : List ℕ) (flags : FlagsOfOpen) → Call
+  Read : (handle count : ℕ) → Call
+  Write : (handle : ℕ) (bytes : List ℕ) → Call
+  Seek : (handle position : ℕ) → Call
+  Tell : (handle : ℕ) → Call
+  Size : (handle : ℕ) → Call
+  Truncate : (handle size : ℕ) → Call
+  Sync : (handle : ℕ) → Call
+  Close : (handle : ℕ) → Call
+  -- an operation of the session that is about no open file's number
+  Perform : (operation : Operation) → Call
+
+-- ---- flags
+
+-- reading, writing, or both; the others go with writing, and exclusive with create
+abbrev pub volume_flags_allowed : FlagsOfOpen → Bool
+volume_flags_allowed f = not f.unknown && (f.read || f.write) && (f.write || not (f.create || f.truncate || f.append)) && (f.create || not f.exclusive)
+
+-- how the session is asked whether the file may be opened: a file that is to be made is made there
+abbrev pub session_flags : FlagsOfOpen → FlagsOfOpen
+session_flags f = if f.write then record writing_flags { create = f.create; exclusive = f.exclusive } else reading_flags
+
+-- ---- nodes and handles
+
+abbrev pub handle_node : Volume → ℕ → Option NodeView
+handle_node v handle = option_and_then (λ h. entry_at v.nodes h.node) (entry_at v.handles handle)
+
+abbrev pub may_read : Volume → ℕ → Bool
+may_read v handle = unwrap_or (option_map (λ h. h.reads) (entry_at v.handles handle)) false
+
+abbrev pub may_write : Volume → ℕ → Bool
+may_write v handle = unwrap_or (option_map (λ h. h.writes) (entry_at v.handles handle)) false
+
+abbrev pub has_path : List ℕ → Option NodeView → Bool
+has_path path None = false
+has_path path (Some n) = unwrap_or (option_map (λ p. same_name p path) n.path) false
+
+-- the least number that is free
+abbrev pub free_entry : {A : Type 0} → List (Option A) → ℕ
+free_entry entries = position_or_len is_none entries
+
+abbrev pub with_entry : {A : Type 0} → List (Option A) → ℕ → Option A → List (Option A)
+with_entry entries i entry = if nat_lt i (length entries) then slice_set entries i entry else entries ++ entry ∷ []
+
+-- the node of a path: the one that is open, or the least number that is free
+abbrev pub node_of_path : Volume → List ℕ → ℕ
+node_of_path v path =
+    if nat_lt (position_or_len (has_path path) v.nodes) (length v.nodes) then position_or_len (has_path path) v.nodes else free_entry v.nodes
+
+abbrev pub names_node : ℕ → Option Handle → Bool
+names_node node None = false
+names_node node (Some h) = h.node == node
+
+abbrev pub named : List (Option Handle) → ℕ → Bool
+named handles node = list_any (names_node node) handles
+
+-- ---- refusals
+
+abbrev pub needs_sync : NodeView → Bool
+needs_sync n = is_some n.hull && is_some n.path
+
+-- The session may refuse the file's open. Otherwise the room has to be there: that of a writer that isn't turned.
+abbrev pub sync_refusal : DiskSummary → Tree → Option NodeView → Option Refusal
+sync_refusal around tree None = None
+sync_refusal around tree (Some n) =
+    if needs_sync n
+    then first_refusal (operation_refusal around (idle_session tree) (ops.Open (unwrap_or n.path []) writing_flags)
+    ∷ refuse_if (nat_lt around.block_count (length around.used + (2 + list_block_count around.profile around.block_size n.size))) NoSpace
+    ∷ [])
+    else None
+
+abbrev pub written_size : Handle → NodeView → List ℕ → ℕ
+written_size h n bytes = max n.size (write_place h n + length bytes)
+
+abbrev pub write_too_big : DiskSummary → List ℕ → Option Handle → Option NodeView → Bool
+write_too_big around bytes (Some h) (Some n) = nat_lt 0 (length bytes) && nat_lt (profile_file_max around.profile) (written_size h n bytes)
+write_too_big around bytes h n = false
+
+-- the first check that refuses a call of a volume that works, or None
+abbrev pub call_refusal : DiskSummary → Volume → Call → Option Refusal
+call_refusal around v (Open path flags) = first_refusal (
+    refuse_if (not (volume_flags_allowed flags)) Invalid
+    ∷ operation_refusal around (idle_session v.tree) (ops.Open path (session_flags flags))
+    ∷ [])
+call_refusal around v (Read handle count) = refuse_if (not (may_read v handle)) BadFile
+call_refusal around v (Write handle bytes) = first_refusal (
+    refuse_if (not (may_write v handle)) BadFile
+    ∷ refuse_if (write_too_big around bytes (entry_at v.handles handle) (handle_node v handle)) TooBig
+    ∷ [])
+call_refusal around v (Seek handle position) = first_refusal (
+    refuse_if (is_none (entry_at v.handles handle)) BadFile
+    ∷ refuse_if (nat_lt (profile_file_max around.profile) position) Invalid
+    ∷ [])
+call_refusal around v (Tell handle) = refuse_if (is_none (entry_at v.handles handle)) BadFile
+call_refusal around v (Size handle) = refuse_if (is_none (entry_at v.handles handle)) BadFile
+call_refusal around v (Truncate handle size) = first_refusal (
+    refuse_if (not (may_write v handle)) BadFile
+    ∷ refuse_if (nat_lt (profile_file_max around.profile) size) TooBig
+    ∷ [])
+call_refusal around v (Sync handle) = first_refusal (
+    refuse_if (is_none (entry_at v.handles handle)) BadFile
+    ∷ sync_refusal around v.tree (handle_node v handle)
+    ∷ [])
+call_refusal around v (Close handle) = refuse_if (is_none (entry_at v.handles handle)) BadFile
+call_refusal around v (Perform op) = operation_refusal around (idle_session v.tree) op
+
+-- ---- effects
+
+abbrev pub change_node : ℕ → (NodeView → NodeView) → Volume → Volume
+change_node i change v = record v { nodes = slice_set v.nodes i (option_map change (entry_at v.nodes i)) }
+
+abbrev pub moved_handle : ℕ → ℕ → Volume → Volume
+moved_handle handle position v = record v { handles = slice_set v.handles handle (option_map (with_position position) (entry_at v.handles handle)) }
+
+-- a file is open for reading as soon as its bytes are in memory
+abbrev pub load_node : ℕ → Volume → Volume
+load_node i v = change_node i (λ n. loaded_node (node_bytes v.tree n) n) v
+
+abbrev pub sync_tree : Tree → Option NodeView → Tree
+sync_tree tree None = tree
+sync_tree tree (Some n) = if needs_sync n then tree_with_change (path_or_root (unwrap_or n.path [])) (node_with_bytes (node_bytes tree n)) tree else tree
+
+-- a node without a path keeps its hull: nothing of it is stored
+abbrev pub stored_node : NodeView → NodeView
+stored_node n = if needs_sync n then synced_node n else n
+
+abbrev pub sync_node : ℕ → Volume → Volume
+sync_node i v = record (change_node i stored_node v) { tree = sync_tree v.tree (entry_at v.nodes i) }
+
+-- the nodes after a handle on one of them is gone
+abbrev pub closed_nodes : List (Option Handle) → List (Option NodeView) → Option ℕ → List (Option NodeView)
+closed_nodes handles nodes None = nodes
+closed_nodes handles nodes (Some i) = if named handles i then nodes else slice_set nodes i None
+
+-- the handle is free, and a node that no handle names is gone with its bytes
+abbrev pub closed_volume : ℕ → Volume → Volume
+closed_volume handle v = record v {
+  handles = slice_set v.handles handle None;
+  nodes = closed_nodes (slice_set v.handles handle None) v.nodes (option_map (λ h. h.node) (entry_at v.handles handle));
+}
+
+abbrev pub new_handle : ℕ → FlagsOfOpen → Handle
+new_handle node flags = record { node = node; position = 0; reads = flags.read; writes = flags.write; appends = flags.append }
+
+-- the node of an opened file, whose size is the tree's where it wasn't open
+abbrev pub node_on_open : Tree → List ℕ → FlagsOfOpen → Option NodeView → NodeView
+node_on_open tree path flags found = cut (unwrap_or found (opened_node path (length (file_bytes (tree (path_or_root path))))))
+  where
+    cut : NodeView → NodeView
+    cut n = if flags.truncate then resized_node 0 [] n else n
+
+abbrev pub open_volume : Tree → List ℕ → FlagsOfOpen → Volume → Reply × Volume
+open_volume tree path flags v = (
+  ops.Opened (free_entry v.handles),
+  record {
+    tree = tree;
+    nodes = with_entry v.nodes (node_of_path v path) (Some (node_on_open tree path flags (entry_at v.nodes (node_of_path v path))));
+    handles = with_entry v.handles (free_entry v.handles) (Some (new_handle (node_of_path v path) flags));
+  },
+)
+
+-- ---- paths that go or move
+
+abbrev pub is_at_or_beneath : List ℕ → List ℕ → Bool
+is_at_or_beneath old path = starts_with nat_eq path old && ((length path == length old) || starts_with nat_eq (drop (length old) path) (slash_byte ∷ []))
+
+-- a node with that path loses it, and keeps its bytes
+abbrev pub unlink_path : Tree → List ℕ → NodeView → NodeView
+unlink_path tree path n = if has_path path (Some n) then unlinked_node (loaded_node (node_bytes tree n) n) else n
+
+-- a node at the old path or beneath it has the new path, and what was behind the old one
+abbrev pub moved_node : List ℕ → List ℕ → NodeView → NodeView
+moved_node old new n = record n { path = option_map (λ p. if is_at_or_beneath old p then new ++ drop (length old) p else p) n.path }
+
+abbrev pub nodes_after : Tree → Operation → List (Option NodeView) → List (Option NodeView)
+nodes_after tree (ops.Remove path) nodes = map (option_map (unlink_path tree path)) nodes
+nodes_after tree (ops.Rename old new) nodes = map (option_map (λ n. moved_node old new (if same_name old new then n else unlink_path tree new n))) nodes
+nodes_after tree ops.Remount nodes = []
+nodes_after tree _ nodes = nodes
+
+abbrev pub handles_after : Operation → List (Option Handle) → List (Option Handle)
+handles_after ops.Remount handles = []
+handles_after _ handles = handles
+
+-- ---- a call that no check refuses
+
+abbrev pub read_effect : Volume → ℕ → ℕ → Option Handle → Reply × Volume
+read_effect v handle count None = (ops.Done, v)
+read_effect v handle count (Some h) = (ops.Bytes found, moved_handle handle (h.position + length found) (load_node h.node v))
+  where
+    found : List ℕ
+    found = take count (drop h.position (unwrap_or (option_map (node_bytes v.tree) (entry_at v.nodes h.node)) []))
+
+abbrev pub write_effect : Volume → ℕ → List ℕ → Option Handle → Option NodeView → Reply × Volume
+write_effect v handle [] h n = (ops.Count 0, v)
+write_effect v handle (b ∷ bytes) (Some h) (Some n) = (
+  ops.Count (length (b ∷ bytes)),
+  moved_handle handle (write_place h n + length (b ∷ bytes)) (change_node h.node (written_node (write_place h n) (b ∷ bytes) (node_bytes v.tree n)) v),
+)
+write_effect v handle bytes h n = (ops.Count 0, v)
+
+abbrev pub node_number : Volume → ℕ → ℕ
+node_number v handle = unwrap_or (option_map (λ h. h.node) (entry_at v.handles handle)) (length v.nodes)
+
+-- the handle is free even where the sync is refused
+abbrev pub close_effect : Volume → ℕ → Option Refusal → Reply × Volume
+close_effect v handle None = (ops.Done, closed_volume handle (sync_node (node_number v handle) v))
+close_effect v handle (Some error) = (ops.Refused error, closed_volume handle v)
+
+abbrev pub call_effect : DiskSummary → Volume → Call → Reply × Volume
+call_effect around v (Open path flags) = open_volume (operation_effect around (idle_session v.tree) (ops.Open path (session_flags flags))).1.tree path flags v
+call_effect around v (Read handle count) = read_effect v handle count (entry_at v.handles handle)
+call_effect around v (Write handle bytes) = write_effect v handle bytes (entry_at v.handles handle) (handle_node v handle)
+call_effect around v (Seek handle position) = (ops.Done, moved_handle handle position v)
+call_effect around v (Tell handle) = (ops.Count (unwrap_or (option_map (λ h. h.position) (entry_at v.handles handle)) 0), v)
+call_effect around v (Size handle) = (ops.Count (unwrap_or (option_map (λ n. n.size) (handle_node v handle)) 0), v)
+call_effect around v (Truncate handle size) = (
+  ops.Done,
+  change_node (node_number v handle) (λ n. resized_node size (node_bytes v.tree n) n) v,
+)
+call_effect around v (Sync handle) = (ops.Done, sync_node (node_number v handle) v)
+call_effect around v (Close handle) = close_effect v handle (sync_refusal around v.tree (handle_node v handle))
+call_effect around v (Perform op) = (
+  (operation_effect around (idle_session v.tree) op).0,
+  record {
+    tree = (operation_effect around (idle_session v.tree) op).1.tree;
+    nodes = nodes_after v.tree op v.nodes;
+    handles = handles_after op v.handles;
+  },
+)
+
+abbrev pub unless_refused : Option Refusal → Volume → Reply × Volume → Reply × Volume
+unless_refused (Some error) v accepted = (ops.Refused error, v)
+unless_refused None v accepted = accepted
+
+abbrev pub call_result : DiskSummary → Volume → Call → Reply × Volume
+call_result around v call = unless_refused (call_refusal around v call) v (call_effect around v call)

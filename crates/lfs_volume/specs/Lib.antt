@@ -1,0 +1,9 @@
+pub mod Calls
+pub mod Hulls
+pub mod Nodes
+pub mod Opened
+pub mod Saves
+pub mod SessionCalls
+pub mod Stops
+pub mod Volume
+pub mod VolumeCalls

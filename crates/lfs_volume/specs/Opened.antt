@@ -1,0 +1,57 @@
+-- A session between the calls of a volume, and one with the single file that a call of a volume opens.
+use Rattle.std.specs.Prelude.{ℕ, ◌≡◌, ◌≢◌, ◌+◌, ◌≤◌, ◌⊎◌, Bool, true, false, List, [], ◌∷◌, length, Option, Some, None, is_none}
+use Rattle.lfs_model.specs.format.Disk.{Disk, block_count}
+use Rattle.lfs_model.specs.format.Thread.{Pair}
+use Rattle.lfs_model.specs.tree.Tree.{Tree}
+use Rattle.lfs_model.specs.tree.View.{IsAccepted}
+use Rattle.lfs_model.specs.tree.Shown.{used_blocks}
+use Rattle.lfs_model.specs.session.Operations.{FlagsOfOpen, parse_path}
+use Rattle.lfs_model.specs.session.Refusals.{path_or_root}
+use Rattle.lfs_model.specs.session.Session.{OpenFile, OpenFilesByNumber, Session, list_block_count, parents_refusal}
+use Rattle.lfs_model.specs.session.TreeEdits.{is_file}
+use Rattle.lfs_tree.specs.TreeState.{shown_tree}
+use Rattle.lfs_fs.specs.SessionView.{SessionView, viewed_session}
+
+-- no file is open in the session: none was, or the one that was is closed
+abbrev pub AreNoFiles : OpenFilesByNumber → Type 0
+AreNoFiles files = (files ≡ []) ⊎ (files ≡ None ∷ [])
+
+-- The session works, has this tree, and no file is open in it.
+pub record IsIdle (h : SessionView) (tree : Tree) : Type 0 where
+  pub works : h.tree.failed ≡ false
+  pub shows : shown_tree h.tree ≡ tree
+  pub files : AreNoFiles h.files
+
+abbrev pub one_file : Tree → OpenFile → Session
+one_file tree file = record { tree = tree; files = Some file ∷ [] }
+
+-- The session works, has this tree, and one file is open in it, under the number 0.
+pub record HasOneFile (h : SessionView) (tree : Tree) (file : OpenFile) : Type 0 where
+  pub works : h.tree.failed ≡ false
+  pub is : viewed_session h ≡ one_file tree file
+
+-- how the volume opens a file in the session
+abbrev pub reading_flags : FlagsOfOpen
+reading_flags = record { read = true; write = false; create = false; exclusive = false; truncate = false; append = false; unknown = false }
+
+abbrev pub writing_flags : FlagsOfOpen
+writing_flags = record { read = false; write = true; create = false; exclusive = false; truncate = false; append = false; unknown = false }
+
+-- A path leads to a file of the tree: an open for reading isn't refused.
+pub record LeadsToFile (tree : Tree) (path : List ℕ) : Type 0 where
+  pub given : is_none (parse_path path) ≡ false
+  pub parents : parents_refusal tree [] (path_or_root path) ≡ None
+  pub file : is_file (tree (path_or_root path)) ≡ true
+
+-- ---- room
+
+-- how many blocks a file of so many bytes takes until it is stored: a writer that isn't turned holds so many
+abbrev pub saving_need : Disk → ℕ → ℕ
+saving_need disk size = 2 + list_block_count disk.profile disk.block_size size
+
+-- so many blocks are neither used nor held
+abbrev pub HasRoom : SessionView → ℕ → Type 0
+HasRoom h need = (ps : List Pair) → IsAccepted h.tree.disk ps → length (used_blocks h.tree.disk ps) + need ≤ block_count h.tree.disk
+
+abbrev pub LacksRoom : SessionView → ℕ → Type 0
+LacksRoom h need = (ps : List Pair) → IsAccepted h.tree.disk ps → length (used_blocks h.tree.disk ps) + need ≤ block_count h.tree.disk → ⊥

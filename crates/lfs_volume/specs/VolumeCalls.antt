@@ -1,0 +1,200 @@
+-- What a volume keeps between its calls, and the relation that each call of a volume is to meet.
+use Rattle.std.specs.Prelude.{ℕ, ◌≡◌, ◌+◌, ◌<◌, ◌≤◌, ◌⊎◌, IfSome, if◌then◌else◌, max, true, false, List, length, Option, Some, None, IsSome, Result, Ok, Err, slice_set}
+use Rattle.std.specs.Option.{option_map}
+use Rattle.lfs_device.specs.declared.error.Error.{Error}
+use Rattle.lfs_device.specs.declared.error.Error.TheVariants.{BadFile, Failed, NoMemory}
+use Rattle.lfs_lookup.specs.RefusalErrors as refusals
+use Rattle.lfs_lookup.specs.RefusalErrors.{error_refusal}
+use Rattle.lfs_model.specs.format.Disk.{profile_file_max}
+use Rattle.lfs_model.specs.format.Thread.{Pair}
+use Rattle.lfs_model.specs.tree.Tree.{Tree}
+use Rattle.lfs_model.specs.tree.View.{IsAccepted}
+use Rattle.lfs_model.specs.session.Operations as ops
+use Rattle.lfs_model.specs.session.Operations.{Operation, Refusal, Reply}
+use Rattle.lfs_model.specs.session.Refusals.{path_or_root}
+use Rattle.lfs_model.specs.session.Session.{DiskSummary}
+use Rattle.lfs_model.specs.session.State.{IsSummary}
+use Rattle.lfs_tree.specs.TreeState.{shown_tree}
+use Rattle.lfs_fs.specs.CallEffects.{IsCall}
+use Rattle.lfs_fs.specs.SessionView.{SessionView}
+use Rattle.lfs_volume.specs.declared.handles.Handle.{Handle}
+use Rattle.lfs_volume.specs.Calls.{Call, call_result, named, needs_sync, stored_node, sync_refusal, sync_tree}
+use Rattle.lfs_volume.specs.Hulls.{DiffersInHull}
+use Rattle.lfs_volume.specs.Opened.{IsIdle, LeadsToFile}
+use Rattle.lfs_volume.specs.SessionCalls.{AreQuietCalls, AreVolumeSteps, EndsInCall, FailsInCalls}
+use Rattle.lfs_volume.specs.Volume.{NodeView, Volume, VolumeView, entry_at, loaded_node, node_bytes, stored_bytes, volume_of, write_place}
+
+-- ---- what is kept
+
+-- A node's contents differ from the stored ones in its hull alone. One whose bytes aren't in memory has the size of the stored
+-- ones. A node's path leads to a file of the tree.
+pub record IsSoundNode (h : SessionView) (n : NodeView) : Type 0 where
+  pub sized : n.contents ≡ None → length (stored_bytes (shown_tree h.tree) n.path) ≡ n.size
+  pub unchanged : n.contents ≡ None → n.hull ≡ None
+  pub long : (bytes : List ℕ) → n.contents ≡ Some bytes → length bytes ≡ n.size
+  pub differs : (path bytes : List ℕ) → n.path ≡ Some path → n.contents ≡ Some bytes → DiffersInHull (stored_bytes (shown_tree h.tree) (Some path)) bytes n.hull
+  pub small : IsSome n.hull → n.size ≤ profile_file_max h.tree.disk.profile
+  pub leads : (path : List ℕ) → n.path ≡ Some path → LeadsToFile (shown_tree h.tree) path
+
+-- No file is open in the session. Each handle names a node, and the paths of no two nodes lead to one file.
+pub record IsSoundVolume (v : VolumeView) : Type 0 where
+  pub idle : IsIdle v.session (shown_tree v.session.tree)
+  pub nodes : (i : ℕ) (n : NodeView) → entry_at v.nodes i ≡ Some n → IsSoundNode v.session n
+  pub named : (i : ℕ) (h : Handle) → entry_at v.handles i ≡ Some h → IsSome (entry_at v.nodes h.node)
+  pub apart : (i j : ℕ) (n m : NodeView) (path other : List ℕ) → entry_at v.nodes i ≡ Some n → entry_at v.nodes j ≡ Some m → n.path ≡ Some path → m.path ≡ Some other → path_or_root path ≡ path_or_root other → i ≡ j
+
+-- while the volume works
+abbrev pub IsSound : VolumeView → Type 0
+IsSound v = v.session.tree.failed ≡ false → IsSoundVolume v
+
+-- ---- how a call ends
+
+-- the same node, whose bytes may have come into memory
+abbrev pub IsSameNode : Tree → NodeView → NodeView → Type 0
+IsSameNode tree n m = (m ≡ n) ⊎ (m ≡ loaded_node (node_bytes tree n) n)
+
+-- The same volume, of which more bytes may be in memory: no caller sees it.
+pub record IsSameVolume (v w : Volume) : Type 0 where
+  pub tree : w.tree ≡ v.tree
+  pub handles : w.handles ≡ v.handles
+  pub count : length w.nodes ≡ length v.nodes
+  pub none : (i : ℕ) → entry_at v.nodes i ≡ None → entry_at w.nodes i ≡ None
+  pub some : (i : ℕ) (n : NodeView) → entry_at v.nodes i ≡ Some n → (m : NodeView) × ((entry_at w.nodes i ≡ Some m) × IsSameNode v.tree n m)
+
+-- what the session did: it accepted all of these operations, or refused one
+abbrev pub IsSessionPart : SessionView → List Operation → SessionView → Type 0
+IsSessionPart old operations new = AreVolumeSteps old operations new ⊎ ((e : Error) × ((refusals.is_refusal e ≡ true) × EndsInCall e old operations new))
+
+-- The reply and the next volume are those of the definitions, by what the disk holds when the session is asked: at first, or after
+-- calls that kept the tree.
+pub record IsReplied (old : VolumeView) (call : Call) (reply : Reply) (new : VolumeView) : Type 0 where
+  pub around : DiskSummary
+  pub at : SessionView
+  pub pairs : List Pair
+  pub accepted : IsAccepted at.tree.disk pairs
+  pub surrounds : IsSummary at.tree.disk pairs around
+  pub shows : shown_tree at.tree ≡ shown_tree old.session.tree
+  pub before : List Operation
+  pub reached : AreQuietCalls old.session before at
+  pub reply_is : (call_result around (volume_of old) call).0 ≡ reply
+  pub next : IsSameVolume (call_result around (volume_of old) call).1 (volume_of new)
+  pub operations : List Operation
+  pub session_part : IsSessionPart old.session operations new.session
+
+-- The volume wanted memory of its own. It works on as it was, and the session kept its tree.
+pub record WantsMemory (old new : VolumeView) : Type 0 where
+  pub works : new.session.tree.failed ≡ old.session.tree.failed
+  pub same : IsSameVolume (volume_of old) (volume_of new)
+  pub operations : List Operation
+  pub calls : AreQuietCalls old.session operations new.session
+
+-- A reply; or the volume wanted memory, and works on as it was; or the session has failed in one of its operations.
+abbrev pub IsVolumeCall : VolumeView → Call → Result Reply Error → VolumeView → Type 0
+IsVolumeCall old call (Ok reply) new = IsReplied old call reply new
+IsVolumeCall old call (Err e) new =
+    ((e ≡ NoMemory) × WantsMemory old new)
+    ⊎ FailsInCalls e old.session new.session
+
+-- ---- the parts of a call of a session
+
+-- the session works: it was asked for its used blocks, and answered
+abbrev pub IsWorking : SessionView → Type 0
+IsWorking h = (h.tree.failed ≡ false) × ((n : ℕ) × IsCall h ops.UsedCount (Ok (ops.Count n)) h)
+
+-- the handle of that number; or the session has failed, or no handle has the number
+abbrev pub IsFoundHandle : VolumeView → ℕ → Result Handle Error → Type 0
+IsFoundHandle v handle (Ok h) = IsWorking v.session × (entry_at v.handles handle ≡ Some h)
+IsFoundHandle v handle (Err e) = ((e ≡ Failed) × (v.session.tree.failed ≡ true)) ⊎ ((e ≡ BadFile) × IsWorking v.session × (entry_at v.handles handle ≡ None))
+
+-- What refuses a sync of a node, if anything does, by what the disk holds when the session is asked.
+pub record IsSyncRefusal (old : SessionView) (n : NodeView) (refusal : Option Refusal) : Type 0 where
+  pub around : DiskSummary
+  pub at : SessionView
+  pub pairs : List Pair
+  pub accepted : IsAccepted at.tree.disk pairs
+  pub surrounds : IsSummary at.tree.disk pairs around
+  pub shows : shown_tree at.tree ≡ shown_tree old.tree
+  pub before : List Operation
+  pub reached : AreQuietCalls old before at
+  pub is : sync_refusal around (shown_tree old.tree) (Some n) ≡ refusal
+
+-- A node was stored, where it has a path and a hull.
+pub record IsNodeSynced (old : SessionView) (n : NodeView) (new : SessionView) (m : NodeView) : Type 0 where
+  pub node : m ≡ stored_node n
+  pub idle : IsIdle new (sync_tree (shown_tree old.tree) (Some n))
+  pub operations : List Operation
+  pub steps : AreVolumeSteps old operations new
+  pub passes : needs_sync n ≡ true → IsSyncRefusal old n None
+
+-- The sync of a node was refused, and the tree is as it was.
+pub record IsNodeRefused (e : Error) (old : SessionView) (n : NodeView) (new : SessionView) : Type 0 where
+  pub is_one : refusals.is_refusal e ≡ true
+  pub refused : IsSyncRefusal old n (Some (error_refusal e))
+  pub idle : IsIdle new (shown_tree old.tree)
+  pub operations : List Operation
+  pub part : IsSessionPart old operations new
+
+-- how a sync of a node ends in an error
+abbrev pub EndsNodeSync : Error → SessionView → NodeView → SessionView → Type 0
+EndsNodeSync e old n new = IsNodeRefused e old n new ⊎ FailsInCalls e old new
+
+-- The bytes that are stored of a node were read.
+pub record AreStoredBytes (old : SessionView) (n : NodeView) (new : SessionView) (bytes : List ℕ) : Type 0 where
+  pub are : bytes ≡ stored_bytes (shown_tree old.tree) n.path
+  pub idle : IsIdle new (shown_tree old.tree)
+  pub operations : List Operation
+  pub calls : AreQuietCalls old operations new
+
+-- A node's bytes are in memory.
+pub record IsNodeLoaded (old : SessionView) (n : NodeView) (new : SessionView) (m : NodeView) : Type 0 where
+  pub node : m ≡ loaded_node (node_bytes (shown_tree old.tree) n) n
+  pub idle : IsIdle new (shown_tree old.tree)
+  pub operations : List Operation
+  pub calls : AreQuietCalls old operations new
+
+-- ---- the same of a node by its number
+
+-- the node of that number is sound, if there is one
+abbrev pub IsSoundAt : SessionView → List (Option NodeView) → ℕ → Type 0
+IsSoundAt h nodes i = (n : NodeView) → entry_at nodes i ≡ Some n → IsSoundNode h n
+
+-- Its bytes are in memory.
+pub record IsLoadedAt (old : SessionView) (nodes : List (Option NodeView)) (i : ℕ) (new : SessionView) (loaded : List (Option NodeView)) : Type 0 where
+  pub are : loaded ≡ slice_set nodes i (option_map (λ n. loaded_node (node_bytes (shown_tree old.tree) n) n) (entry_at nodes i))
+  pub idle : IsIdle new (shown_tree old.tree)
+  pub operations : List Operation
+  pub calls : AreQuietCalls old operations new
+
+-- It is stored.
+pub record IsSyncedAt (old : SessionView) (nodes : List (Option NodeView)) (i : ℕ) (new : SessionView) (synced : List (Option NodeView)) : Type 0 where
+  pub are : synced ≡ slice_set nodes i (option_map stored_node (entry_at nodes i))
+  pub node : (n : NodeView) → entry_at nodes i ≡ Some n → IsNodeSynced old n new (stored_node n)
+
+-- Its sync ended in an error.
+pub record EndsSyncAt (e : Error) (old : SessionView) (nodes : List (Option NodeView)) (i : ℕ) (new : SessionView) : Type 0 where
+  pub node : NodeView
+  pub is : entry_at nodes i ≡ Some node
+  pub ends : EndsNodeSync e old node new
+
+-- ---- the parts of a call
+
+-- a handle that reads, and the volume once the handle's node is loaded
+pub record IsReadyToRead (old : VolumeView) (handle : ℕ) (h : Handle) (new : VolumeView) : Type 0 where
+  pub working : IsWorking old.session
+  pub at : entry_at old.handles handle ≡ Some h
+  pub reads : h.reads ≡ true
+  pub handles : new.handles ≡ old.handles
+  pub loaded : IsLoadedAt old.session old.nodes h.node new.session new.nodes
+
+-- where bytes are written, in a file that may be so long
+abbrev pub FitsAt : VolumeView → Handle → ℕ → ℕ → Type 0
+FitsAt v h count at = IfSome (entry_at v.nodes h.node) (λ n. (at ≡ write_place h n) × (max n.size (at + count) ≤ profile_file_max v.session.tree.disk.profile))
+
+abbrev pub IsTooLong : VolumeView → Handle → ℕ → Type 0
+IsTooLong v h count = IfSome (entry_at v.nodes h.node) (λ n. profile_file_max v.session.tree.disk.profile < max n.size (write_place h n + count))
+
+-- the handle is free, and a node that no other handle names is gone
+pub record IsDropped (old : VolumeView) (handle : ℕ) (h : Handle) (new : VolumeView) : Type 0 where
+  pub session : new.session ≡ old.session
+  pub handles : new.handles ≡ slice_set old.handles handle None
+  pub nodes : new.nodes ≡ (if named new.handles h.node then old.nodes else slice_set old.nodes h.node None)

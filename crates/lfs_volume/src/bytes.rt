@@ -1,0 +1,72 @@
+// Bytes in memory that are written, cut and copied.
+
+ghost use Rattle.std.specs.Prelude.{◌≡◌, ◌+◌, ◌<◌, ◌≤◌, ◌^◌, ◌++◌, drop, length, take, IfErr, IfOk, OnErr, OnOk};
+ghost use Rattle.lfs_model.specs.format.Blocks.{overwritten_at};
+ghost use Rattle.lfs_model.specs.session.Writers.{written_contents, zero_padded};
+
+use lfs_device::Error;
+use std::alloc::{AllocError, Global};
+
+// Gives the contents that many bytes: they are cut, or zeros fill them up.
+pub(crate) fn resize_bytes(contents: &mut Vec<u8>, size: usize) -> Result<(), AllocError>
+    ensures ok { OnOk result (contents.new.items ≡ take size (zero_padded size contents.old.items)) }
+    ensures err { OnErr result (contents.new.items ≡ contents.old.items) }
+{
+    contents.resize(size, 0)
+}
+
+// Writes bytes over others, which reach as far.
+fn overwrite(all: &mut Vec<u8>, at: usize, bytes: &[u8])
+    requires { at + length bytes.now ≤ length all.old.items }
+    ensures { all.new.items ≡ overwritten_at all.old.items at bytes.now }
+{
+    all[at..at + bytes.len()].copy_from_slice(bytes);
+}
+
+// Writes bytes into the contents at a place. Zeros fill a gap before them.
+pub(crate) fn write_bytes(contents: &mut Vec<u8>, at: usize, bytes: &[u8]) -> Result<(), AllocError>
+    requires { at + length bytes.now < 2 ^ 63 }
+    ensures ok { OnOk result (contents.new.items ≡ written_contents contents.old.items at bytes.now) }
+    ensures err { OnErr result (contents.new.items ≡ contents.old.items) }
+{
+    let end = at + bytes.len();
+    if contents.len() < end {
+        resize_bytes(contents, end)?;
+    }
+    overwrite(contents, at, bytes);
+    Ok(())
+}
+
+// Returns at most `count` bytes from a place on.
+pub(crate) fn bytes_from(contents: &[u8], at: usize, count: usize) -> &[u8]
+    ensures { result.now ≡ take count (drop at contents.now) }
+{
+    let rest = &contents[at.min(contents.len())..];
+    &rest[..count.min(rest.len())]
+}
+
+// Puts bytes at the beginning of a buffer. The rest of it stays.
+pub(crate) fn copy_into(buf: &mut [u8], bytes: &[u8])
+    requires { length bytes.now ≤ length buf.old }
+    ensures { buf.new ≡ bytes.now ++ drop (length bytes.now) buf.old }
+{
+    buf[..bytes.len()].copy_from_slice(bytes);
+}
+
+// Returns a copy of bytes. Errors: `NoMemory`.
+pub(crate) fn copied(alloc: Global, bytes: &[u8]) -> Result<Vec<u8>, Error>
+    ensures are { IfOk result (λ v. v.items ≡ bytes.now) }
+    ensures none { IfErr result (λ e. e ≡ Error.NoMemory) }
+{
+    match copy_of(alloc, bytes) {
+        Ok(copy) => Ok(copy),
+        Err(_) => Err(Error::NoMemory),
+    }
+}
+
+// Returns a copy of bytes.
+pub(crate) fn copy_of(alloc: Global, bytes: &[u8]) -> Result<Vec<u8>, AllocError>
+    ensures { IfOk result (λ v. v.items ≡ bytes.now) }
+{
+    Vec::from_slice(alloc, bytes)
+}

@@ -1,0 +1,47 @@
+// How a file of a volume is opened.
+
+ghost use Rattle.std.specs.Prelude.{◌≡◌};
+ghost use Rattle.lfs_fs.specs.FlagsView.{flags_view};
+ghost use Rattle.lfs_volume.specs.Calls.{session_flags, volume_flags_allowed};
+
+use bitflags::Flags;
+use lfs_fs::OpenFlags;
+
+// All bits that name a flag.
+const NAMED: u32 = 0xf03;
+
+/// Returns whether a volume opens a file with these flags: for reading, writing or both; `CREATE`,
+/// `TRUNCATE` and `APPEND` with `WRITE`, and `EXCLUSIVE` with `CREATE`.
+pub fn allows_volume_flags(flags: OpenFlags) -> bool
+    ensures { result ≡ volume_flags_allowed (flags_view flags) }
+{
+    let writes = flags.contains(OpenFlags::WRITE);
+    let creates = flags.contains(OpenFlags::CREATE);
+    let changes = creates
+        || flags.contains(OpenFlags::TRUNCATE)
+        || flags.contains(OpenFlags::APPEND);
+    if flags.bits() & NAMED != flags.bits() {
+        return false;
+    }
+    (flags.contains(OpenFlags::READ) || writes)
+        && (writes || !changes)
+        && (creates || !flags.contains(OpenFlags::EXCLUSIVE))
+}
+
+// Returns the flags by which the session is asked whether the file may be opened.
+pub(crate) fn session_flags(flags: OpenFlags) -> OpenFlags
+    ensures { flags_view result ≡ session_flags (flags_view flags) }
+{
+    if !flags.contains(OpenFlags::WRITE) {
+        return OpenFlags::READ;
+    }
+    match (
+        flags.contains(OpenFlags::CREATE),
+        flags.contains(OpenFlags::EXCLUSIVE),
+    ) {
+        (true, true) => OpenFlags::from_bits_retain(0x302),
+        (true, false) => OpenFlags::from_bits_retain(0x102),
+        (false, true) => OpenFlags::from_bits_retain(0x202),
+        (false, false) => OpenFlags::WRITE,
+    }
+}

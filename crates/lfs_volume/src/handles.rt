@@ -1,0 +1,112 @@
+// Handles: what a program holds of an open file.
+
+ghost use Rattle.std.specs.Prelude.{◌≡◌, ◌<◌, is_none, slice_set, vec_capacity, vec_len, None, Some};
+ghost use Rattle.std.specs.List.{position_or_len};
+ghost use Rattle.std.specs.Option.{option_map};
+ghost use Rattle.lfs_volume.specs.Volume.{entry_at, with_position};
+ghost use Rattle.lfs_volume.specs.Calls.{named, names_node, new_handle, with_entry};
+ghost use Rattle.lfs_fs.specs.FlagsView.{flags_view};
+
+use bitflags::Flags;
+use lfs_fs::OpenFlags;
+
+/// A handle on a node: where the next read or write begins, and what it may do.
+#[derive(Clone, Copy)]
+pub struct Handle {
+    pub node: usize,
+    pub position: u32,
+    pub reads: bool,
+    pub writes: bool,
+    pub appends: bool,
+}
+
+// Returns a handle on a node, at the beginning of the file.
+pub(crate) fn new_handle(node: usize, flags: OpenFlags) -> Handle
+    ensures { result ≡ new_handle node (flags_view flags) }
+{
+    Handle {
+        node,
+        position: 0,
+        reads: flags.contains(OpenFlags::READ),
+        writes: flags.contains(OpenFlags::WRITE),
+        appends: flags.contains(OpenFlags::APPEND),
+    }
+}
+
+// Returns the handle of that number.
+pub(crate) fn handle_at(handles: &[Option<Handle>], handle: u32) -> Option<Handle>
+    ensures { result ≡ entry_at handles.now handle }
+{
+    match handles.get(handle as usize) {
+        Some(entry) => *entry,
+        None => None,
+    }
+}
+
+// Returns the least number that is free.
+pub(crate) fn free_entry<T>(entries: &[Option<T>]) -> usize
+    ensures { result ≡ position_or_len is_none entries.now }
+{
+    let mut number = 0;
+    for entry in entries {
+        if entry.is_none() {
+            return number;
+        }
+        number += 1;
+    }
+    number
+}
+
+// Puts an entry under a number, for which there is room.
+pub(crate) fn put_entry<T: Drop>(entries: &mut Vec<Option<T>>, index: usize, entry: T)
+    requires { vec_len entries.old < vec_capacity entries.old }
+    ensures { entries.new.items ≡ with_entry entries.old.items index (Some entry) }
+{
+    if index < entries.len() {
+        entries[index] = Some(entry);
+    } else {
+        entries.push_reserved(Some(entry));
+    }
+}
+
+// Makes a number free.
+pub(crate) fn free_at<T: Drop>(entries: &mut Vec<Option<T>>, index: usize)
+    ensures { entries.new.items ≡ slice_set entries.old.items index None }
+{
+    if index < entries.len() {
+        entries[index] = None;
+    }
+}
+
+// Returns whether a handle names the node.
+pub(crate) fn is_named(handles: &[Option<Handle>], node: usize) -> bool
+    ensures { result ≡ named handles.now node }
+{
+    for entry in handles {
+        if names_node(entry, node) {
+            return true;
+        }
+    }
+    false
+}
+
+fn names_node(entry: &Option<Handle>, node: usize) -> bool
+    ensures { result ≡ names_node node entry.now }
+{
+    match entry {
+        Some(handle) => handle.node == node,
+        None => false,
+    }
+}
+
+// Sets the position of a handle.
+pub(crate) fn set_position(handles: &mut Vec<Option<Handle>>, handle: u32, position: u32)
+    ensures { handles.new.items ≡ slice_set handles.old.items handle (option_map (with_position position) (entry_at handles.old.items handle)) }
+{
+    let index = handle as usize;
+    if index < handles.len() {
+        if let Some(found) = &mut handles[index] {
+            found.position = position;
+        }
+    }
+}

@@ -1,0 +1,23 @@
+// SPDX-License-Identifier: BSD-3-Clause
+//! Volumes over a littlefs image: any number of open files, for reading and writing both, several
+//! handles on one file, and files that are open while they are renamed or removed.
+#![tactic(auto)]
+
+mod bytes;
+mod flags;
+mod handles;
+mod hull;
+mod laws;
+mod loads;
+mod node;
+mod nodes;
+mod saves;
+mod volume;
+
+pub use flags::allows_volume_flags;
+pub use laws::{
+    replied_volume_works, stop_in_volume_call_leaves_either_tree, volume_call_is_a_run,
+};
+pub use lfs_device::Error;
+pub use lfs_fs::{Gstate, Item, Kind, OpenFlags, Stat};
+pub use volume::{Volume, format, mount};

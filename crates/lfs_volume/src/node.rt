@@ -1,0 +1,190 @@
+// A node: an open file, whose contents are in memory once they were read or written.
+
+ghost use Rattle.std.specs.Prelude.{◌≡◌, ◌+◌, ◌<◌, ◌≤◌, ◌^◌, ◌==◌, [], length, List, ℕ, IfOk, IfSome, IsSome, None, Some, OnErr, OnOk, is_some, unwrap_or, true};
+ghost use Rattle.std.specs.Option.{option_map};
+ghost use Rattle.lfs_volume.specs.Volume.{loaded_node, opened_node, resized_node, synced_node, unlinked_node, written_node};
+ghost use Rattle.lfs_model.specs.format.Names.{same_name};
+ghost use Rattle.lfs_volume.specs.Calls.{has_path};
+
+use crate::bytes::{resize_bytes, write_bytes};
+use crate::hull::{Hull, hull_with, resized_hull};
+use std::alloc::{AllocError, Global};
+use std::marker::Model;
+
+/// An open file.
+#[derive(Drop)]
+pub struct Node {
+    // None once the file was removed or replaced.
+    path: Option<Vec<u8>>,
+    // How many bytes the file has, with what isn't synced.
+    size: u32,
+    // None as long as nothing was read or written.
+    contents: Option<Vec<u8>>,
+    // Where the contents aren't what is stored, if they aren't.
+    hull: Option<Hull>,
+}
+
+impl Model for Node {
+    ghost use Rattle.std.specs.Option.{option_map};
+    ghost use Rattle.lfs_volume.specs.Volume.{NodeView};
+    ghost use Rattle.lfs_volume.specs.Nodes.{IsNode};
+
+    ghost Value = { NodeView };
+
+    ghost view = { λ n. record { path = option_map (λ v. v.items) n.path; size = n.size; contents = option_map (λ v. v.items) n.contents; hull = n.hull } };
+
+    ghost invariant = { λ n. IsNode n.size (option_map (λ v. v.items) n.contents) n.hull };
+}
+
+impl Node {
+    // Returns the node of a file that was just opened.
+    pub(crate) fn opened(path: Vec<u8>, size: u32) -> Node
+        ensures { result ≡ opened_node path.items size }
+    {
+        Node {
+            path: Some(path),
+            size,
+            contents: None,
+            hull: None,
+        }
+    }
+
+    // Returns the path, unless the file was removed or replaced.
+    pub(crate) fn path(&self) -> Option<&[u8]>
+        ensures { option_map (λ p. p.now) result ≡ self.now.path }
+    {
+        match &self.path {
+            Some(path) => Some(path.as_slice()),
+            None => None,
+        }
+    }
+
+    // Returns how many bytes the file has.
+    pub(crate) fn size(&self) -> u32
+        ensures { result ≡ self.now.size }
+    {
+        self.size
+    }
+
+    // Returns the contents, if they are in memory.
+    pub(crate) fn contents(&self) -> Option<&[u8]>
+        ensures is { option_map (λ p. p.now) result ≡ self.now.contents }
+        ensures size { IfSome result (λ p. length p.now ≡ self.now.size) }
+        ensures small { self.now.size < 2 ^ 32 }
+    {
+        let _size = self.size;
+        match &self.contents {
+            Some(contents) => Some(contents.as_slice()),
+            None => None,
+        }
+    }
+
+    // Returns whether the contents are in memory.
+    pub(crate) fn is_loaded(&self) -> bool
+        ensures { result ≡ is_some self.now.contents }
+    {
+        self.contents.is_some()
+    }
+
+    // Returns where the contents aren't what is stored.
+    pub(crate) fn hull(&self) -> Option<Hull>
+        ensures is { result ≡ self.now.hull }
+        ensures within { IfSome result (λ h. (h.from ≤ h.end) × (h.end ≤ self.now.size)) }
+        ensures loaded { IfSome result (λ _. IsSome self.now.contents) }
+    {
+        self.hull
+    }
+
+    // Returns whether the node has that path.
+    pub(crate) fn has_path(&self, path: &[u8]) -> bool
+        ensures { result ≡ has_path path.now (Some self.now) }
+    {
+        match &self.path {
+            Some(own) => is_same_path(own.as_slice(), path),
+            None => false,
+        }
+    }
+
+    // Keeps the bytes of the file, as many as the node has, in memory.
+    pub(crate) fn keep_contents(&mut self, contents: Vec<u8>)
+        requires { length contents.items ≡ self.old.size }
+        ensures { self.new ≡ loaded_node contents.items self.old }
+    {
+        self.contents = Some(contents);
+    }
+
+    // Writes bytes into the contents at a place. Zeros fill a gap before them.
+    pub(crate) fn write(&mut self, at: u32, bytes: &[u8]) -> Result<(), AllocError>
+        requires { at + length bytes.now < 2 ^ 31 }
+        ensures ok { OnOk result (IsSome self.old.contents → self.new ≡ written_node at bytes.now (unwrap_or self.old.contents []) self.old) }
+        ensures err { OnErr result (self.new ≡ self.old) }
+    {
+        let Some(contents) = &mut self.contents else {
+            return Ok(());
+        };
+        if bytes.is_empty() {
+            return Ok(());
+        }
+        write_bytes(contents, at as usize, bytes)?;
+        let end = at + bytes.len() as u32;
+        self.hull = Some(hull_with(self.hull, at.min(self.size), end));
+        self.size = self.size.max(end);
+        Ok(())
+    }
+
+    // Gives the contents that many bytes: they are cut, or zeros fill them up.
+    pub(crate) fn resize(&mut self, size: u32) -> Result<(), AllocError>
+        ensures ok { OnOk result (IsSome self.old.contents → self.new ≡ resized_node size (unwrap_or self.old.contents []) self.old) }
+        ensures err { OnErr result (self.new ≡ self.old) }
+    {
+        let Some(contents) = &mut self.contents else {
+            return Ok(());
+        };
+        if size == self.size {
+            return Ok(());
+        }
+        resize_bytes(contents, size as usize)?;
+        self.hull = Some(resized_hull(self.hull, self.size, size));
+        self.size = size;
+        Ok(())
+    }
+
+    // Makes the contents empty, whether they are in memory or not.
+    pub(crate) fn clear(&mut self, alloc: Global)
+        ensures { self.new ≡ resized_node 0 [] self.old }
+    {
+        if self.size > 0 {
+            self.contents = Some(Vec::new(alloc));
+            self.hull = Some(resized_hull(self.hull, self.size, 0));
+            self.size = 0;
+        }
+    }
+
+    // Notes that the contents are stored.
+    pub(crate) fn note_synced(&mut self)
+        ensures { self.new ≡ synced_node self.old }
+    {
+        self.hull = None;
+    }
+
+    // Takes the path away. The contents stay.
+    pub(crate) fn unlink(&mut self)
+        ensures { self.new ≡ unlinked_node self.old }
+    {
+        self.path = None;
+        self.hull = None;
+    }
+
+    // Gives the node another path.
+    pub(crate) fn set_path(&mut self, path: Vec<u8>)
+        ensures { self.new ≡ record self.old { path = Some path.items } }
+    {
+        self.path = Some(path);
+    }
+}
+
+fn is_same_path(path: &[u8], other: &[u8]) -> bool
+    ensures { result ≡ same_name path.now other.now }
+{
+    path == other
+}

@@ -1,0 +1,316 @@
+// The open files of a volume.
+
+ghost use Rattle.std.specs.Prelude.{◌≡◌, ◌+◌, ◌<◌, ◌≤◌, ◌^◌, [], if◌then◌else◌, IfErr, IfOk, OnErr, OnOk, List, ℕ, None, Some, drop, length, slice_set, take, unwrap_or};
+ghost use Rattle.std.specs.List.{position_or_len};
+ghost use Rattle.std.specs.Option.{option_map};
+ghost use Rattle.lfs_tree.specs.TreeState.{shown_tree};
+ghost use Rattle.lfs_volume.specs.Calls.{has_path, named};
+ghost use Rattle.lfs_volume.specs.Opened.{IsIdle};
+ghost use Rattle.lfs_volume.specs.SessionCalls.{FailsInCalls};
+ghost use Rattle.lfs_volume.specs.Volume.{NodeView, entry_at, resized_node, write_place, written_node};
+ghost use Rattle.lfs_volume.specs.VolumeCalls.{AreStoredBytes, EndsNodeSync, EndsSyncAt, IsLoadedAt, IsNodeLoaded, IsNodeSynced, IsSoundAt, IsSoundNode, IsSyncedAt};
+
+use crate::bytes::{bytes_from, copy_of};
+use crate::handles::{Handle, free_at, is_named};
+use crate::loads::load;
+use crate::node::Node;
+use crate::saves::save;
+use lfs_device::{BlockDevice, Error};
+use lfs_fs::Session;
+use std::alloc::{AllocError, Global};
+
+// Returns the number of the node with that path, or how many numbers there are.
+pub(crate) fn node_with_path(nodes: &[Option<Node>], path: &[u8]) -> usize
+    ensures { result ≡ position_or_len (has_path path.now) nodes.now }
+{
+    let mut number = 0;
+    for entry in nodes {
+        if is_at_path(entry, path) {
+            return number;
+        }
+        number += 1;
+    }
+    number
+}
+
+fn is_at_path(entry: &Option<Node>, path: &[u8]) -> bool
+    ensures { result ≡ has_path path.now entry.now }
+{
+    match entry {
+        Some(node) => node.has_path(path),
+        None => false,
+    }
+}
+
+// Returns the bytes that are stored of a node: none, where the file was removed.
+//
+// Errors: those of a load.
+fn stored_bytes<D: BlockDevice>(
+    alloc: Global,
+    session: &mut Session<D>,
+    node: &Node,
+) -> Result<Vec<u8>, Error>
+    ensures are { IfOk result (λ v. IsIdle session.old (shown_tree session.old.tree) → AreStoredBytes session.old node.now session.new v.items) }
+    ensures failed { IfErr result (λ e. IsIdle session.old (shown_tree session.old.tree) → IsSoundNode session.old node.now → FailsInCalls e session.old session.new) }
+{
+    match node.path() {
+        Some(path) => {
+            let bytes = load(alloc, session, path)?;
+            Ok(bytes)
+        }
+        None => Ok(Vec::new(alloc)),
+    }
+}
+
+// Brings a node's bytes into memory, where they aren't yet.
+//
+// Errors: those of a load. `Corrupt` where the file has another size than the node, which no file of
+// a volume has.
+pub(crate) fn load_node<D: BlockDevice>(
+    alloc: Global,
+    session: &mut Session<D>,
+    node: &mut Node,
+) -> Result<(), Error>
+    ensures loaded { IfOk result (λ _. IsIdle session.old (shown_tree session.old.tree) → IsSoundNode session.old node.old → IsNodeLoaded session.old node.old session.new node.new) }
+    ensures failed { IfErr result (λ e. IsIdle session.old (shown_tree session.old.tree) → IsSoundNode session.old node.old → FailsInCalls e session.old session.new) }
+{
+    if node.is_loaded() {
+        return Ok(());
+    }
+    let bytes = stored_bytes(alloc, session, node)?;
+    if bytes.len() != node.size() as usize {
+        return Err(Error::Corrupt);
+    }
+    node.keep_contents(bytes);
+    Ok(())
+}
+
+// Stores what changed of a node. Nothing is called where nothing changed, or where the node has no
+// path.
+//
+// Errors: those of a save.
+pub(crate) fn sync_node<D: BlockDevice>(
+    alloc: Global,
+    session: &mut Session<D>,
+    node: &mut Node,
+) -> Result<(), Error>
+    ensures synced { IfOk result (λ _. IsIdle session.old (shown_tree session.old.tree) → IsSoundNode session.old node.old → IsNodeSynced session.old node.old session.new node.new) }
+    ensures ended { IfErr result (λ e. IsIdle session.old (shown_tree session.old.tree) → IsSoundNode session.old node.old → EndsNodeSync e session.old node.old session.new) }
+    ensures kept { OnErr result (node.new ≡ node.old) }
+{
+    let Some(hull) = node.hull() else {
+        return Ok(());
+    };
+    let Some(path) = node.path() else {
+        return Ok(());
+    };
+    let Some(contents) = node.contents() else {
+        return Ok(());
+    };
+    save(alloc, session, path, contents, hull)?;
+    node.note_synced();
+    Ok(())
+}
+
+// Brings the bytes of the node with that number into memory, if there is one.
+pub(crate) fn load_at<D: BlockDevice>(
+    alloc: Global,
+    session: &mut Session<D>,
+    nodes: &mut Vec<Option<Node>>,
+    number: usize,
+) -> Result<(), Error>
+    ensures loaded { IfOk result (λ _. IsIdle session.old (shown_tree session.old.tree) → IsSoundAt session.old nodes.old.items number → IsLoadedAt session.old nodes.old.items number session.new nodes.new.items) }
+    ensures failed { IfErr result (λ e. IsIdle session.old (shown_tree session.old.tree) → IsSoundAt session.old nodes.old.items number → FailsInCalls e session.old session.new) }
+{
+    if number >= nodes.len() {
+        return Ok(());
+    }
+    match &mut nodes[number] {
+        Some(node) => {
+            load_node(alloc, session, node)?;
+            Ok(())
+        }
+        None => Ok(()),
+    }
+}
+
+// Stores what changed of the node with that number, if there is one.
+pub(crate) fn sync_at<D: BlockDevice>(
+    alloc: Global,
+    session: &mut Session<D>,
+    nodes: &mut Vec<Option<Node>>,
+    number: usize,
+) -> Result<(), Error>
+    ensures synced { IfOk result (λ _. IsIdle session.old (shown_tree session.old.tree) → IsSoundAt session.old nodes.old.items number → IsSyncedAt session.old nodes.old.items number session.new nodes.new.items) }
+    ensures ended { IfErr result (λ e. IsIdle session.old (shown_tree session.old.tree) → IsSoundAt session.old nodes.old.items number → EndsSyncAt e session.old nodes.old.items number session.new) }
+    ensures kept { OnErr result (nodes.new.items ≡ nodes.old.items) }
+{
+    if number >= nodes.len() {
+        return Ok(());
+    }
+    match &mut nodes[number] {
+        Some(node) => {
+            sync_node(alloc, session, node)?;
+            Ok(())
+        }
+        None => Ok(()),
+    }
+}
+
+// Returns the node with that number.
+pub(crate) fn node_at(nodes: &[Option<Node>], number: usize) -> Option<&Node>
+    ensures { option_map (λ n. n.now) result ≡ entry_at nodes.now number }
+{
+    match nodes.get(number) {
+        Some(Some(node)) => Some(node),
+        _ => None,
+    }
+}
+
+// Returns the bytes of a node from a place on, at most `count`.
+pub(crate) fn bytes_of(node: &Node, at: u32, count: usize) -> &[u8]
+    ensures few { length result.now ≤ count }
+    ensures are { result.now ≡ take count (drop at (unwrap_or node.now.contents [])) }
+    ensures fits { at + length result.now < 2 ^ 32 }
+{
+    match node.contents() {
+        Some(contents) => bytes_from(contents, at as usize, count),
+        None => &[],
+    }
+}
+
+// Returns where a handle writes.
+pub(crate) fn write_place(found: Handle, node: &Node) -> u32
+    ensures { result ≡ write_place found node.now }
+{
+    if found.appends {
+        node.size()
+    } else {
+        found.position
+    }
+}
+
+// Makes the number of a node free, if no handle names the node.
+pub(crate) fn drop_unnamed(handles: &[Option<Handle>], nodes: &mut Vec<Option<Node>>, number: usize)
+    ensures { nodes.new.items ≡ (if named handles.now number then nodes.old.items else slice_set nodes.old.items number None) }
+{
+    if !is_named(handles, number) {
+        free_at(nodes, number);
+    }
+}
+
+// Writes bytes into the contents of the node with that number, which are in memory.
+pub(crate) fn write_at(
+    nodes: &mut Vec<Option<Node>>,
+    number: usize,
+    at: u32,
+    bytes: &[u8],
+) -> Result<(), Error>
+    requires { at + length bytes.now < 2 ^ 31 }
+    ensures ok { OnOk result ((n : NodeView) (old : List ℕ) → entry_at nodes.old.items number ≡ Some n → n.contents ≡ Some old → nodes.new.items ≡ slice_set nodes.old.items number (Some (written_node at bytes.now old n))) }
+    ensures none { IfErr result (λ e. e ≡ Error.NoMemory) }
+    ensures err { OnErr result (nodes.new.items ≡ nodes.old.items) }
+{
+    if number >= nodes.len() {
+        return Ok(());
+    }
+    match &mut nodes[number] {
+        Some(node) => match node.write(at, bytes) {
+            Ok(()) => Ok(()),
+            Err(_) => Err(Error::NoMemory),
+        },
+        None => Ok(()),
+    }
+}
+
+// Gives the contents of the node with that number, which are in memory, that many bytes.
+pub(crate) fn resize_at(
+    nodes: &mut Vec<Option<Node>>,
+    number: usize,
+    size: u32,
+) -> Result<(), Error>
+    ensures ok { OnOk result ((n : NodeView) (old : List ℕ) → entry_at nodes.old.items number ≡ Some n → n.contents ≡ Some old → nodes.new.items ≡ slice_set nodes.old.items number (Some (resized_node size old n))) }
+    ensures none { IfErr result (λ e. e ≡ Error.NoMemory) }
+    ensures err { OnErr result (nodes.new.items ≡ nodes.old.items) }
+{
+    if number >= nodes.len() {
+        return Ok(());
+    }
+    match &mut nodes[number] {
+        Some(node) => match node.resize(size) {
+            Ok(()) => Ok(()),
+            Err(_) => Err(Error::NoMemory),
+        },
+        None => Ok(()),
+    }
+}
+
+// Makes the contents of the node with that number empty.
+pub(crate) fn clear_at(alloc: Global, nodes: &mut [Option<Node>], number: usize) {
+    if let Some(Some(node)) = nodes.get_mut(number) {
+        node.clear(alloc);
+    }
+}
+
+// Takes the path from the node that has it.
+pub(crate) fn unlink_path(nodes: &mut [Option<Node>], path: &[u8]) {
+    let number = node_with_path(nodes, path);
+    if let Some(Some(node)) = nodes.get_mut(number) {
+        node.unlink();
+    }
+}
+
+// Returns whether a path is another one, or is beneath it.
+fn is_at_or_beneath(old: &[u8], path: &[u8]) -> bool {
+    path.len() >= old.len()
+        && &path[..old.len()] == old
+        && (path.len() == old.len() || path[old.len()] == b'/')
+}
+
+// Returns the path that a node gets by a rename, if it moves.
+fn moved_path(
+    alloc: Global,
+    entry: &Option<Node>,
+    from: &[u8],
+    to: &[u8],
+) -> Result<Option<Vec<u8>>, AllocError> {
+    let Some(node) = entry else {
+        return Ok(None);
+    };
+    let Some(path) = node.path() else {
+        return Ok(None);
+    };
+    if !is_at_or_beneath(from, path) {
+        return Ok(None);
+    }
+    let mut moved = copy_of(alloc, to)?;
+    moved.extend_from_slice(&path[from.len().min(path.len())..])?;
+    Ok(Some(moved))
+}
+
+// Returns for each number the path that its node gets by a rename, if it moves.
+pub(crate) fn moved_paths(
+    alloc: Global,
+    nodes: &[Option<Node>],
+    from: &[u8],
+    to: &[u8],
+) -> Result<Vec<Option<Vec<u8>>>, AllocError> {
+    let mut paths = Vec::new(alloc);
+    for entry in nodes {
+        paths.push(moved_path(alloc, entry, from, to)?)?;
+    }
+    Ok(paths)
+}
+
+// Gives each node that moves its new path.
+pub(crate) fn move_nodes(nodes: &mut Vec<Option<Node>>, paths: Vec<Option<Vec<u8>>>) {
+    let mut number = 0usize;
+    for path in paths {
+        if let Some(path) = path {
+            if let Some(Some(node)) = nodes.get_mut(number) {
+                node.set_path(path);
+            }
+        }
+        number = number.saturating_add(1);
+    }
+}

@@ -1,0 +1,110 @@
+// How the session stores what changed of a file.
+
+ghost use Rattle.std.specs.Prelude.{◌≡◌, ◌≤◌, ◌+◌, ◌<◌, ◌^◌, ◌∷◌, [], ◌++◌, length, IfErr, IfOk, false, true, List, ℕ};
+ghost use Rattle.lfs_model.specs.format.Disk.{profile_file_max};
+ghost use Rattle.lfs_model.specs.session.Session.{list_block_count};
+ghost use Rattle.lfs_model.specs.tree.Tree.{Path, Tree};
+ghost use Rattle.lfs_lookup.specs.RefusalErrors.{is_refusal};
+ghost use Rattle.lfs_tree.specs.TreeState.{shown_tree};
+ghost use Rattle.lfs_model.specs.session.Operations as ops;
+ghost use Rattle.lfs_fs.specs.CallEffects.{IsCall};
+ghost use Rattle.lfs_volume.specs.Opened.{IsIdle, writing_flags};
+ghost use Rattle.lfs_volume.specs.Saves.{CanSave, CanWriteHull, EndsSave, IsOpenedAt, IsRoomAnswer, IsSaveRefused, IsSaved, IsWritten, opening_operations, writing_operations};
+ghost use Rattle.lfs_volume.specs.SessionCalls.{EndsInCall, error_result};
+
+use crate::hull::Hull;
+use lfs_device::{BlockDevice, Error, Geometry};
+use lfs_file::blocks_for;
+use lfs_fs::{OpenFlags, Session};
+use std::alloc::Global;
+
+// Returns how many blocks a file of so many bytes takes until it is stored.
+fn saving_need(geometry: Geometry, size: u32) -> u64
+    ensures need { result ≡ 2 + list_block_count geometry.profile geometry.block_size size }
+    ensures few { result < 2 ^ 34 }
+{
+    if size <= geometry.inline_limit() {
+        2
+    } else {
+        2 + u64::from(blocks_for(geometry.block_size, size))
+    }
+}
+
+// Returns whether there is room to store a file of so many bytes.
+fn has_saving_room<D: BlockDevice>(session: &Session<D>, size: u32) -> Result<bool, Error>
+    ensures { session.now.tree.failed ≡ false → IsRoomAnswer session.now size result }
+{
+    let used = session.used_count()?;
+    let geometry = session.device().geometry();
+    Ok(u64::from(used) + saving_need(geometry, size) <= u64::from(geometry.block_count))
+}
+
+// Opens a file for writing, and sets the position. Returns its number.
+fn open_at<D: BlockDevice>(
+    alloc: Global,
+    session: &mut Session<D>,
+    path: &[u8],
+    from: u32,
+) -> Result<u32, Error>
+    ensures opened { IfOk result (λ fd. IsIdle session.old (shown_tree session.old.tree) → IsOpenedAt session.old path.now from fd session.new) }
+    ensures ended { IfErr result (λ e. IsIdle session.old (shown_tree session.old.tree) → EndsInCall e session.old (opening_operations path.now from) session.new) }
+    ensures refused { IfErr result (λ e. IsIdle session.old (shown_tree session.old.tree) → from ≤ profile_file_max session.old.tree.disk.profile → is_refusal e ≡ true → IsCall session.old (ops.Open path.now writing_flags) (error_result e) session.new) }
+{
+    let fd = session.open(alloc, path, OpenFlags::WRITE)?;
+    session.seek(fd, from)?;
+    Ok(fd)
+}
+
+// Gives the open file its new length, where that is shorter, and writes the hull.
+fn write_hull<D: BlockDevice>(
+    alloc: Global,
+    session: &mut Session<D>,
+    fd: u32,
+    bytes: &[u8],
+    hull: Hull,
+) -> Result<(), Error>
+    requires order { hull.from ≤ hull.end }
+    requires inside { hull.end ≤ length bytes.now }
+    requires small { length bytes.now < 2 ^ 32 }
+    ensures written { IfOk result (λ _. (tree : Tree) (path : Path) (stored : List ℕ) → fd ≡ 0 → CanWriteHull session.old tree path stored bytes.now hull → IsWritten session.old tree path stored bytes.now hull session.new) }
+    ensures ended { IfErr result (λ e. (tree : Tree) (path : Path) (stored : List ℕ) → fd ≡ 0 → CanWriteHull session.old tree path stored bytes.now hull → EndsInCall e session.old (writing_operations (length stored) bytes.now hull) session.new) }
+    ensures failed { IfErr result (λ e. (tree : Tree) (path : Path) (stored : List ℕ) → fd ≡ 0 → CanWriteHull session.old tree path stored bytes.now hull → is_refusal e ≡ false) }
+{
+    let size = bytes.len() as u32;
+    if size < session.size(fd)? {
+        session.truncate(alloc, fd, size)?;
+    }
+    session.write(alloc, fd, &bytes[hull.from as usize..hull.end as usize])?;
+    Ok(())
+}
+
+// Stores the new bytes of a file, which differ from the stored ones in the hull alone. The room is
+// asked for before anything is written. The tree changes when the file is closed, and not before.
+//
+// Errors: those of the session's `open` for writing, and `NoSpace` where there are fewer blocks than
+// the file takes: nothing has changed then. `Io`, and `NoMemory` within the session: the session has
+// failed then.
+pub(crate) fn save<D: BlockDevice>(
+    alloc: Global,
+    session: &mut Session<D>,
+    path: &[u8],
+    bytes: &[u8],
+    hull: Hull,
+) -> Result<(), Error>
+    requires order { hull.from ≤ hull.end }
+    requires inside { hull.end ≤ length bytes.now }
+    requires small { length bytes.now < 2 ^ 32 }
+    ensures saved { IfOk result (λ _. CanSave session.old path.now bytes.now hull → IsSaved session.old path.now bytes.now hull session.new) }
+    ensures ended { IfErr result (λ e. CanSave session.old path.now bytes.now hull → EndsSave e session.old path.now bytes.now hull session.new) }
+    ensures refused { IfErr result (λ e. CanSave session.old path.now bytes.now hull → IsSaveRefused e session.old path.now bytes.now hull session.new) }
+{
+    let fd = open_at(alloc, session, path, hull.from)?;
+    let has_room = has_saving_room(session, bytes.len() as u32)?;
+    if has_room {
+        write_hull(alloc, session, fd, bytes, hull)?;
+        session.close(alloc, fd)
+    } else {
+        session.close(alloc, fd)?;
+        Err(Error::NoSpace)
+    }
+}

@@ -1,0 +1,555 @@
+// A volume, and its calls.
+
+ghost use Rattle.std.specs.Prelude.{◌≡◌, ◌+◌, ◌<◌, ◌≤◌, ◌^◌, ℕ, [], true, IfErr, IfOk, Ok, OnOk, Some, drop, length, map, take, unwrap_or};
+ghost use Rattle.lfs_model.specs.format.Disk.{profile_file_max};
+ghost use Rattle.lfs_model.specs.session.Operations as ops;
+ghost use Rattle.lfs_fs.specs.GstateView.{returned_gstate_reply};
+ghost use Rattle.lfs_fs.specs.Replies.{reply_from};
+ghost use Rattle.lfs_lookup.specs.Finds.{listed_item_view, stat_view};
+ghost use Rattle.lfs_volume.specs.Calls as calls;
+ghost use Rattle.lfs_volume.specs.SessionCalls.{error_result};
+ghost use Rattle.lfs_volume.specs.Volume.{NodeView, VolumeView, entry_at};
+ghost use Rattle.lfs_volume.specs.VolumeCalls.{FitsAt, IsDropped, IsFoundHandle, IsReadyToRead, IsSound, IsSoundVolume, IsTooLong, IsVolumeCall, IsWorking};
+
+use crate::bytes::{copied, copy_into, copy_of};
+use crate::flags::{allows_volume_flags, session_flags};
+use crate::handles::{Handle, free_at, free_entry, handle_at, new_handle, put_entry, set_position};
+use crate::loads::find_file;
+use crate::node::Node;
+use crate::nodes::{
+    bytes_of, clear_at, drop_unnamed, load_at, move_nodes, moved_paths, node_at, node_with_path,
+    resize_at, sync_at, unlink_path, write_at, write_place,
+};
+use bitflags::Flags;
+use lfs_device::{BlockDevice, Error};
+use lfs_fs::{Gstate, Item, OpenFlags, Session, Stat};
+use std::alloc::Global;
+use std::marker::Model;
+
+/// A volume: a tree of files on a device, and any number of open files.
+///
+/// A file may be open under several handles, for reading and writing both. All of them see the same
+/// bytes at once. Their positions are their own. What was written is in the tree after a sync or a
+/// close. A file that is open may be renamed and removed.
+///
+/// A call may be refused, or fail. After a refusal nothing has changed. It fails with `Io` where a
+/// call of the device failed, with `NoMemory` where the session wants memory that isn't granted, and
+/// a remount with `Corrupt`, too. After that each call but [`remount`](Volume::remount) returns
+/// `Failed`. Where the volume itself wants memory, for a handle, a node or its bytes, the error is
+/// `NoMemory` too; the volume works on, and all is as it was.
+#[derive(Drop)]
+pub struct Volume<D: BlockDevice> {
+    session: Session<D>,
+    nodes: Vec<Option<Node>>,
+    handles: Vec<Option<Handle>>,
+}
+
+impl<D: BlockDevice> Model for Volume<D> {
+    ghost use Rattle.lfs_volume.specs.Volume.{VolumeView};
+
+    ghost Value = { VolumeView };
+
+    ghost view = { λ v. record { session = v.session; nodes = v.nodes.items; handles = v.handles.items } };
+}
+
+impl<D: BlockDevice> Volume<D> {
+    // Returns `Failed` where the session has failed.
+    fn check_works(&self) -> Result<(), Error>
+        ensures works { OnOk result (IsWorking self.now.session) }
+        ensures failed { IfErr result (λ e. (e ≡ Error.Failed) × (self.now.session.tree.failed ≡ true)) }
+    {
+        self.session.used_count()?;
+        Ok(())
+    }
+
+    // Returns the handle of that number, in a volume that works.
+    fn find_handle(&self, handle: u32) -> Result<Handle, Error>
+        ensures { IsFoundHandle self.now handle result }
+    {
+        self.check_works()?;
+        match handle_at(&self.handles, handle) {
+            Some(found) => Ok(found),
+            None => Err(Error::BadFile),
+        }
+    }
+
+    /// Opens a file, for reading, for writing or for both, and returns the handle's number: the least
+    /// that isn't open. The position is 0. A file that is made is in the tree at once. One that is
+    /// cut to nothing is empty for all its handles, and in the tree after a sync.
+    ///
+    /// # Errors
+    ///
+    /// `Invalid` where the flags aren't allowed together; the refusals of a session's `open`, for
+    /// writing where the file is to be written, but never `Busy`.
+    pub fn open(&mut self, alloc: Global, path: &[u8], flags: OpenFlags) -> Result<u32, Error> {
+        self.check_works()?;
+        if !allows_volume_flags(flags) {
+            return Err(Error::Invalid);
+        }
+        self.handles.reserve(1)?;
+        self.nodes.reserve(1)?;
+        let own_path = copy_of(alloc, path)?;
+        let number = free_entry(&self.handles);
+        if number > u32::MAX as usize {
+            return Err(Error::NoMemory);
+        }
+        let size = find_file(alloc, &mut self.session, path, session_flags(flags))?;
+        let mut place = node_with_path(&self.nodes, path);
+        if place >= self.nodes.len() {
+            place = free_entry(&self.nodes);
+            put_entry(&mut self.nodes, place, Node::opened(own_path, size));
+        }
+        if flags.contains(OpenFlags::TRUNCATE) {
+            clear_at(alloc, &mut self.nodes, place);
+        }
+        put_entry(&mut self.handles, number, new_handle(place, flags));
+        Ok(number as u32)
+    }
+
+    // Returns the most bytes that a file may have.
+    fn file_max(&self) -> u32
+        ensures { result ≡ profile_file_max self.now.session.tree.disk.profile }
+    {
+        self.session.device().geometry().file_max()
+    }
+
+    // Returns the handle of that number, which is open for reading, with the bytes of its node in
+    // memory.
+    fn handle_to_read(&mut self, alloc: Global, handle: u32) -> Result<Handle, Error>
+        ensures found { IfOk result (λ h. IsSoundVolume self.old → IsReadyToRead self.old handle h self.new) }
+        ensures ended { IfErr result (λ e. (count : ℕ) → IsSoundVolume self.old → IsVolumeCall self.old (calls.Read handle count) (error_result e) self.new) }
+        ensures sound { IsSoundVolume self.old → IsSound self.new }
+    {
+        let found = self.find_handle(handle)?;
+        if !found.reads {
+            return Err(Error::BadFile);
+        }
+        load_at(alloc, &mut self.session, &mut self.nodes, found.node)?;
+        Ok(found)
+    }
+
+    // Returns the bytes from a handle's position on, at most `count`.
+    fn bytes_at(&self, found: Handle, count: usize) -> &[u8]
+        ensures few { length result.now ≤ count }
+        ensures are { (n : NodeView) → entry_at self.now.nodes found.node ≡ Some n → result.now ≡ take count (drop found.position (unwrap_or n.contents [])) }
+        ensures fits { found.position + length result.now < 2 ^ 32 }
+    {
+        match node_at(&self.nodes, found.node) {
+            Some(node) => bytes_of(node, found.position, count),
+            None => &[],
+        }
+    }
+
+    /// Returns the bytes of a file from the handle's position on, at most `count`. There are fewer
+    /// where the file ends. The position advances by as many.
+    ///
+    /// # Errors
+    ///
+    /// `BadFile` where no handle of that number is open for reading.
+    pub fn read(&mut self, alloc: Global, handle: u32, count: u32) -> Result<Vec<u8>, Error>
+        ensures call { IsSoundVolume self.old → IsVolumeCall self.old (calls.Read handle count) (reply_from (λ v. ops.Bytes v.items) result) self.new }
+        ensures sound { IsSoundVolume self.old → IsSound self.new }
+    {
+        let found = self.handle_to_read(alloc, handle)?;
+        let bytes = copied(alloc, self.bytes_at(found, count as usize))?;
+        let position = found.position + bytes.len() as u32;
+        set_position(&mut self.handles, handle, position);
+        Ok(bytes)
+    }
+
+    /// Reads the bytes of a file into a buffer, as [`read`](Volume::read) does. Returns how many
+    /// these are; the rest of the buffer stays.
+    ///
+    /// # Errors
+    ///
+    /// `BadFile` where no handle of that number is open for reading.
+    pub fn read_into(&mut self, alloc: Global, handle: u32, buf: &mut [u8]) -> Result<usize, Error>
+        ensures call { IfOk result (λ n. IsSoundVolume self.old → IsVolumeCall self.old (calls.Read handle (length buf.old)) (Ok (ops.Bytes (take n buf.new))) self.new) }
+        ensures rest { IfOk result (λ n. drop n buf.new ≡ drop n buf.old) }
+        ensures ended { IfErr result (λ e. IsSoundVolume self.old → IsVolumeCall self.old (calls.Read handle (length buf.old)) (error_result e) self.new) }
+        ensures sound { IsSoundVolume self.old → IsSound self.new }
+    {
+        let found = self.handle_to_read(alloc, handle)?;
+        let bytes = self.bytes_at(found, buf.len());
+        copy_into(buf, bytes);
+        let count = bytes.len();
+        set_position(&mut self.handles, handle, found.position + count as u32);
+        Ok(count)
+    }
+
+    // Returns where bytes are to be written, if the file may be so long.
+    fn place_to_write(&self, found: Handle, count: usize) -> Result<u32, Error>
+        ensures fits { IfOk result (λ at. FitsAt self.now found count at) }
+        ensures small { IfOk result (λ at. at + count < 2 ^ 31) }
+        ensures long { IfErr result (λ e. (e ≡ Error.TooBig) × IsTooLong self.now found count) }
+    {
+        let Some(node) = node_at(&self.nodes, found.node) else {
+            return Err(Error::TooBig);
+        };
+        let at = write_place(found, node);
+        let end = (at as usize).saturating_add(count);
+        if end.max(node.size() as usize) > self.file_max() as usize {
+            return Err(Error::TooBig);
+        }
+        Ok(at)
+    }
+
+    /// Writes bytes at the handle's position, or at the end of the file where it appends. Returns how
+    /// many these are. Zeros fill a gap before them, and the position is after them then. They are in
+    /// the tree after a sync or a close. All of them are written, or none.
+    ///
+    /// # Errors
+    ///
+    /// `BadFile` where no handle of that number is open for writing; `TooBig` where the file would
+    /// have more bytes than the profile allows.
+    pub fn write(&mut self, alloc: Global, handle: u32, bytes: &[u8]) -> Result<u32, Error>
+        ensures call { IsSoundVolume self.old → IsVolumeCall self.old (calls.Write handle bytes.now) (reply_from ops.Count result) self.new }
+        ensures sound { IsSoundVolume self.old → IsSound self.new }
+    {
+        let found = self.find_handle(handle)?;
+        if !found.writes {
+            return Err(Error::BadFile);
+        }
+        if bytes.len() == 0 {
+            return Ok(0);
+        }
+        let at = self.place_to_write(found, bytes.len())?;
+        load_at(alloc, &mut self.session, &mut self.nodes, found.node)?;
+        write_at(&mut self.nodes, found.node, at, bytes)?;
+        let count = bytes.len() as u32;
+        set_position(&mut self.handles, handle, at + count);
+        Ok(count)
+    }
+
+    /// Sets the position of a handle, in bytes from the file's beginning. It may be after the end.
+    ///
+    /// # Errors
+    ///
+    /// `BadFile` where no handle has that number; `Invalid` for a position past the profile's longest
+    /// file.
+    pub fn seek(&mut self, handle: u32, position: u32) -> Result<(), Error>
+        ensures call { IsSoundVolume self.old → IsVolumeCall self.old (calls.Seek handle position) (reply_from (λ _. ops.Done) result) self.new }
+        ensures sound { IsSoundVolume self.old → IsSound self.new }
+    {
+        self.find_handle(handle)?;
+        if position > self.file_max() {
+            return Err(Error::Invalid);
+        }
+        set_position(&mut self.handles, handle, position);
+        Ok(())
+    }
+
+    /// Returns the position of a handle, in bytes from the file's beginning.
+    ///
+    /// # Errors
+    ///
+    /// `BadFile` where no handle has that number.
+    pub fn position(&self, handle: u32) -> Result<u32, Error>
+        ensures { IsSoundVolume self.now → IsVolumeCall self.now (calls.Tell handle) (reply_from ops.Count result) self.now }
+    {
+        Ok(self.find_handle(handle)?.position)
+    }
+
+    /// Returns the size of an open file in bytes, with what isn't synced.
+    ///
+    /// # Errors
+    ///
+    /// `BadFile` where no handle has that number.
+    pub fn size(&self, handle: u32) -> Result<u32, Error>
+        ensures { IsSoundVolume self.now → IsVolumeCall self.now (calls.Size handle) (reply_from ops.Count result) self.now }
+    {
+        let found = self.find_handle(handle)?;
+        match node_at(&self.nodes, found.node) {
+            Some(node) => Ok(node.size()),
+            None => Err(Error::BadFile),
+        }
+    }
+
+    /// Gives an open file that many bytes: it is cut, or zeros fill it up. Positions stay.
+    ///
+    /// # Errors
+    ///
+    /// `BadFile` where no handle of that number is open for writing; `TooBig` where the size is more
+    /// than the profile allows.
+    pub fn truncate(&mut self, alloc: Global, handle: u32, size: u32) -> Result<(), Error>
+        ensures call { IsSoundVolume self.old → IsVolumeCall self.old (calls.Truncate handle size) (reply_from (λ _. ops.Done) result) self.new }
+        ensures sound { IsSoundVolume self.old → IsSound self.new }
+    {
+        let found = self.find_handle(handle)?;
+        if !found.writes {
+            return Err(Error::BadFile);
+        }
+        if size > self.file_max() {
+            return Err(Error::TooBig);
+        }
+        load_at(alloc, &mut self.session, &mut self.nodes, found.node)?;
+        resize_at(&mut self.nodes, found.node, size)?;
+        Ok(())
+    }
+
+    /// Brings what was written of an open file into the tree. Nothing is done where nothing was
+    /// written, or where the file was removed.
+    ///
+    /// # Errors
+    ///
+    /// `BadFile` where no handle has that number; `NoSpace` where fewer blocks are free than the file
+    /// takes anew: two, and those of a list of its length.
+    pub fn sync(&mut self, alloc: Global, handle: u32) -> Result<(), Error>
+        ensures call { IsSoundVolume self.old → IsVolumeCall self.old (calls.Sync handle) (reply_from (λ _. ops.Done) result) self.new }
+        ensures sound { IsSoundVolume self.old → IsSound self.new }
+    {
+        let found = self.find_handle(handle)?;
+        sync_at(alloc, &mut self.session, &mut self.nodes, found.node)?;
+        Ok(())
+    }
+
+    /// Syncs an open file, and closes the handle. The number is free then, even where the sync was
+    /// refused. What wasn't stored is lost if no other handle is open on the file.
+    ///
+    /// # Errors
+    ///
+    /// Errors are those of [`sync`](Volume::sync).
+    pub fn close(&mut self, alloc: Global, handle: u32) -> Result<(), Error>
+        ensures call { IsSoundVolume self.old → IsVolumeCall self.old (calls.Close handle) (reply_from (λ _. ops.Done) result) self.new }
+        ensures sound { IsSoundVolume self.old → IsSound self.new }
+    {
+        let found = self.find_handle(handle)?;
+        match sync_at(alloc, &mut self.session, &mut self.nodes, found.node) {
+            Ok(()) => {
+                self.drop_handle(handle, found);
+                Ok(())
+            }
+            Err(error) => {
+                self.drop_handle(handle, found);
+                Err(error)
+            }
+        }
+    }
+
+    // Makes a handle's number free. A node that no handle names is gone.
+    fn drop_handle(&mut self, handle: u32, found: Handle)
+        ensures { IsDropped self.old handle found self.new }
+    {
+        free_at(&mut self.handles, handle as usize);
+        drop_unnamed(&self.handles, &mut self.nodes, found.node);
+    }
+
+    /// Returns whether a path leads to a file or a directory, and a file's size as it is in the tree.
+    ///
+    /// # Errors
+    ///
+    /// Errors are those of a session's `stat`.
+    pub fn stat(&mut self, alloc: Global, path: &[u8]) -> Result<Stat, Error>
+        ensures call { IsSoundVolume self.old → IsVolumeCall self.old (calls.Perform (ops.Stat path.now)) (reply_from (λ stat. ops.StatIs (stat_view stat)) result) self.new }
+        ensures sound { IsSoundVolume self.old → IsSound self.new }
+    {
+        self.session.stat(alloc, path)
+    }
+
+    /// Returns the entries of a directory, in name order, with sizes as they are in the tree.
+    ///
+    /// # Errors
+    ///
+    /// Errors are those of a session's `list`.
+    pub fn list(&mut self, alloc: Global, path: &[u8]) -> Result<Vec<Item>, Error>
+        ensures call { IsSoundVolume self.old → IsVolumeCall self.old (calls.Perform (ops.ListAll path.now)) (reply_from (λ items. ops.Items (map listed_item_view items.items)) result) self.new }
+        ensures sound { IsSoundVolume self.old → IsSound self.new }
+    {
+        self.session.list(alloc, path)
+    }
+
+    /// Returns the bytes of an entry's attribute.
+    ///
+    /// # Errors
+    ///
+    /// Errors are those of a session's `get_attr`.
+    pub fn get_attr(&mut self, alloc: Global, path: &[u8], kind: u8) -> Result<Vec<u8>, Error>
+        ensures call { IsSoundVolume self.old → IsVolumeCall self.old (calls.Perform (ops.GetAttr path.now kind)) (reply_from (λ v. ops.Bytes v.items) result) self.new }
+        ensures sound { IsSoundVolume self.old → IsSound self.new }
+    {
+        self.session.get_attr(alloc, path, kind)
+    }
+
+    /// Returns the global state.
+    ///
+    /// # Errors
+    ///
+    /// `Failed` alone.
+    pub fn gstate(&self) -> Result<Gstate, Error>
+        ensures { IsSoundVolume self.now → IsVolumeCall self.now (calls.Perform ops.AskGstate) (reply_from returned_gstate_reply result) self.now }
+    {
+        self.session.gstate()
+    }
+
+    /// Returns whether the image uses a block.
+    ///
+    /// # Errors
+    ///
+    /// `Invalid` where the image has no such block.
+    pub fn is_used(&self, block: u32) -> Result<bool, Error>
+        ensures { IsSoundVolume self.now → IsVolumeCall self.now (calls.Perform (ops.IsUsed block)) (reply_from ops.Yes result) self.now }
+    {
+        self.session.is_used(block)
+    }
+
+    /// Returns how many blocks the image uses.
+    ///
+    /// # Errors
+    ///
+    /// `Failed` alone.
+    pub fn used_count(&self) -> Result<u32, Error>
+        ensures { IsSoundVolume self.now → IsVolumeCall self.now (calls.Perform ops.UsedCount) (reply_from ops.Count result) self.now }
+    {
+        self.session.used_count()
+    }
+
+    /// Makes an empty directory.
+    ///
+    /// # Errors
+    ///
+    /// Errors are those of a session's `mkdir`.
+    pub fn mkdir(&mut self, alloc: Global, path: &[u8]) -> Result<(), Error>
+        ensures call { IsSoundVolume self.old → IsVolumeCall self.old (calls.Perform (ops.Mkdir path.now)) (reply_from (λ _. ops.Done) result) self.new }
+        ensures sound { IsSoundVolume self.old → IsSound self.new }
+    {
+        self.session.mkdir(alloc, path)
+    }
+
+    /// Sets an attribute of an entry.
+    ///
+    /// # Errors
+    ///
+    /// Errors are those of a session's `set_attr`.
+    pub fn set_attr(
+        &mut self,
+        alloc: Global,
+        path: &[u8],
+        kind: u8,
+        value: &[u8],
+    ) -> Result<(), Error>
+        ensures call { IsSoundVolume self.old → IsVolumeCall self.old (calls.Perform (ops.SetAttr path.now kind value.now)) (reply_from (λ _. ops.Done) result) self.new }
+        ensures sound { IsSoundVolume self.old → IsSound self.new }
+    {
+        self.session.set_attr(alloc, path, kind, value)
+    }
+
+    /// Removes an attribute of an entry.
+    ///
+    /// # Errors
+    ///
+    /// Errors are those of a session's `remove_attr`.
+    pub fn remove_attr(&mut self, alloc: Global, path: &[u8], kind: u8) -> Result<(), Error>
+        ensures call { IsSoundVolume self.old → IsVolumeCall self.old (calls.Perform (ops.RemoveAttr path.now kind)) (reply_from (λ _. ops.Done) result) self.new }
+        ensures sound { IsSoundVolume self.old → IsSound self.new }
+    {
+        self.session.remove_attr(alloc, path, kind)
+    }
+
+    /// Ends what a loss of power left in the image.
+    ///
+    /// # Errors
+    ///
+    /// Errors are those of a session's `recover`.
+    pub fn recover(&mut self, alloc: Global) -> Result<(), Error>
+        ensures call { IsSoundVolume self.old → IsVolumeCall self.old (calls.Perform ops.Recover) (reply_from (λ _. ops.Done) result) self.new }
+        ensures sound { IsSoundVolume self.old → IsSound self.new }
+    {
+        self.session.recover(alloc)
+    }
+
+    /// Removes a file, or a directory without entries. A file that is open loses its path. Its
+    /// handles keep its bytes, which no sync brings back.
+    ///
+    /// # Errors
+    ///
+    /// Errors are those of a session's `remove`, but never `Busy`.
+    pub fn remove(&mut self, alloc: Global, path: &[u8]) -> Result<(), Error> {
+        self.check_works()?;
+        let place = node_with_path(&self.nodes, path);
+        load_at(alloc, &mut self.session, &mut self.nodes, place)?;
+        self.session.remove(alloc, path)?;
+        unlink_path(&mut self.nodes, path);
+        Ok(())
+    }
+
+    /// Gives an entry another path. Open files at the old path or beneath it go with it. One at the
+    /// new path loses its path, and its handles keep its bytes.
+    ///
+    /// # Errors
+    ///
+    /// Errors are those of a session's `rename`, but never `Busy`.
+    pub fn rename(&mut self, alloc: Global, from: &[u8], to: &[u8]) -> Result<(), Error> {
+        self.check_works()?;
+        if from == to {
+            return self.session.rename(alloc, from, to);
+        }
+        let place = node_with_path(&self.nodes, to);
+        load_at(alloc, &mut self.session, &mut self.nodes, place)?;
+        let paths = moved_paths(alloc, &self.nodes, from, to)?;
+        self.session.rename(alloc, from, to)?;
+        unlink_path(&mut self.nodes, to);
+        move_nodes(&mut self.nodes, paths);
+        Ok(())
+    }
+
+    /// Closes all handles, without what wasn't synced, and reads the device anew, after an error too.
+    ///
+    /// # Errors
+    ///
+    /// Errors are those of a session's `remount`.
+    pub fn remount(&mut self, alloc: Global) -> Result<(), Error>
+        ensures { IsSound self.new }
+    {
+        self.handles.clear();
+        self.nodes.clear();
+        self.session.remount(alloc)
+    }
+
+    /// Borrows the device, as the last call left it.
+    pub fn device(&self) -> &D {
+        self.session.device()
+    }
+
+    /// Ends the volume, and returns the device. Nothing is written: what wasn't synced is lost.
+    pub fn unmount(self) -> D {
+        self.session.unmount()
+    }
+}
+
+fn begin<D: BlockDevice>(alloc: Global, session: Session<D>) -> Volume<D>
+    ensures { result ≡ record { session = session; nodes = []; handles = [] } }
+{
+    Volume {
+        session,
+        nodes: Vec::new(alloc),
+        handles: Vec::new(alloc),
+    }
+}
+
+/// Begins a volume over the image of a device, as `lfs_fs::mount` begins a session.
+///
+/// # Errors
+///
+/// Errors are those of `lfs_fs::mount`.
+pub fn mount<D: BlockDevice>(alloc: Global, device: D) -> Result<Volume<D>, (D, Error)>
+    ensures { IfOk result (λ v. IsSoundVolume v) }
+{
+    match lfs_fs::mount(alloc, device) {
+        Ok(session) => Ok(begin(alloc, session)),
+        Err(back) => Err(back),
+    }
+}
+
+/// Makes an empty file system on a device, as `lfs_fs::format` does.
+///
+/// # Errors
+///
+/// Errors are those of `lfs_fs::format`.
+pub fn format<D: BlockDevice>(alloc: Global, device: D) -> Result<Volume<D>, (D, Error)>
+    ensures { IfOk result (λ v. IsSoundVolume v) }
+{
+    match lfs_fs::format(alloc, device) {
+        Ok(session) => Ok(begin(alloc, session)),
+        Err(back) => Err(back),
+    }
+}

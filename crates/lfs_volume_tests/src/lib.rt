@@ -1,0 +1,12 @@
+// SPDX-License-Identifier: BSD-3-Clause
+//! Tests of volumes, as rows of calls with the answers that are wanted.
+#![tactic(auto)]
+
+#[cfg(test)]
+mod changes;
+#[cfg(test)]
+mod paths;
+#[cfg(test)]
+mod rows;
+#[cfg(test)]
+mod space;

@@ -1,0 +1,66 @@
+// Files that have no room, and devices that fail.
+
+use crate::rows::Call::{Close, Open, Read, Remount, Size, Stat, Sync, Truncate, Write};
+use crate::rows::Want::{Bytes, Done, Number, Refused};
+use crate::rows::{Row, first_wrong_row, first_wrong_row_on_new};
+use bitflags::Flags;
+use lfs_device::{CountedCalls, Error, FaultDevice, Geometry, RamDevice};
+use lfs_volume::{OpenFlags, format};
+use std::alloc::Global;
+use std::test::Fail;
+
+// Eight blocks have six free ones: a file of four blocks is stored with the two that are held beside
+// it, and one of five isn't.
+#[test]
+fn a_sync_without_room_changes_nothing(rt: HostRuntime) -> Result<(), Fail> {
+    let new = OpenFlags::READ | OpenFlags::WRITE | OpenFlags::CREATE;
+    let four = [7u8; 4000];
+    let rows: [Row<'_>; 16] = [
+        (Open(b"/a", new), Number(0)),
+        (Write(0, b"small"), Number(5)),
+        (Sync(0), Done),
+        (Write(0, &four), Number(4000)),
+        (Write(0, &four), Number(4000)),
+        (Sync(0), Refused(Error::NoSpace)),
+        (Stat(b"/a"), Number(5)),
+        (Size(0), Number(8005)),
+        (Truncate(0, 4000), Done),
+        (Sync(0), Done),
+        (Stat(b"/a"), Number(4000)),
+        (Write(0, &four), Number(4000)),
+        (Close(0), Refused(Error::NoSpace)),
+        (Read(0, 1), Refused(Error::BadFile)),
+        (Open(b"/a", OpenFlags::READ), Number(0)),
+        (Size(0), Number(4000)),
+    ];
+    assert_eq!(rt; first_wrong_row_on_new(rt.alloc(), 8, &rows)?, None);
+    Ok(())
+}
+
+fn first_wrong_row_on_failing(alloc: Global, rows: &[Row<'_>]) -> Result<Option<usize>, Error> {
+    let device = RamDevice::blank(alloc, Geometry::new(1024, 128, 16)?)?;
+    match format(
+        alloc,
+        FaultDevice::new(device, CountedCalls::Program, 3, false),
+    ) {
+        Ok(mut volume) => Ok(first_wrong_row(alloc, &mut volume, rows)),
+        Err((_, error)) => Err(error),
+    }
+}
+
+#[test]
+fn a_failed_volume_answers_so_until_a_remount(rt: HostRuntime) -> Result<(), Fail> {
+    let new = OpenFlags::READ | OpenFlags::WRITE | OpenFlags::CREATE;
+    let rows: [Row<'_>; 8] = [
+        (Open(b"/a", new), Number(0)),
+        (Write(0, b"bytes"), Number(5)),
+        (Sync(0), Refused(Error::Io)),
+        (Size(0), Refused(Error::Failed)),
+        (Open(b"/a", new), Refused(Error::Failed)),
+        (Remount, Done),
+        (Open(b"/a", new), Number(0)),
+        (Read(0, 9), Bytes(b"")),
+    ];
+    assert_eq!(rt; first_wrong_row_on_failing(rt.alloc(), &rows)?, None);
+    Ok(())
+}

@@ -6,6 +6,9 @@ pub mod Hulls
 pub mod Loading
 pub mod NodeCalls
 pub mod NodesByNumber
+pub mod OpenedFiles
+pub mod Opening
+pub mod PutEntries
 pub mod Runs
 pub mod Saving
 pub mod SessionOperations

@@ -13,6 +13,7 @@ use Rattle.lfs_model.specs.tree.Tree.{DirectoryNode, FileNode, Node, Path, Tree}
 use Rattle.lfs_model.specs.session.Operations as ops
 use Rattle.lfs_model.specs.session.Operations.{Operation, Reply}
 use Rattle.lfs_model.specs.session.State.{HasFailed, Healthy, SessionHealth, is_remount, mounted_session, remount_result}
+use Rattle.lfs_model.specs.session.Run.{HealthyHasDiskTree, ShowsTree}
 use Rattle.lfs_model.specs.session.Refusals.{path_or_root}
 use Rattle.lfs_model.specs.session.Session.{Session, directory_refusal, parents_refusal}
 use Rattle.lfs_model.specs.session.TreeEdits.{file_bytes, is_file, same_path, tree_with_change}
@@ -29,7 +30,7 @@ use Rattle.lfs_volume.specs.Hulls.{DiffersInHull, cut_hull, hull_with, resized_h
 use Rattle.lfs_volume.specs.Opened.{IsIdle, LeadsToFile}
 use Rattle.lfs_volume.specs.SessionCalls.{AreQuietCalls, AreVolumeSteps, FailsInCalls, IsAcceptedCall, error_result}
 use Rattle.lfs_volume.specs.Volume.{NodeView, VolumeView, entry_at, loaded_node, node_bytes, resized_node, stored_bytes, synced_node, with_position, write_place, written_node}
-use Rattle.lfs_volume.specs.VolumeCalls.{EndsSyncAt, FitsAt, IsDropped, IsLoadedAt, IsNodeRefused, IsNodeSynced, IsSessionPart, IsSound, IsSoundNode, IsSoundVolume, IsSyncedAt}
+use Rattle.lfs_volume.specs.VolumeCalls.{EndsSyncAt, FitsAt, IsDropped, IsLoadedAt, IsNodeRefused, IsNodeSynced, IsRemount, IsSessionPart, IsSound, IsSoundNode, IsSoundVolume, IsSyncedAt}
 use Rattle.lfs_volume.proofs.Entries.{changed_entry, changed_entry_to, entry_inside, entry_other, entry_set, set_twice}
 use Rattle.lfs_volume.proofs.Hulls.{length-padded, length-written, lengthened, shortened, written_differs}
 use Rattle.lfs_volume.proofs.Saving.{quiet_profile}
@@ -148,7 +149,7 @@ pub record ChangesNode (old : VolumeView) (i : ℕ) (n m : NodeView) (new : Volu
   pub others : (j : ℕ) (k : NodeView) → (i ≡ j → ⊥) → entry_at old.nodes j ≡ Some k → IsSoundNode new.session k
   pub handles : (j : ℕ) (h : Handle) → entry_at new.handles j ≡ Some h → (g : Handle) × ((entry_at old.handles j ≡ Some g) × (h.node ≡ g.node))
 
-same_or_not : (i j : ℕ) → (i ≡ j) ⊎ (i ≡ j → ⊥)
+pub same_or_not : (i j : ℕ) → (i ≡ j) ⊎ (i ≡ j → ⊥)
 same_or_not zero zero = inl refl
 same_or_not zero (suc j) = inr (λ e. absurd (omega arith))
 same_or_not (suc i) zero = inr (λ e. absurd (omega arith))
@@ -308,7 +309,7 @@ node_carried a b n stored leads profile s = record {
 accepted_profile : (a b : SessionView) (op : Operation) → IsAcceptedCall a op b → b.tree.disk.profile ≡ a.tree.disk.profile
 accepted_profile a b op one = one.call.answers.geometry.profile ∙ ap (λ r. (cond r (ordered_disk b.tree.disk.order a.tree.disk) a.tree.disk).profile) one.other
 
-steps_profile : (a b : SessionView) (xs : List Operation) → AreVolumeSteps a xs b → b.tree.disk.profile ≡ a.tree.disk.profile
+pub steps_profile : (a b : SessionView) (xs : List Operation) → AreVolumeSteps a xs b → b.tree.disk.profile ≡ a.tree.disk.profile
 steps_profile a b xs (inl quiet) = quiet_profile a b xs quiet
 steps_profile a b xs (inr c) = quiet_profile c.second b c.after c.rest ∙ accepted_profile c.first c.second c.change c.changed ∙ quiet_profile a c.first c.before c.quiet
 
@@ -442,7 +443,7 @@ failed_not_working e old new (not, (operations, k)) works =
     let b = healthy_view new works in
     absurd (let z : HasFailed ≡ Healthy (viewed_session new) = sym a ∙ b in cc)
 
-part_profile : (a b : SessionView) (xs : List Operation) → IsSessionPart a xs b → b.tree.disk.profile ≡ a.tree.disk.profile
+pub part_profile : (a b : SessionView) (xs : List Operation) → IsSessionPart a xs b → b.tree.disk.profile ≡ a.tree.disk.profile
 part_profile a b xs (inl steps) = steps_profile a b xs steps
 part_profile a b xs (inr (e, (is, k))) =
     let step = refusal_step k.at k.next e b is k.ends.answers in
@@ -544,19 +545,36 @@ begun_state h s none e = go h.tree.failed refl e
 lost : (reply : Reply) → None ≡ Some reply → ⊥
 lost reply e = absurd (cc)
 
--- after a remount that succeeds no file is open
-pub remounted_state : (old new : SessionView) (reply : Reply) → IsCall old ops.Remount (Ok reply) new → (new.tree.failed ≡ false) × (new.files ≡ [])
-remounted_state old new reply call = go call.answers.answered.shown call.answers.answered.answers
+-- after a remount that succeeds no file is open, and the tree is the disk's
+pub remounted_state : (old new : SessionView) (reply : Reply) → IsCall old ops.Remount (Ok reply) new → (new.tree.failed ≡ false) × ((new.files ≡ []) × ShowsTree new.tree.disk (Some (shown_tree new.tree)))
+remounted_state old new reply call =
+    let s = go call.answers.answered.shown call.answers.answered.answers in
+    (s.0, (s.1, subst (HealthyHasDiskTree new.tree.disk) (healthy_view new s.0) call.answers.agrees))
   where
     go : (shown : Option Tree) → remount_result shown ≡ (Some reply, (system_state new).state) → (new.tree.failed ≡ false) × (new.files ≡ [])
     go None e = absurd (lost reply (ap (λ (z : Option Reply × SessionHealth). z.0) e))
     go (Some tree) e = begun_state new (mounted_session tree) refl (sym (ap (λ (z : Option Reply × SessionHealth). z.1) e))
 
+not_remounted : (old new : SessionView) (e : Error) → IsCall old ops.Remount (Err e) new → new.tree.failed ≡ true
+not_remounted old new e call = go new.tree.failed refl
+  where
+    go : (b : Bool) → new.tree.failed ≡ b → new.tree.failed ≡ true
+    go true k = k
+    go false k =
+        let a = call.answers.fails.failed in
+        absurd (let z : HasFailed ≡ Healthy (viewed_session new) = sym a ∙ healthy_view new k in cc)
+
 pub remounted_sound : (old new : VolumeView) (x : Result Reply Error) → IsCall old.session ops.Remount x new.session → new.nodes ≡ [] → new.handles ≡ [] → IsSound new
 remounted_sound old new (Ok reply) call nodes handles works =
     let s = remounted_state old.session new.session reply call in
-    subst IsSoundVolume (sym (ap₂ (λ (ns : List (Option NodeView)) (hs : List (Option Handle)). record { session = new.session; nodes = ns; handles = hs }) nodes handles)) (empty_sound new.session s.0 s.1)
-remounted_sound old new (Err e) call nodes handles works =
-    let a = call.answers.fails.failed in
-    let b = healthy_view new.session works in
-    absurd (let z : HasFailed ≡ Healthy (viewed_session new.session) = sym a ∙ b in cc)
+    subst IsSoundVolume (sym (ap₂ (λ (ns : List (Option NodeView)) (hs : List (Option Handle)). record { session = new.session; nodes = ns; handles = hs }) nodes handles)) (empty_sound new.session s.0 s.1.0)
+remounted_sound old new (Err e) call nodes handles works = absurd (let k : true ≡ false = sym (not_remounted old.session new.session e call) ∙ works in cc)
+
+pub remounted : (old new : VolumeView) (x : Result Reply Error) → IsCall old.session ops.Remount x new.session → new.nodes ≡ [] → new.handles ≡ [] → IsRemount old x new
+remounted old new x call nodes handles = record {
+  call = call;
+  nodes = nodes;
+  handles = handles;
+  works = λ reply e. let s = remounted_state old.session new.session reply (subst (λ z. IsCall old.session ops.Remount z new.session) e call) in (s.0, s.1.1);
+  failed = λ e k. not_remounted old.session new.session e (subst (λ z. IsCall old.session ops.Remount z new.session) k call);
+}

@@ -35,7 +35,7 @@ pub record KeepsFiles (t u : Tree) : Type 0 where
   pub files : (q : Path) → is_file (t q) ≡ true → (is_file (u q) ≡ true) × (file_bytes (u q) ≡ file_bytes (t q))
   pub directories : (q : Path) → directory_refusal (t q) ≡ None → directory_refusal (u q) ≡ None
 
-keeps_itself : (t : Tree) → KeepsFiles t t
+pub keeps_itself : (t : Tree) → KeepsFiles t t
 keeps_itself t = record { files = λ q e. (e, refl); directories = λ q e. e }
 
 -- ---- attributes
@@ -55,27 +55,27 @@ attributes_directory true f (Some (DirectoryNode a ns)) e = refl
 keeps_with_attributes : (p : Path) (f : Node → Attributes) (t : Tree) → KeepsFiles t (tree_with_change p (λ n. with_attributes (f n) n) t)
 keeps_with_attributes p f t = record { files = λ q e. attributes_file (same_path p q) f (t q) e; directories = λ q e. attributes_directory (same_path p q) f (t q) e }
 
--- ---- a new directory
+-- ---- a new entry
 
-created_file : (b d : Bool) (g : List Name → List Name) (x : Option Node) → (b ≡ true → x ≡ None) → is_file x ≡ true →
-    (is_file (cond b (Some (DirectoryNode [] [])) (cond d (option_map (node_with_names g) x) x)) ≡ true) × (file_bytes (cond b (Some (DirectoryNode [] [])) (cond d (option_map (node_with_names g) x) x)) ≡ file_bytes x)
-created_file true d g x free e = absurd (let k : false ≡ true = sym (ap is_file (free refl)) ∙ e in cc)
-created_file false false g x free e = (e, refl)
-created_file false true g None free e = absurd (cc)
-created_file false true g (Some (FileNode a bytes)) free e = (refl, refl)
-created_file false true g (Some (DirectoryNode a ns)) free e = absurd (cc)
+created_file : (node : Node) (b d : Bool) (g : List Name → List Name) (x : Option Node) → (b ≡ true → x ≡ None) → is_file x ≡ true →
+    (is_file (cond b (Some node) (cond d (option_map (node_with_names g) x) x)) ≡ true) × (file_bytes (cond b (Some node) (cond d (option_map (node_with_names g) x) x)) ≡ file_bytes x)
+created_file node true d g x free e = absurd (let k : false ≡ true = sym (ap is_file (free refl)) ∙ e in cc)
+created_file node false false g x free e = (e, refl)
+created_file node false true g None free e = absurd (cc)
+created_file node false true g (Some (FileNode a bytes)) free e = (refl, refl)
+created_file node false true g (Some (DirectoryNode a ns)) free e = absurd (cc)
 
-created_directory : (b d : Bool) (g : List Name → List Name) (x : Option Node) → directory_refusal x ≡ None → directory_refusal (cond b (Some (DirectoryNode [] [])) (cond d (option_map (node_with_names g) x) x)) ≡ None
-created_directory true d g x e = refl
-created_directory false false g x e = e
-created_directory false true g None e = absurd (cc)
-created_directory false true g (Some (FileNode a bytes)) e = absurd (cc)
-created_directory false true g (Some (DirectoryNode a ns)) e = refl
+created_directory : (node : Node) (b d : Bool) (g : List Name → List Name) (x : Option Node) → (b ≡ true → x ≡ None) → directory_refusal x ≡ None → directory_refusal (cond b (Some node) (cond d (option_map (node_with_names g) x) x)) ≡ None
+created_directory node true d g x free e = absurd (let k : directory_refusal None ≡ None = sym (ap directory_refusal (free refl)) ∙ e in cc)
+created_directory node false false g x free e = e
+created_directory node false true g None free e = absurd (cc)
+created_directory node false true g (Some (FileNode a bytes)) free e = absurd (cc)
+created_directory node false true g (Some (DirectoryNode a ns)) free e = refl
 
-keeps_with_directory : (p : Path) (g : List Name → List Name) (t : Tree) → t p ≡ None → KeepsFiles t (tree_with p (Some (DirectoryNode [] [])) (tree_with_change (parent_path p) (node_with_names g) t))
-keeps_with_directory p g t none = record {
-  files = λ q e. created_file (same_path p q) (same_path (parent_path p) q) g (t q) (λ same. sym (ap t (path_from_same p q same)) ∙ none) e;
-  directories = λ q e. created_directory (same_path p q) (same_path (parent_path p) q) g (t q) e;
+pub keeps_with_new : (p : Path) (node : Node) (g : List Name → List Name) (t : Tree) → t p ≡ None → KeepsFiles t (tree_with p (Some node) (tree_with_change (parent_path p) (node_with_names g) t))
+keeps_with_new p node g t none = record {
+  files = λ q e. created_file node (same_path p q) (same_path (parent_path p) q) g (t q) (λ same. sym (ap t (path_from_same p q same)) ∙ none) e;
+  directories = λ q e. created_directory node (same_path p q) (same_path (parent_path p) q) g (t q) (λ same. sym (ap t (path_from_same p q same)) ∙ none) e;
 }
 
 is_free : (x : Option Node) → is_some x ≡ false → x ≡ None
@@ -105,7 +105,7 @@ pub record KeepsAll (t : Tree) (files : OpenFilesByNumber) (after : Session) : T
   pub same_files : after.files ≡ files
 
 effect_keeps : (t : Tree) (around : DiskSummary) (files : OpenFilesByNumber) (op : Operation) → is_alone op ≡ true → operation_refusal around (with_files t files) op ≡ None → KeepsAll t files (operation_effect around (with_files t files) op).1
-effect_keeps t around files (ops.Mkdir path) is passes = record { tree = keeps_with_directory (path_or_root path) (names_with (last_name (path_or_root path))) t (made_where_free around (with_files t files) path passes); same_files = refl }
+effect_keeps t around files (ops.Mkdir path) is passes = record { tree = keeps_with_new (path_or_root path) (DirectoryNode [] []) (names_with (last_name (path_or_root path))) t (made_where_free around (with_files t files) path passes); same_files = refl }
 effect_keeps t around files (ops.SetAttr path kind bytes) is passes = record { tree = keeps_with_attributes (path_or_root path) (λ n. attributes_with kind bytes (node_attributes_of (Some n))) t; same_files = refl }
 effect_keeps t around files (ops.RemoveAttr path kind) is passes = record { tree = keeps_with_attributes (path_or_root path) (λ n. attributes_without kind (node_attributes_of (Some n))) t; same_files = refl }
 effect_keeps t around files (ops.ListAll path) is passes = record { tree = keeps_itself t; same_files = refl }
@@ -123,7 +123,7 @@ result_keeps t around files op (Some refusal) is e = record { tree = keeps_itsel
 
 -- ---- a volume over such a tree
 
-parents_kept : (t u : Tree) → ((q : Path) → directory_refusal (t q) ≡ None → directory_refusal (u q) ≡ None) → (above p : Path) → parents_refusal t above p ≡ None → parents_refusal u above p ≡ None
+pub parents_kept : (t u : Tree) → ((q : Path) → directory_refusal (t q) ≡ None → directory_refusal (u q) ≡ None) → (above p : Path) → parents_refusal t above p ≡ None → parents_refusal u above p ≡ None
 parents_kept t u h above [] e = refl
 parents_kept t u h above (name ∷ []) e = refl
 parents_kept t u h above (name ∷ next ∷ rest) e =
@@ -134,10 +134,10 @@ parents_kept t u h above (name ∷ next ∷ rest) e =
     both None s k = (refl, k)
     both (Some x) s k = absurd (cc)
 
-leads_kept : (t u : Tree) → KeepsFiles t u → (path : List ℕ) → LeadsToFile t path → LeadsToFile u path
+pub leads_kept : (t u : Tree) → KeepsFiles t u → (path : List ℕ) → LeadsToFile t path → LeadsToFile u path
 leads_kept t u k path l = record { given = l.given; parents = parents_kept t u k.directories [] (path_or_root path) l.parents; file = (k.files (path_or_root path) l.file).0 }
 
-stored_kept : (t u : Tree) → KeepsFiles t u → (at : Option (List ℕ)) → ((path : List ℕ) → at ≡ Some path → LeadsToFile t path) → stored_bytes u at ≡ stored_bytes t at
+pub stored_kept : (t u : Tree) → KeepsFiles t u → (at : Option (List ℕ)) → ((path : List ℕ) → at ≡ Some path → LeadsToFile t path) → stored_bytes u at ≡ stored_bytes t at
 stored_kept t u k None leads = refl
 stored_kept t u k (Some path) leads = (k.files (path_or_root path) (leads path refl).file).1
 

@@ -424,7 +424,7 @@ sync_done old new handle h sound (working, found) s handles =
     subst (λ r. ((unless_refused r (volume_of old) (call_effect around (volume_of old) (Sync handle))).0 ≡ ops.Done) × IsSameVolume (unless_refused r (volume_of old) (call_effect around (volume_of old) (Sync handle))).1 (volume_of new))
     (sym (sync_checks old handle h k.0 None around found k.1 is)) (refl, subst (λ z. IsSameVolume z (volume_of new)) (synced_volume old new handle h k.0 found k.1 s handles) (same_volume (volume_of new))))
 
-refusal_reply : (e : Error) (old new : VolumeView) (call : Call) → refusals.is_refusal e ≡ true → IsReplied old call (ops.Refused (refusals.error_refusal e)) new → IsVolumeCall old call (error_result e) new
+pub refusal_reply : (e : Error) (old new : VolumeView) (call : Call) → refusals.is_refusal e ≡ true → IsReplied old call (ops.Refused (refusals.error_refusal e)) new → IsVolumeCall old call (error_result e) new
 refusal_reply e old new call is r = subst (λ b. IsVolumeCall old call (cond b (Ok (ops.Refused (refusals.error_refusal e))) (Err e)) new) (sym is) r
 
 pub sync_ended : (e : Error) (old new : VolumeView) (handle : ℕ) (h : Handle) → IsSoundVolume old → IsWorking old.session × (entry_at old.handles handle ≡ Some h) → EndsSyncAt e old.session old.nodes h.node new.session → new.nodes ≡ old.nodes → new.handles ≡ old.handles → IsVolumeCall old (Sync handle) (error_result e) new

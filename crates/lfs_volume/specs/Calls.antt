@@ -61,9 +61,9 @@ abbrev pub with_entry : {A : Type 0} → List (Option A) → ℕ → Option A �
 with_entry entries i entry = if nat_lt i (length entries) then slice_set entries i entry else entries ++ entry ∷ []
 
 -- the node of a path: the one that is open, or the least number that is free
-abbrev pub node_of_path : Volume → List ℕ → ℕ
-node_of_path v path =
-    if nat_lt (position_or_len (has_path path) v.nodes) (length v.nodes) then position_or_len (has_path path) v.nodes else free_entry v.nodes
+abbrev pub node_of_path : List (Option NodeView) → List ℕ → ℕ
+node_of_path nodes path =
+    if nat_lt (position_or_len (has_path path) nodes) (length nodes) then position_or_len (has_path path) nodes else free_entry nodes
 
 abbrev pub names_node : ℕ → Option Handle → Bool
 names_node node None = false
@@ -160,20 +160,24 @@ closed_volume handle v = record v {
 abbrev pub new_handle : ℕ → FlagsOfOpen → Handle
 new_handle node flags = record { node = node; position = 0; reads = flags.read; writes = flags.write; appends = flags.append }
 
--- the node of an opened file, whose size is the tree's where it wasn't open
-abbrev pub node_on_open : Tree → List ℕ → FlagsOfOpen → Option NodeView → NodeView
-node_on_open tree path flags found = cut (unwrap_or found (opened_node path (length (file_bytes (tree (path_or_root path))))))
-  where
-    cut : NodeView → NodeView
-    cut n = if flags.truncate then resized_node 0 [] n else n
+-- the node of an opened file: the one that is open, or a new one of that size; it is empty where the file is to be cut
+abbrev pub node_on_open : List ℕ → ℕ → Bool → Option NodeView → NodeView
+node_on_open path size truncates found =
+    if truncates then resized_node 0 [] (unwrap_or found (opened_node path size)) else unwrap_or found (opened_node path size)
 
+-- the nodes with that of an opened file
+abbrev pub opened_nodes : List ℕ → ℕ → Bool → List (Option NodeView) → List (Option NodeView)
+opened_nodes path size truncates nodes =
+    with_entry nodes (node_of_path nodes path) (Some (node_on_open path size truncates (entry_at nodes (node_of_path nodes path))))
+
+-- a new node has the size of the tree's file
 abbrev pub open_volume : Tree → List ℕ → FlagsOfOpen → Volume → Reply × Volume
 open_volume tree path flags v = (
   ops.Opened (free_entry v.handles),
   record {
     tree = tree;
-    nodes = with_entry v.nodes (node_of_path v path) (Some (node_on_open tree path flags (entry_at v.nodes (node_of_path v path))));
-    handles = with_entry v.handles (free_entry v.handles) (Some (new_handle (node_of_path v path) flags));
+    nodes = opened_nodes path (length (file_bytes (tree (path_or_root path)))) flags.truncate v.nodes;
+    handles = with_entry v.handles (free_entry v.handles) (Some (new_handle (node_of_path v.nodes path) flags));
   },
 )
 

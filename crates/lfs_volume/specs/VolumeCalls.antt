@@ -1,5 +1,5 @@
 -- What a volume keeps between its calls, and the relation that each call of a volume is to meet.
-use Rattle.std.specs.Prelude.{ℕ, ◌≡◌, ◌+◌, ◌<◌, ◌≤◌, ◌⊎◌, IfSome, if◌then◌else◌, max, true, false, List, length, Option, Some, None, IsSome, Result, Ok, Err, slice_set}
+use Rattle.std.specs.Prelude.{ℕ, ◌≡◌, ◌+◌, ◌<◌, ◌≤◌, ◌⊎◌, IfSome, if◌then◌else◌, max, true, false, List, [], length, Option, Some, None, IsSome, Result, Ok, Err, slice_set}
 use Rattle.std.specs.Option.{option_map}
 use Rattle.lfs_device.specs.declared.error.Error.{Error}
 use Rattle.lfs_device.specs.declared.error.Error.TheVariants.{BadFile, Failed, NoMemory}
@@ -14,6 +14,7 @@ use Rattle.lfs_model.specs.session.Operations.{Operation, Refusal, Reply}
 use Rattle.lfs_model.specs.session.Refusals.{path_or_root}
 use Rattle.lfs_model.specs.session.Session.{DiskSummary}
 use Rattle.lfs_model.specs.session.State.{IsSummary}
+use Rattle.lfs_model.specs.session.Run.{ShowsTree}
 use Rattle.lfs_tree.specs.TreeState.{shown_tree}
 use Rattle.lfs_fs.specs.CallEffects.{IsCall}
 use Rattle.lfs_fs.specs.SessionView.{SessionView}
@@ -94,6 +95,15 @@ IsVolumeCall old call (Ok reply) new = IsReplied old call reply new
 IsVolumeCall old call (Err e) new =
     ((e ≡ NoMemory) × WantsMemory old new)
     ⊎ FailsInCalls e old.session new.session
+
+-- A remount closes all handles and remounts the session, whether the session had failed or not. Where it succeeds, the volume works
+-- and has the tree that the disk shows. Where it ends in an error, the volume has failed.
+pub record IsRemount (old : VolumeView) (result : Result Reply Error) (new : VolumeView) : Type 0 where
+  pub call : IsCall old.session ops.Remount result new.session
+  pub nodes : new.nodes ≡ []
+  pub handles : new.handles ≡ []
+  pub works : (reply : Reply) → result ≡ Ok reply → (new.session.tree.failed ≡ false) × ShowsTree new.session.tree.disk (Some (shown_tree new.session.tree))
+  pub failed : (e : Error) → result ≡ Err e → new.session.tree.failed ≡ true
 
 -- ---- the parts of a call of a session
 

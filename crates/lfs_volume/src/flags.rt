@@ -45,3 +45,10 @@ pub(crate) fn session_flags(flags: OpenFlags) -> OpenFlags
         (false, false) => OpenFlags::WRITE,
     }
 }
+
+// Returns whether a file is cut to nothing when it's opened with these flags.
+pub(crate) fn truncates(flags: OpenFlags) -> bool
+    ensures { result ≡ (flags_view flags).truncate }
+{
+    flags.contains(OpenFlags::TRUNCATE)
+}

@@ -1,13 +1,14 @@
 // Handles: what a program holds of an open file.
 
-ghost use Rattle.std.specs.Prelude.{◌≡◌, ◌<◌, is_none, slice_set, vec_capacity, vec_len, None, Some};
+ghost use Rattle.std.specs.Prelude.{◌≡◌, ◌<◌, IfErr, IfOk, OnOk, is_none, slice_set, vec_capacity, vec_len, None, Some};
 ghost use Rattle.std.specs.List.{position_or_len};
 ghost use Rattle.std.specs.Option.{option_map};
 ghost use Rattle.lfs_volume.specs.Volume.{entry_at, with_position};
-ghost use Rattle.lfs_volume.specs.Calls.{named, names_node, new_handle, with_entry};
+ghost use Rattle.lfs_volume.specs.Calls.{free_entry, named, names_node, new_handle, with_entry};
 ghost use Rattle.lfs_fs.specs.FlagsView.{flags_view};
 
 use bitflags::Flags;
+use lfs_device::Error;
 use lfs_fs::OpenFlags;
 
 /// A handle on a node: where the next read or write begins, and what it may do.
@@ -55,6 +56,30 @@ pub(crate) fn free_entry<T>(entries: &[Option<T>]) -> usize
         number += 1;
     }
     number
+}
+
+// Makes room for one more entry.
+pub(crate) fn reserve_entry<T>(entries: &mut Vec<Option<T>>) -> Result<(), Error>
+    ensures same { entries.new.items ≡ entries.old.items }
+    ensures room { OnOk result (vec_len entries.new < vec_capacity entries.new) }
+    ensures none { IfErr result (λ e. e ≡ Error.NoMemory) }
+{
+    match entries.reserve(1) {
+        Ok(()) => Ok(()),
+        Err(_) => Err(Error::NoMemory),
+    }
+}
+
+// Returns the least number that is free, if a handle may have it.
+pub(crate) fn free_number(handles: &[Option<Handle>]) -> Result<u32, Error>
+    ensures is { IfOk result (λ n. n ≡ free_entry handles.now) }
+    ensures none { IfErr result (λ e. e ≡ Error.NoMemory) }
+{
+    let number = free_entry(handles);
+    if number > u32::MAX as usize {
+        return Err(Error::NoMemory);
+    }
+    Ok(number as u32)
 }
 
 // Puts an entry under a number, for which there is room.

@@ -1,17 +1,17 @@
 // The open files of a volume.
 
-ghost use Rattle.std.specs.Prelude.{◌≡◌, ◌+◌, ◌<◌, ◌≤◌, ◌^◌, [], if◌then◌else◌, IfErr, IfOk, OnErr, OnOk, List, ℕ, None, Some, drop, length, slice_set, take, unwrap_or};
+ghost use Rattle.std.specs.Prelude.{◌≡◌, ◌+◌, ◌<◌, ◌≤◌, ◌^◌, [], if◌then◌else◌, IfErr, IfOk, OnErr, OnOk, List, ℕ, None, Some, drop, false, length, slice_set, take, unwrap_or, vec_capacity, vec_len};
 ghost use Rattle.std.specs.List.{position_or_len};
 ghost use Rattle.std.specs.Option.{option_map};
 ghost use Rattle.lfs_tree.specs.TreeState.{shown_tree};
-ghost use Rattle.lfs_volume.specs.Calls.{has_path, named};
+ghost use Rattle.lfs_volume.specs.Calls.{has_path, named, node_of_path, opened_nodes};
 ghost use Rattle.lfs_volume.specs.Opened.{IsIdle};
 ghost use Rattle.lfs_volume.specs.SessionCalls.{FailsInCalls};
 ghost use Rattle.lfs_volume.specs.Volume.{NodeView, entry_at, resized_node, write_place, written_node};
 ghost use Rattle.lfs_volume.specs.VolumeCalls.{AreStoredBytes, EndsNodeSync, EndsSyncAt, IsLoadedAt, IsNodeLoaded, IsNodeSynced, IsSoundAt, IsSoundNode, IsSyncedAt};
 
 use crate::bytes::{bytes_from, copy_of};
-use crate::handles::{Handle, free_at, is_named};
+use crate::handles::{Handle, free_at, free_entry, is_named, put_entry};
 use crate::loads::load;
 use crate::node::Node;
 use crate::saves::save;
@@ -246,10 +246,53 @@ pub(crate) fn resize_at(
 }
 
 // Makes the contents of the node with that number empty.
-pub(crate) fn clear_at(alloc: Global, nodes: &mut [Option<Node>], number: usize) {
-    if let Some(Some(node)) = nodes.get_mut(number) {
-        node.clear(alloc);
+fn clear_at(alloc: Global, nodes: &mut Vec<Option<Node>>, number: usize)
+    ensures { nodes.new.items ≡ slice_set nodes.old.items number (option_map (resized_node 0 []) (entry_at nodes.old.items number)) }
+{
+    if number >= nodes.len() {
+        return;
     }
+    match &mut nodes[number] {
+        Some(node) => node.clear(alloc),
+        None => {}
+    }
+}
+
+// Returns the number of the node with that path, which gets a new one of that size where there is
+// none. The table has room for it.
+fn open_path(nodes: &mut Vec<Option<Node>>, path: Vec<u8>, size: u32) -> usize
+    requires { vec_len nodes.old < vec_capacity nodes.old }
+    ensures number { result ≡ node_of_path nodes.old.items path.items }
+    ensures nodes { nodes.new.items ≡ opened_nodes path.items size false nodes.old.items }
+{
+    let open = node_with_path(nodes, &path);
+    if open < nodes.len() {
+        return open;
+    }
+    let number = free_entry(nodes);
+    put_entry(nodes, number, Node::opened(path, size));
+    number
+}
+
+// Returns the number of the node of an opened file, which is empty where the file is to be cut. The
+// table has room for a new node.
+pub(crate) fn open_node(
+    alloc: Global,
+    nodes: &mut Vec<Option<Node>>,
+    path: Vec<u8>,
+    size: u32,
+    truncates: bool,
+) -> usize
+    requires { vec_len nodes.old < vec_capacity nodes.old }
+    ensures number { result ≡ node_of_path nodes.old.items path.items }
+    ensures nodes { nodes.new.items ≡ opened_nodes path.items size truncates nodes.old.items }
+{
+    let number = open_path(nodes, path, size);
+    if !truncates {
+        return number;
+    }
+    clear_at(alloc, nodes, number);
+    number
 }
 
 // Takes the path from the node that has it.

@@ -3,24 +3,26 @@
 ghost use Rattle.std.specs.Prelude.{◌≡◌, ◌+◌, ◌<◌, ◌≤◌, ◌^◌, ℕ, [], true, IfErr, IfOk, Ok, OnOk, Some, drop, length, map, take, unwrap_or};
 ghost use Rattle.lfs_model.specs.format.Disk.{profile_file_max};
 ghost use Rattle.lfs_model.specs.session.Operations as ops;
+ghost use Rattle.lfs_fs.specs.FlagsView.{flags_view};
 ghost use Rattle.lfs_fs.specs.GstateView.{returned_gstate_reply};
 ghost use Rattle.lfs_fs.specs.Replies.{reply_from};
 ghost use Rattle.lfs_lookup.specs.Finds.{listed_item_view, stat_view};
 ghost use Rattle.lfs_volume.specs.Calls as calls;
 ghost use Rattle.lfs_volume.specs.SessionCalls.{error_result};
 ghost use Rattle.lfs_volume.specs.Volume.{NodeView, VolumeView, entry_at};
-ghost use Rattle.lfs_volume.specs.VolumeCalls.{FitsAt, IsDropped, IsFoundHandle, IsReadyToRead, IsSound, IsSoundVolume, IsTooLong, IsVolumeCall, IsWorking};
+ghost use Rattle.lfs_volume.specs.VolumeCalls.{FitsAt, IsDropped, IsFoundHandle, IsReadyToRead, IsRemount, IsSound, IsSoundVolume, IsTooLong, IsVolumeCall, IsWorking};
 
-use crate::bytes::{copied, copy_into, copy_of};
-use crate::flags::{allows_volume_flags, session_flags};
-use crate::handles::{Handle, free_at, free_entry, handle_at, new_handle, put_entry, set_position};
+use crate::bytes::{copied, copy_into};
+use crate::flags::{allows_volume_flags, session_flags, truncates};
+use crate::handles::{
+    Handle, free_at, free_number, handle_at, new_handle, put_entry, reserve_entry, set_position,
+};
 use crate::loads::find_file;
 use crate::node::Node;
 use crate::nodes::{
-    bytes_of, clear_at, drop_unnamed, load_at, move_nodes, moved_paths, node_at, node_with_path,
+    bytes_of, drop_unnamed, load_at, move_nodes, moved_paths, node_at, node_with_path, open_node,
     resize_at, sync_at, unlink_path, write_at, write_place,
 };
-use bitflags::Flags;
 use lfs_device::{BlockDevice, Error};
 use lfs_fs::{Gstate, Item, OpenFlags, Session, Stat};
 use std::alloc::Global;
@@ -81,29 +83,22 @@ impl<D: BlockDevice> Volume<D> {
     ///
     /// `Invalid` where the flags aren't allowed together; the refusals of a session's `open`, for
     /// writing where the file is to be written, but never `Busy`.
-    pub fn open(&mut self, alloc: Global, path: &[u8], flags: OpenFlags) -> Result<u32, Error> {
+    pub fn open(&mut self, alloc: Global, path: &[u8], flags: OpenFlags) -> Result<u32, Error>
+        ensures call { IsSoundVolume self.old → IsVolumeCall self.old (calls.Open path.now (flags_view flags)) (reply_from ops.Opened result) self.new }
+        ensures sound { IsSoundVolume self.old → IsSound self.new }
+    {
         self.check_works()?;
         if !allows_volume_flags(flags) {
             return Err(Error::Invalid);
         }
-        self.handles.reserve(1)?;
-        self.nodes.reserve(1)?;
-        let own_path = copy_of(alloc, path)?;
-        let number = free_entry(&self.handles);
-        if number > u32::MAX as usize {
-            return Err(Error::NoMemory);
-        }
+        reserve_entry(&mut self.handles)?;
+        reserve_entry(&mut self.nodes)?;
+        let own_path = copied(alloc, path)?;
+        let number = free_number(&self.handles)?;
         let size = find_file(alloc, &mut self.session, path, session_flags(flags))?;
-        let mut place = node_with_path(&self.nodes, path);
-        if place >= self.nodes.len() {
-            place = free_entry(&self.nodes);
-            put_entry(&mut self.nodes, place, Node::opened(own_path, size));
-        }
-        if flags.contains(OpenFlags::TRUNCATE) {
-            clear_at(alloc, &mut self.nodes, place);
-        }
-        put_entry(&mut self.handles, number, new_handle(place, flags));
-        Ok(number as u32)
+        let node = open_node(alloc, &mut self.nodes, own_path, size, truncates(flags));
+        put_entry(&mut self.handles, number as usize, new_handle(node, flags));
+        Ok(number)
     }
 
     // Returns the most bytes that a file may have.
@@ -498,7 +493,8 @@ impl<D: BlockDevice> Volume<D> {
     ///
     /// Errors are those of a session's `remount`.
     pub fn remount(&mut self, alloc: Global) -> Result<(), Error>
-        ensures { IsSound self.new }
+        ensures call { IsRemount self.old (reply_from (λ _. ops.Done) result) self.new }
+        ensures sound { IsSound self.new }
     {
         self.handles.clear();
         self.nodes.clear();

@@ -4,10 +4,14 @@ pub mod Entries
 pub mod Finding
 pub mod Hulls
 pub mod Loading
+pub mod MovedFiles
 pub mod NodeCalls
+pub mod NodeTables
 pub mod NodesByNumber
 pub mod OpenedFiles
 pub mod Opening
+pub mod PathBytes
+pub mod PathMoves
 pub mod PutEntries
 pub mod Runs
 pub mod Saving
@@ -15,6 +19,7 @@ pub mod SessionOperations
 pub mod Soundness
 pub mod Steps
 pub mod TreesKept
+pub mod Unlinking
 pub mod VolumeSteps
 pub mod Working
 pub mod WrittenBytes

@@ -54,7 +54,7 @@ module _ (h : SessionView) (n : NodeView) (s : IsSoundNode h n) where
   abbrev seen : List ℕ
   seen = node_bytes (shown_tree h.tree) n
 
-  seen_long : length (node_bytes (shown_tree h.tree) n) ≡ n.size
+  pub seen_long : length (node_bytes (shown_tree h.tree) n) ≡ n.size
   seen_long = go n.contents refl
     where
       go : (o : Option (List ℕ)) → n.contents ≡ o → length (node_bytes (shown_tree h.tree) n) ≡ n.size

@@ -190,9 +190,31 @@ is_at_or_beneath old path = starts_with nat_eq path old && ((length path == leng
 abbrev pub unlink_path : Tree → List ℕ → NodeView → NodeView
 unlink_path tree path n = if has_path path (Some n) then unlinked_node (loaded_node (node_bytes tree n) n) else n
 
--- a node at the old path or beneath it has the new path, and what was behind the old one
+-- the path that a node gets by a rename, if it moves: the new path, and what was behind the old one
+abbrev pub moved_path : List ℕ → List ℕ → NodeView → Option (List ℕ)
+moved_path old new n = option_and_then (λ p. if is_at_or_beneath old p then Some (new ++ drop (length old) p) else None) n.path
+
+abbrev pub with_path : Option (List ℕ) → NodeView → NodeView
+with_path None n = n
+with_path (Some path) n = record n { path = Some path }
+
+-- a node at the old path or beneath it moves
 abbrev pub moved_node : List ℕ → List ℕ → NodeView → NodeView
-moved_node old new n = record n { path = option_map (λ p. if is_at_or_beneath old p then new ++ drop (length old) p else p) n.path }
+moved_node old new n = with_path (moved_path old new n) n
+
+-- the node with that number is changed
+abbrev pub changed_at : ℕ → (NodeView → NodeView) → List (Option NodeView) → List (Option NodeView)
+changed_at i change nodes = slice_set nodes i (option_map change (entry_at nodes i))
+
+-- the first node with that path loses it
+abbrev pub without_path : List ℕ → List (Option NodeView) → List (Option NodeView)
+without_path path nodes = changed_at (position_or_len (has_path path) nodes) unlinked_node nodes
+
+-- each node gets the path of its number
+abbrev pub with_paths : List (Option (List ℕ)) → List (Option NodeView) → List (Option NodeView)
+with_paths [] nodes = nodes
+with_paths (path ∷ paths) [] = []
+with_paths (path ∷ paths) (node ∷ nodes) = option_map (with_path path) node ∷ with_paths paths nodes
 
 abbrev pub nodes_after : Tree → Operation → List (Option NodeView) → List (Option NodeView)
 nodes_after tree (ops.Remove path) nodes = map (option_map (unlink_path tree path)) nodes

@@ -41,8 +41,15 @@ pub(crate) fn write_bytes(contents: &mut Vec<u8>, at: usize, bytes: &[u8]) -> Re
 pub(crate) fn bytes_from(contents: &[u8], at: usize, count: usize) -> &[u8]
     ensures { result.now ≡ take count (drop at contents.now) }
 {
-    let rest = &contents[at.min(contents.len())..];
+    let rest = bytes_behind(contents, at);
     &rest[..count.min(rest.len())]
+}
+
+// Returns the bytes from a place on.
+pub(crate) fn bytes_behind(contents: &[u8], at: usize) -> &[u8]
+    ensures { result.now ≡ drop at contents.now }
+{
+    &contents[at.min(contents.len())..]
 }
 
 // Puts bytes at the beginning of a buffer. The rest of it stays.

@@ -183,7 +183,8 @@ impl Node {
     }
 }
 
-fn is_same_path(path: &[u8], other: &[u8]) -> bool
+// Returns whether two paths are the same bytes.
+pub(crate) fn is_same_path(path: &[u8], other: &[u8]) -> bool
     ensures { result ≡ same_name path.now other.now }
 {
     path == other

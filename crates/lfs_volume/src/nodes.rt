@@ -1,16 +1,16 @@
 // The open files of a volume.
 
-ghost use Rattle.std.specs.Prelude.{◌≡◌, ◌+◌, ◌<◌, ◌≤◌, ◌^◌, [], if◌then◌else◌, IfErr, IfOk, OnErr, OnOk, List, ℕ, None, Some, drop, false, length, slice_set, take, unwrap_or, vec_capacity, vec_len};
+ghost use Rattle.std.specs.Prelude.{◌≡◌, ◌+◌, ◌<◌, ◌≤◌, ◌^◌, [], if◌then◌else◌, IfErr, IfOk, OnErr, OnOk, List, ℕ, None, Some, drop, false, length, map, slice_set, take, unwrap_or, vec_capacity, vec_len};
 ghost use Rattle.std.specs.List.{position_or_len};
-ghost use Rattle.std.specs.Option.{option_map};
+ghost use Rattle.std.specs.Option.{option_and_then, option_map};
 ghost use Rattle.lfs_tree.specs.TreeState.{shown_tree};
-ghost use Rattle.lfs_volume.specs.Calls.{has_path, named, node_of_path, opened_nodes};
+ghost use Rattle.lfs_volume.specs.Calls.{changed_at, has_path, is_at_or_beneath, moved_path, named, node_of_path, opened_nodes, with_path, with_paths, without_path};
 ghost use Rattle.lfs_volume.specs.Opened.{IsIdle};
 ghost use Rattle.lfs_volume.specs.SessionCalls.{FailsInCalls};
 ghost use Rattle.lfs_volume.specs.Volume.{NodeView, entry_at, resized_node, write_place, written_node};
 ghost use Rattle.lfs_volume.specs.VolumeCalls.{AreStoredBytes, EndsNodeSync, EndsSyncAt, IsLoadedAt, IsNodeLoaded, IsNodeSynced, IsSoundAt, IsSoundNode, IsSyncedAt};
 
-use crate::bytes::{bytes_from, copy_of};
+use crate::bytes::{bytes_behind, bytes_from, copy_of};
 use crate::handles::{Handle, free_at, free_entry, is_named, put_entry};
 use crate::loads::load;
 use crate::node::Node;
@@ -296,18 +296,24 @@ pub(crate) fn open_node(
 }
 
 // Takes the path from the node that has it.
-pub(crate) fn unlink_path(nodes: &mut [Option<Node>], path: &[u8]) {
+pub(crate) fn unlink_path(nodes: &mut Vec<Option<Node>>, path: &[u8])
+    ensures { nodes.new.items ≡ without_path path.now nodes.old.items }
+{
     let number = node_with_path(nodes, path);
-    if let Some(Some(node)) = nodes.get_mut(number) {
+    if number >= nodes.len() {
+        return;
+    }
+    if let Some(node) = &mut nodes[number] {
         node.unlink();
     }
 }
 
 // Returns whether a path is another one, or is beneath it.
-fn is_at_or_beneath(old: &[u8], path: &[u8]) -> bool {
-    path.len() >= old.len()
-        && &path[..old.len()] == old
-        && (path.len() == old.len() || path[old.len()] == b'/')
+fn is_at_or_beneath(old: &[u8], path: &[u8]) -> bool
+    ensures { result ≡ is_at_or_beneath old.now path.now }
+{
+    path.starts_with(old)
+        && (path.len() == old.len() || bytes_behind(path, old.len()).starts_with(b"/"))
 }
 
 // Returns the path that a node gets by a rename, if it moves.
@@ -316,7 +322,9 @@ fn moved_path(
     entry: &Option<Node>,
     from: &[u8],
     to: &[u8],
-) -> Result<Option<Vec<u8>>, AllocError> {
+) -> Result<Option<Vec<u8>>, AllocError>
+    ensures { IfOk result (λ o. option_map (λ p. p.items) o ≡ option_and_then (moved_path from.now to.now) entry.now) }
+{
     let Some(node) = entry else {
         return Ok(None);
     };
@@ -327,7 +335,7 @@ fn moved_path(
         return Ok(None);
     }
     let mut moved = copy_of(alloc, to)?;
-    moved.extend_from_slice(&path[from.len().min(path.len())..])?;
+    moved.extend_from_slice(bytes_behind(path, from.len()))?;
     Ok(Some(moved))
 }
 
@@ -337,23 +345,37 @@ pub(crate) fn moved_paths(
     nodes: &[Option<Node>],
     from: &[u8],
     to: &[u8],
-) -> Result<Vec<Option<Vec<u8>>>, AllocError> {
+) -> Result<Vec<Option<Vec<u8>>>, AllocError>
+    ensures { IfOk result (λ v. map (option_map (λ p. p.items)) v.items ≡ map (option_and_then (moved_path from.now to.now)) nodes.now) }
+{
     let mut paths = Vec::new(alloc);
     for entry in nodes {
-        paths.push(moved_path(alloc, entry, from, to)?)?;
+        let path = moved_path(alloc, entry, from, to)?;
+        paths.push(path)?;
     }
     Ok(paths)
 }
 
+// Gives the node with that number its new path, if it moves.
+fn move_node(nodes: &mut Vec<Option<Node>>, number: usize, path: Option<Vec<u8>>)
+    ensures { nodes.new.items ≡ changed_at number (with_path (option_map (λ p. p.items) path)) nodes.old.items }
+{
+    let Some(path) = path else {
+        return;
+    };
+    if number >= nodes.len() {
+        return;
+    }
+    if let Some(node) = &mut nodes[number] {
+        node.set_path(path);
+    }
+}
+
 // Gives each node that moves its new path.
-pub(crate) fn move_nodes(nodes: &mut Vec<Option<Node>>, paths: Vec<Option<Vec<u8>>>) {
-    let mut number = 0usize;
-    for path in paths {
-        if let Some(path) = path {
-            if let Some(Some(node)) = nodes.get_mut(number) {
-                node.set_path(path);
-            }
-        }
-        number = number.saturating_add(1);
+pub(crate) fn move_nodes(nodes: &mut Vec<Option<Node>>, mut paths: Vec<Option<Vec<u8>>>)
+    ensures { nodes.new.items ≡ with_paths (map (option_map (λ p. p.items)) paths.items) nodes.old.items }
+{
+    while let Some(path) = paths.pop() {
+        move_node(nodes, paths.len(), path);
     }
 }

@@ -1,7 +1,8 @@
 // A volume, and its calls.
 
-ghost use Rattle.std.specs.Prelude.{◌≡◌, ◌+◌, ◌<◌, ◌≤◌, ◌^◌, ℕ, [], true, IfErr, IfOk, Ok, OnOk, Some, drop, length, map, take, unwrap_or};
+ghost use Rattle.std.specs.Prelude.{◌≡◌, ◌+◌, ◌<◌, ◌≤◌, ◌^◌, ℕ, [], false, true, IfErr, IfOk, Ok, OnOk, Some, drop, length, map, take, unwrap_or};
 ghost use Rattle.lfs_model.specs.format.Disk.{profile_file_max};
+ghost use Rattle.lfs_model.specs.format.Names.{same_name};
 ghost use Rattle.lfs_model.specs.session.Operations as ops;
 ghost use Rattle.lfs_fs.specs.FlagsView.{flags_view};
 ghost use Rattle.lfs_fs.specs.GstateView.{returned_gstate_reply};
@@ -18,7 +19,7 @@ use crate::handles::{
     Handle, free_at, free_number, handle_at, new_handle, put_entry, reserve_entry, set_position,
 };
 use crate::loads::find_file;
-use crate::node::Node;
+use crate::node::{Node, is_same_path};
 use crate::nodes::{
     bytes_of, drop_unnamed, load_at, move_nodes, moved_paths, node_at, node_with_path, open_node,
     resize_at, sync_at, unlink_path, write_at, write_place,
@@ -458,7 +459,10 @@ impl<D: BlockDevice> Volume<D> {
     /// # Errors
     ///
     /// Errors are those of a session's `remove`, but never `Busy`.
-    pub fn remove(&mut self, alloc: Global, path: &[u8]) -> Result<(), Error> {
+    pub fn remove(&mut self, alloc: Global, path: &[u8]) -> Result<(), Error>
+        ensures call { IsSoundVolume self.old → IsVolumeCall self.old (calls.Perform (ops.Remove path.now)) (reply_from (λ _. ops.Done) result) self.new }
+        ensures sound { IsSoundVolume self.old → IsSound self.new }
+    {
         self.check_works()?;
         let place = node_with_path(&self.nodes, path);
         load_at(alloc, &mut self.session, &mut self.nodes, place)?;
@@ -473,11 +477,23 @@ impl<D: BlockDevice> Volume<D> {
     /// # Errors
     ///
     /// Errors are those of a session's `rename`, but never `Busy`.
-    pub fn rename(&mut self, alloc: Global, from: &[u8], to: &[u8]) -> Result<(), Error> {
-        self.check_works()?;
-        if from == to {
+    pub fn rename(&mut self, alloc: Global, from: &[u8], to: &[u8]) -> Result<(), Error>
+        ensures call { IsSoundVolume self.old → IsVolumeCall self.old (calls.Perform (ops.Rename from.now to.now)) (reply_from (λ _. ops.Done) result) self.new }
+        ensures sound { IsSoundVolume self.old → IsSound self.new }
+    {
+        if is_same_path(from, to) {
             return self.session.rename(alloc, from, to);
         }
+        self.rename_apart(alloc, from, to)
+    }
+
+    // Gives an entry another path, which isn't its own.
+    fn rename_apart(&mut self, alloc: Global, from: &[u8], to: &[u8]) -> Result<(), Error>
+        requires { same_name from.now to.now ≡ false }
+        ensures call { IsSoundVolume self.old → IsVolumeCall self.old (calls.Perform (ops.Rename from.now to.now)) (reply_from (λ _. ops.Done) result) self.new }
+        ensures sound { IsSoundVolume self.old → IsSound self.new }
+    {
+        self.check_works()?;
         let place = node_with_path(&self.nodes, to);
         load_at(alloc, &mut self.session, &mut self.nodes, place)?;
         let paths = moved_paths(alloc, &self.nodes, from, to)?;

@@ -1,0 +1,90 @@
+use Rattle.std.proofs.Common.{refl, sym, ap, ◌≡◌, ◌∙◌, List, Option, map, true, false}
+use Rattle.std.specs.Option.{option_and_then, option_map}
+use Rattle.lfs_tree.specs.TreeState.{shown_tree}
+use Rattle.std.specs.List.{position_or_len}
+use Rattle.lfs_fs.specs.Replies.{reply_from}
+use Rattle.lfs_model.specs.session.Operations as ops
+use Rattle.lfs_volume.specs.Calls.{Perform, has_path, moved_path}
+use Rattle.lfs_volume.specs.Volume.{NodeView, VolumeView}
+use Rattle.lfs_volume.specs.VolumeCalls.{IsReplied, IsSound, IsSoundVolume, IsVolumeCall}
+use Rattle.lfs_volume.proofs.PathMoves.{apart_nodes, aside_bytes, rename_done, renamed_nodes, sound_renamed}
+use Rattle.lfs_volume.proofs.Soundness.{failed_not_working}
+use Rattle.lfs_volume.proofs.Unlinking.{IsReady, accepted_after, ended_after, ended_sound, ready_sound, rename_on_entries}
+use Rattle.lfs_volume.proofs.VolumeSteps.{ended_call, failed_parts, no_memory, of_whole, wants_memory}
+use Rattle.lfs_volume.proofs.volume.Volume.rename_apart.Goals as goal
+
+pub returns-in_err-check_works-clause-call : goal.returns-in_err-check_works-clause-call
+returns-in_err-check_works-clause-call g c sound = absurd (let k : true ≡ false = sym c.in_err-check_works.ensures.failed.1 ∙ sound.idle.works in cc)
+
+pub returns-in_err-load_at-clause-call : goal.returns-in_err-load_at-clause-call
+returns-in_err-load_at-clause-call g c =
+    let start : VolumeView = record { session = c.self.inside.session; nodes = c.self.inside.nodes.items; handles = c.self.inside.handles.items } in
+    let new : VolumeView = record { session = c.load_at.new.session; nodes = c.load_at.new.nodes.items; handles = c.self.inside.handles.items } in
+    λ sound. ended_call (λ _. ops.Done) c.from_residual-in_err-load_at.result _ c.args.self.now new (Perform (ops.Rename c.args.from.now c.args.to.now)) c.from_residual-in_err-load_at.ensures.1
+    (failed_parts _ start c.args.self.now new (Perform (ops.Rename c.args.from.now c.args.to.now)) c.self.view_is (λ sound. c.in_err-load_at.ensures.failed sound.idle (λ n e. sound.nodes c.node_with_path-place.result n e)) sound)
+
+pub returns-in_err-load_at-clause-sound : goal.returns-in_err-load_at-clause-sound
+returns-in_err-load_at-clause-sound g c =
+    let start : VolumeView = record { session = c.self.inside.session; nodes = c.self.inside.nodes.items; handles = c.self.inside.handles.items } in
+    let new : VolumeView = record { session = c.load_at.new.session; nodes = c.load_at.new.nodes.items; handles = c.self.inside.handles.items } in
+    of_whole start c.args.self.now c.self.view_is (λ v. IsSound new) (λ sound works. absurd (failed_not_working _ start.session new.session (c.in_err-load_at.ensures.failed sound.idle (λ n e. sound.nodes c.node_with_path-place.result n e)) works))
+
+pub returns-in_err-rename-clause-call : goal.returns-in_err-rename-clause-call
+returns-in_err-rename-clause-call g c =
+    let start : VolumeView = record { session = c.self.inside.session; nodes = c.self.inside.nodes.items; handles = c.self.inside.handles.items } in
+    let mid : VolumeView = record { session = c.load_at.new.session; nodes = c.load_at.new.nodes.items; handles = c.self.inside.handles.items } in
+    let new : VolumeView = record { session = c.rename.new.self; nodes = c.load_at.new.nodes.items; handles = c.self.inside.handles.items } in
+    let ready = λ (sound : IsSoundVolume start). (let r : IsReady start mid c.node_with_path-place.result = record { loaded = c.in_ok-load_at.ensures.loaded sound.idle (λ n e. sound.nodes c.node_with_path-place.result n e); handles = refl } in r) in
+    of_whole start c.args.self.now c.self.view_is (λ v. IsVolumeCall v (Perform (ops.Rename c.args.from.now c.args.to.now)) (reply_from (λ _. ops.Done) c.from_residual-in_err-rename.result) new) (λ sound.
+    ended_call (λ _. ops.Done) c.from_residual-in_err-rename.result _ start new (Perform (ops.Rename c.args.from.now c.args.to.now)) c.from_residual-in_err-rename.ensures.1
+    (ended_after start mid c.node_with_path-place.result sound (ready sound) (ops.Rename c.args.from.now c.args.to.now) (rename_on_entries c.args.from.now c.args.to.now) _ new c.in_err-rename.ensures refl refl))
+
+pub returns-in_err-rename-clause-sound : goal.returns-in_err-rename-clause-sound
+returns-in_err-rename-clause-sound g c =
+    let start : VolumeView = record { session = c.self.inside.session; nodes = c.self.inside.nodes.items; handles = c.self.inside.handles.items } in
+    let mid : VolumeView = record { session = c.load_at.new.session; nodes = c.load_at.new.nodes.items; handles = c.self.inside.handles.items } in
+    let new : VolumeView = record { session = c.rename.new.self; nodes = c.load_at.new.nodes.items; handles = c.self.inside.handles.items } in
+    of_whole start c.args.self.now c.self.view_is (λ v. IsSound new) (λ sound.
+    let ready : IsReady start mid c.node_with_path-place.result = record { loaded = c.in_ok-load_at.ensures.loaded sound.idle (λ n e. sound.nodes c.node_with_path-place.result n e); handles = refl } in
+    ended_sound start mid c.node_with_path-place.result sound ready (ops.Rename c.args.from.now c.args.to.now) (rename_on_entries c.args.from.now c.args.to.now) _ new c.in_err-rename.ensures refl refl)
+
+pub returns-clause-call : goal.returns-clause-call
+returns-clause-call g c =
+    let start : VolumeView = record { session = c.self.inside.session; nodes = c.self.inside.nodes.items; handles = c.self.inside.handles.items } in
+    let mid : VolumeView = record { session = c.load_at.new.session; nodes = c.load_at.new.nodes.items; handles = c.self.inside.handles.items } in
+    let new : VolumeView = record { session = c.rename.new.self; nodes = c.move_nodes.new.nodes.items; handles = c.self.inside.handles.items } in
+    of_whole start c.args.self.now c.self.view_is (λ v. IsReplied v (Perform (ops.Rename c.args.from.now c.args.to.now)) ops.Done new) (λ sound.
+    let ready : IsReady start mid c.node_with_path-place.result = record { loaded = c.in_ok-load_at.ensures.loaded sound.idle (λ n e. sound.nodes c.node_with_path-place.result n e); handles = refl } in
+    let aside = aside_bytes (shown_tree mid.session.tree) c.args.from.now c.args.to.now (rename_done start mid new.session c.node_with_path-place.result c.args.from.now c.args.to.now sound ready c.requires c.in_ok-rename.ensures) in
+    let moved : map (option_map (λ p. p.items)) c.in_ok-paths.paths.items ≡ map (option_and_then (moved_path c.args.from.now c.args.to.now)) c.load_at.new.nodes.items = c.in_ok-paths.ensures ∙ ap (λ (ns : List (Option NodeView)). map (option_and_then (moved_path c.args.from.now c.args.to.now)) ns) c.deref-2.ensures.value in
+    let nodes = renamed_nodes start mid c.node_with_path-place.result c.args.from.now c.args.to.now (map (option_map (λ p. p.items)) c.in_ok-paths.paths.items) c.unlink_path.new.nodes.items new.nodes sound ready (c.node_with_path-place.ensures ∙ ap (λ (ns : List (Option NodeView)). position_or_len (has_path c.args.to.now) ns) c.deref.ensures.value) aside moved c.unlink_path.ensures c.move_nodes.ensures in
+    accepted_after start mid c.node_with_path-place.result sound ready (ops.Rename c.args.from.now c.args.to.now) (rename_on_entries c.args.from.now c.args.to.now) new ops.Done refl c.in_ok-rename.ensures
+    (nodes ∙ apart_nodes (shown_tree mid.session.tree) c.args.from.now c.args.to.now start.nodes c.requires) refl)
+
+pub returns-clause-sound : goal.returns-clause-sound
+returns-clause-sound g c =
+    let start : VolumeView = record { session = c.self.inside.session; nodes = c.self.inside.nodes.items; handles = c.self.inside.handles.items } in
+    let mid : VolumeView = record { session = c.load_at.new.session; nodes = c.load_at.new.nodes.items; handles = c.self.inside.handles.items } in
+    let new : VolumeView = record { session = c.rename.new.self; nodes = c.move_nodes.new.nodes.items; handles = c.self.inside.handles.items } in
+    of_whole start c.args.self.now c.self.view_is (λ v. IsSound new) (λ sound works.
+    let ready : IsReady start mid c.node_with_path-place.result = record { loaded = c.in_ok-load_at.ensures.loaded sound.idle (λ n e. sound.nodes c.node_with_path-place.result n e); handles = refl } in
+    let aside = aside_bytes (shown_tree mid.session.tree) c.args.from.now c.args.to.now (rename_done start mid new.session c.node_with_path-place.result c.args.from.now c.args.to.now sound ready c.requires c.in_ok-rename.ensures) in
+    let moved : map (option_map (λ p. p.items)) c.in_ok-paths.paths.items ≡ map (option_and_then (moved_path c.args.from.now c.args.to.now)) c.load_at.new.nodes.items = c.in_ok-paths.ensures ∙ ap (λ (ns : List (Option NodeView)). map (option_and_then (moved_path c.args.from.now c.args.to.now)) ns) c.deref-2.ensures.value in
+    let nodes = renamed_nodes start mid c.node_with_path-place.result c.args.from.now c.args.to.now (map (option_map (λ p. p.items)) c.in_ok-paths.paths.items) c.unlink_path.new.nodes.items new.nodes sound ready (c.node_with_path-place.ensures ∙ ap (λ (ns : List (Option NodeView)). position_or_len (has_path c.args.to.now) ns) c.deref.ensures.value) aside moved c.unlink_path.ensures c.move_nodes.ensures in
+    sound_renamed start mid new c.node_with_path-place.result c.args.from.now c.args.to.now sound ready c.requires c.in_ok-rename.ensures
+    nodes refl)
+
+pub returns-in_err-paths-clause-call : goal.returns-in_err-paths-clause-call
+returns-in_err-paths-clause-call g c =
+    let start : VolumeView = record { session = c.self.inside.session; nodes = c.self.inside.nodes.items; handles = c.self.inside.handles.items } in
+    let new : VolumeView = record { session = c.load_at.new.session; nodes = c.load_at.new.nodes.items; handles = c.self.inside.handles.items } in
+    of_whole start c.args.self.now c.self.view_is (λ v. IsVolumeCall v (Perform (ops.Rename c.args.from.now c.args.to.now)) (reply_from (λ _. ops.Done) c.from_residual-in_err-paths.result) new) (λ sound.
+    ended_call (λ _. ops.Done) c.from_residual-in_err-paths.result _ start new (Perform (ops.Rename c.args.from.now c.args.to.now)) c.from_residual-in_err-paths.ensures.1
+    (no_memory _ start new (Perform (ops.Rename c.args.from.now c.args.to.now)) refl (wants_memory start new c.node_with_path-place.result sound (c.in_ok-load_at.ensures.loaded sound.idle (λ n e. sound.nodes c.node_with_path-place.result n e)) refl)))
+
+pub returns-in_err-paths-clause-sound : goal.returns-in_err-paths-clause-sound
+returns-in_err-paths-clause-sound g c =
+    let start : VolumeView = record { session = c.self.inside.session; nodes = c.self.inside.nodes.items; handles = c.self.inside.handles.items } in
+    let new : VolumeView = record { session = c.load_at.new.session; nodes = c.load_at.new.nodes.items; handles = c.self.inside.handles.items } in
+    of_whole start c.args.self.now c.self.view_is (λ v. IsSound new) (λ sound works.
+    ready_sound start new c.node_with_path-place.result sound (record { loaded = c.in_ok-load_at.ensures.loaded sound.idle (λ n e. sound.nodes c.node_with_path-place.result n e); handles = refl }))

@@ -107,3 +107,29 @@ fn flags_are_checked(rt: HostRuntime) -> Result<(), Fail> {
     assert_eq!(rt; first_wrong_row_on_new(rt.alloc(), 16, &rows)?, None);
     Ok(())
 }
+
+// The longest file, and the last position, are 2,147,483,647 bytes without another limit.
+#[test]
+fn positions_sizes_and_handles_are_checked(rt: HostRuntime) -> Result<(), Fail> {
+    let new = OpenFlags::READ | OpenFlags::WRITE | OpenFlags::CREATE;
+    let rows: [Row<'_>; 16] = [
+        (Open(b"/a", new), Number(0)),
+        (Write(0, b"same"), Number(4)),
+        (Seek(0, 2_147_483_647), Done),
+        (Seek(0, 2_147_483_648), Refused(Error::Invalid)),
+        (Position(0), Number(2_147_483_647)),
+        (Read(0, 9), Bytes(b"")),
+        (Write(0, b"x"), Refused(Error::TooBig)),
+        (Truncate(0, 2_147_483_648), Refused(Error::TooBig)),
+        (Size(0), Number(4)),
+        (Seek(7, 0), Refused(Error::BadFile)),
+        (Write(7, b"x"), Refused(Error::BadFile)),
+        (Size(7), Refused(Error::BadFile)),
+        (Position(7), Refused(Error::BadFile)),
+        (Truncate(7, 0), Refused(Error::BadFile)),
+        (Sync(7), Refused(Error::BadFile)),
+        (Close(7), Refused(Error::BadFile)),
+    ];
+    assert_eq!(rt; first_wrong_row_on_new(rt.alloc(), 16, &rows)?, None);
+    Ok(())
+}

@@ -5,6 +5,10 @@
 #[cfg(test)]
 mod changes;
 #[cfg(test)]
+mod counts;
+#[cfg(test)]
+mod example;
+#[cfg(test)]
 mod paths;
 #[cfg(test)]
 mod rows;

@@ -73,3 +73,25 @@ fn a_replaced_file_keeps_its_bytes_for_its_handles(rt: HostRuntime) -> Result<()
     assert_eq!(rt; first_wrong_row_on_new(rt.alloc(), 16, &rows)?, None);
     Ok(())
 }
+
+// Refused calls leave the open files where they are.
+#[test]
+fn refused_renames_and_removes_change_nothing(rt: HostRuntime) -> Result<(), Fail> {
+    let new = OpenFlags::READ | OpenFlags::WRITE | OpenFlags::CREATE;
+    let rows: [Row<'_>; 12] = [
+        (Mkdir(b"/d"), Done),
+        (Open(b"/d/a", new), Number(0)),
+        (Open(b"/b", new), Number(1)),
+        (Write(0, b"one"), Number(3)),
+        (Write(1, b"two"), Number(3)),
+        (Remove(b"/d"), Refused(Error::NotEmpty)),
+        (Rename(b"/b", b"/d"), Refused(Error::IsDir)),
+        (Rename(b"/d", b"/d/e"), Refused(Error::Invalid)),
+        (Close(0), Done),
+        (Close(1), Done),
+        (Stat(b"/d/a"), Number(3)),
+        (Stat(b"/b"), Number(3)),
+    ];
+    assert_eq!(rt; first_wrong_row_on_new(rt.alloc(), 32, &rows)?, None);
+    Ok(())
+}

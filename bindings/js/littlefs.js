@@ -21,11 +21,11 @@ const ERRORS = {
   200: ["Failed", "an earlier call had no memory, and remount() mends it"],
   201: ["EntryFull", "a name and its attributes would take more than half of a metadata pair"],
 };
-const NO_ENT = 2, NO_MEMORY = 12, NOT_DIR = 20, INVALID = 22, NO_ATTR = 61, CLOSED = 77, CORRUPT = 84;
+const NO_ENT = 2, NO_MEMORY = 12, EXIST = 17, NOT_DIR = 20, INVALID = 22, NO_ATTR = 61, CLOSED = 77, CORRUPT = 84;
 
 const DIRECTORY = 2 ** 32;
-const READ = 0x1, WRITE = 0x2, CREATE = 0x100, TRUNCATE = 0x400, APPEND = 0x800;
-const AT_ONCE = 1 << 20;
+const READ = 0x1, WRITE = 0x2, CREATE = 0x100, EXCLUSIVE = 0x200, TRUNCATE = 0x400, APPEND = 0x800;
+const AT_ONCE = 1 << 20, AT_FIRST = 1 << 14;
 const LARGEST = { nameMax: 255, fileMax: 2147483647, attrMax: 1022, inlineMax: 1022 };
 
 /** What a refused call throws. Its `name` is the error's, as "NoEnt", and `number` that of littlefs_c.h. */
@@ -90,21 +90,24 @@ function bytesIn(data) {
 
 // ---- the module
 
-const LENT = 1 << 14;
+const LENT = 1 << 16;
 
 /** A module's instance, and its memory. */
 class Library {
   #bytes = new Uint8Array(0);
   #lent = 0;
+  #used = 0;
+  #held = [];
 
-  constructor(instance) {
-    this.calls = instance.exports;
+  constructor({ exports }) {
+    this.memory = exports.memory;
+    this.calls = Object.fromEntries(Object.entries(exports).map(([name, call]) => [name.replace("lfs_c_", ""), call]));
     this.failure = null;
   }
 
   /** The memory as bytes: another object after each growth. */
   get bytes() {
-    const { buffer } = this.calls.memory;
+    const { buffer } = this.memory;
     if (this.#bytes.buffer !== buffer) this.#bytes = new Uint8Array(buffer);
     return this.#bytes;
   }
@@ -127,30 +130,48 @@ class Library {
     return at;
   }
 
-  /** Runs a function with memory: a part that is lent again and again, and more that is let go behind it. No call is within another. */
+  /** Runs a function that takes room and puts bytes, and then lets them go. None is within another. */
   with(run) {
-    const held = [];
-    let used = 0;
-    const room = (size) => {
-      this.#lent ||= this.take(LENT);
-      if (used + size <= LENT) {
-        const at = this.#lent + used;
-        used += (size + 15) & ~15;
-        return at;
-      }
-      held.push(this.take(size));
-      return held.at(-1);
-    };
-    const put = (bytes) => {
-      const at = room(bytes.length || 1);
-      this.bytes.set(bytes, at);
-      return [BigInt(at), BigInt(bytes.length)];
-    };
+    this.#used = 0;
     try {
-      return run({ room, put });
+      return run(this);
     } finally {
-      if (!this.failure) for (const at of held) this.call("free", BigInt(at));
+      while (this.#held.length) {
+        const at = this.#held.pop();
+        if (!this.failure) this.call("free", BigInt(at));
+      }
     }
+  }
+
+  /** Returns the address of room: in memory that is lent again and again, or more of its own. */
+  room(size) {
+    this.#lent ||= this.take(LENT);
+    if (this.#used + size > LENT) {
+      this.#held.push(this.take(size));
+      return this.#held.at(-1);
+    }
+    const at = this.#lent + this.#used;
+    this.#used += (size + 15) & ~15;
+    return at;
+  }
+
+  /** Puts bytes or a path into room, and returns where they are and how many. */
+  put(data) {
+    if (typeof data === "string") return this.#putText(data);
+    const bytes = bytesIn(data), at = this.room(bytes.length || 1);
+    this.bytes.set(bytes, at);
+    return [BigInt(at), BigInt(bytes.length)];
+  }
+
+  /** Most paths are short and have ASCII alone, which is put fastest letter by letter. */
+  #putText(text) {
+    const at = this.room(text.length || 1), memory = this.bytes;
+    for (let n = 0; n < text.length; n++) {
+      const code = text.charCodeAt(n);
+      if (code > 0x7f) return this.put(bytesOf(text));
+      memory[at + n] = code;
+    }
+    return [BigInt(at), BigInt(text.length)];
   }
 }
 
@@ -168,8 +189,8 @@ const forgotten = typeof FinalizationRegistry === "undefined" ? null : new Final
 
 function end(library, session) {
   if (library.failure) return;
-  library.call("lfs_c_unmount", BigInt(session));
-  library.call("free", BigInt(session));
+  library.call("unmount", session);
+  library.call("free", session);
 }
 
 // ---- images
@@ -210,7 +231,7 @@ export class Image {
       bytes = bytes.subarray(0, found.blockCount * found.blockSize);
     }
     const image = new Image();
-    image.#begin(given, bytes.length, (lib, { put }, session, config) => lib.call("lfs_c_mount", session, config, ...put(bytes)));
+    image.#begin(given, bytes.length, (lib, session, config) => lib.call("mount", session, config, ...lib.put(bytes)));
     return image;
   }
 
@@ -218,7 +239,7 @@ export class Image {
   static format(options) {
     const { blockCount, blockSize = 4096 } = options;
     const image = new Image();
-    image.#begin({ ...options, blockSize }, blockSize * blockCount, (lib, _, session, config) => lib.call("lfs_c_mkfs", session, config, number32(blockCount)));
+    image.#begin({ ...options, blockSize }, blockSize * blockCount, (lib, session, config) => lib.call("mkfs", session, config, number32(blockCount)));
     return image;
   }
 
@@ -230,16 +251,16 @@ export class Image {
     this.#config = { blockSize, page, order, also21, nameMax, fileMax, attrMax, inlineMax, pairCycles };
     this.#size = size;
     const numbers = [blockSize, page, order === "shorter-first" ? 1 : 0, also21 ? 1 : 0, nameMax, fileMax, attrMax, inlineMax, pairCycles];
-    const session = lib.take(16);
+    const at = lib.take(16), session = BigInt(at);
     try {
-      lib.bytes.fill(0, session, session + 16);
-      lib.with((memory) => {
-        const [config] = memory.put(new Uint8Array(Uint32Array.from(numbers, number32).buffer));
-        const answer = start(lib, memory, BigInt(session), config);
+      lib.bytes.fill(0, at, at + 16);
+      lib.with(() => {
+        const [config] = lib.put(Uint32Array.from(numbers, number32));
+        const answer = start(lib, session, config);
         if (answer < 0) throw new LittlefsError(-answer);
       });
     } catch (error) {
-      if (!lib.failure) lib.call("free", BigInt(session));
+      if (!lib.failure) lib.call("free", session);
       throw error;
     }
     this.#session = session;
@@ -249,7 +270,7 @@ export class Image {
   /** What a call of the session answers: an error as minus its number. */
   #ask(name, ...values) {
     if (!this.#session) throw new LittlefsError(CLOSED);
-    return this.#library.call("lfs_c_" + name, BigInt(this.#session), ...values);
+    return this.#library.call(name, this.#session, ...values);
   }
 
   #call(name, path, ...values) {
@@ -264,18 +285,16 @@ export class Image {
   }
 
   #at(name, path, ...values) {
-    const bytes = bytesOf(path);
-    return this.#with(({ put }) => this.#call(name + "_at", path, ...put(bytes), ...values));
+    return this.#with((lib) => this.#call(name, path, ...lib.put(path), ...values));
   }
 
   /** What a call puts into a buffer, once it is told how much room that wants. */
   #whole(name, path, ...values) {
-    const bytes = bytesOf(path);
     for (let size = 4096; ; ) {
-      const found = this.#with(({ put, room }) => {
-        const at = room(size);
-        const answer = this.#call(name, path, ...put(bytes), ...values, BigInt(at), BigInt(size));
-        if (answer <= size) return this.#library.bytes.slice(at, at + answer);
+      const found = this.#with((lib) => {
+        const given = lib.put(path), at = lib.room(size);
+        const answer = this.#call(name, path, ...given, ...values, BigInt(at), BigInt(size));
+        if (answer <= size) return lib.bytes.slice(at, at + answer);
         size = answer;
       });
       if (found) return found;
@@ -311,23 +330,26 @@ export class Image {
     if (!this.#session) return;
     forgotten?.unregister(this);
     const session = this.#session;
-    this.#session = 0;
+    this.#session = null;
     end(this.#library, session);
   }
 
-  /** A copy of the image's bytes. */
   bytes() {
-    const found = new Uint8Array(this.#size), size = Math.min(this.#size, AT_ONCE);
-    this.#with(({ room }) => {
-      const at = room(size);
-      for (let from = 0; from < found.length; ) {
-        const count = this.#call("image_part", undefined, BigInt(from), BigInt(at), BigInt(Math.min(size, found.length - from)));
+    return this.#filled(new Uint8Array(this.#size), 0, (from, at, size) => this.#call("image_part", undefined, BigInt(from), at, size));
+  }
+
+  /** Fills bytes from a position on by calls that each put a part into room and return how long it is. */
+  #filled(found, from, part) {
+    return this.#with((lib) => {
+      const room = Math.min(found.length, AT_ONCE), at = lib.room(room || 1);
+      while (from < found.length) {
+        const count = part(from, BigInt(at), BigInt(Math.min(room, found.length - from)));
         if (!count) throw new LittlefsError(INVALID);
-        found.set(this.#library.bytes.subarray(at, at + count), from);
+        found.set(lib.bytes.subarray(at, at + count), from);
         from += count;
       }
+      return found;
     });
-    return found;
   }
 
   /** How many blocks the image uses. */
@@ -370,17 +392,17 @@ export class Image {
   mkdir(path, { recursive = false } = {}) {
     if (recursive) {
       const text = shown(path);
-      for (let at = text.indexOf("/", 1); at > 0; at = text.indexOf("/", at + 1)) if (!this.exists(text.slice(0, at))) this.#at("mkdir", text.slice(0, at));
+      for (let at = text.indexOf("/", 1); at > 0; at = text.indexOf("/", at + 1)) if (!this.exists(text.slice(0, at))) this.#at("mkdir_at", text.slice(0, at));
       if (this.stat(path)?.isDirectory) return;
     }
-    this.#at("mkdir", path);
+    this.#at("mkdir_at", path);
   }
 
   // ---- entries
 
   /** What is at a path, or null. */
   stat(path) {
-    const bytes = bytesOf(path), answer = this.#with(({ put }) => this.#ask("stat_at", ...put(bytes)));
+    const answer = this.#with((lib) => this.#ask("stat_at", ...lib.put(path)));
     if (answer === -NO_ENT || answer === -NOT_DIR) return null;
     if (answer < 0) throw new LittlefsError(-answer, path);
     return { isDirectory: answer === DIRECTORY, size: answer === DIRECTORY ? null : answer };
@@ -394,13 +416,12 @@ export class Image {
   /** Removes a file or an empty folder; with `recursive` a folder with all that is in it. */
   remove(path, { recursive = false } = {}) {
     if (recursive && this.stat(path)?.isDirectory) for (const entry of this.list(path)) this.remove(entry.path, { recursive });
-    this.#at("remove", path);
+    this.#at("remove_at", path);
   }
 
   /** Gives an entry another path, in place of a file or an empty folder there. */
   rename(from, to) {
-    const [old, next] = [bytesOf(from), bytesOf(to)];
-    this.#with(({ put }) => this.#call("rename_at", from, ...put(old), ...put(next)));
+    this.#with((lib) => this.#call("rename_at", from, ...lib.put(from), ...lib.put(to)));
   }
 
   /** The bytes of an entry's attribute, whose type is from 0 to 255. */
@@ -410,23 +431,22 @@ export class Image {
 
   /** Gives an entry an attribute. */
   setAttribute(path, type, data) {
-    const [name, bytes] = [bytesOf(path), bytesIn(data)];
-    this.#with(({ put }) => this.#call("set_attr_at", path, ...put(name), number8(type), ...put(bytes)));
+    this.#with((lib) => this.#call("set_attr_at", path, ...lib.put(path), number8(type), ...lib.put(bytesIn(data))));
   }
 
   /** Takes an attribute from an entry. */
   removeAttribute(path, type) {
-    this.#at("remove_attr", path, number8(type));
+    this.#at("remove_attr_at", path, number8(type));
   }
 
   /** All attributes of an entry, by their types. */
   attributes(path) {
-    const found = new Map(), bytes = bytesOf(path), size = 1024;
-    this.#with(({ put, room }) => {
-      const name = put(bytes), at = room(size);
+    const found = new Map(), size = 1024;
+    this.#with((lib) => {
+      const name = lib.put(path), at = lib.room(size);
       for (let type = 0; type < 256; type++) {
         const answer = this.#ask("get_attr_at", ...name, type, BigInt(at), BigInt(size));
-        if (answer >= 0) found.set(type, this.#library.bytes.slice(at, at + answer));
+        if (answer >= 0) found.set(type, lib.bytes.slice(at, at + answer));
         else if (answer !== -NO_ATTR) throw new LittlefsError(-answer, path);
       }
     });
@@ -435,27 +455,21 @@ export class Image {
 
   // ---- files
 
-  #open(path, flags) {
-    const bytes = bytesOf(path);
-    return this.#with(({ put }) => this.#call("open", path, ...put(bytes), flags));
-  }
-
-  /** A file's bytes from a position on, at most `length` of them where that is given. */
+  /** Reads a file from a position on. One that isn't longer than the room is read by one call, since each call costs. */
   read(path, { position = 0, length = Infinity } = {}) {
-    const file = this.#open(path, READ);
+    const file = this.#at("open", path, READ);
     try {
-      this.#call("file_seek", path, file, number32(position));
-      const found = new Uint8Array(Math.max(0, Math.min(this.#call("file_size", path, file) - position, length)));
-      const size = Math.min(found.length, AT_ONCE);
-      this.#with(({ room }) => {
-        const at = room(size || 1);
-        for (let from = 0; from < found.length; ) {
-          const count = this.#call("file_read", path, file, BigInt(at), BigInt(Math.min(size, found.length - from)));
-          found.set(this.#library.bytes.subarray(at, at + count), from);
-          from += count;
-        }
+      if (position) this.#call("file_seek", path, file, number32(position));
+      const part = (at, size) => this.#call("file_read", path, file, at, size);
+      const first = this.#with((lib) => {
+        const room = Math.max(0, Math.min(AT_FIRST, length)), at = lib.room(room || 1), count = room && part(BigInt(at), BigInt(room));
+        return lib.bytes.slice(at, at + count);
       });
-      return found;
+      const whole = first.length < AT_FIRST ? first.length : Math.min(this.#call("file_size", path, file) - position, length);
+      if (whole <= first.length) return first;
+      const found = new Uint8Array(whole);
+      found.set(first);
+      return this.#filled(found, first.length, (_, at, size) => part(at, size));
     } finally {
       if (!this.#library.failure) this.#ask("file_close", file);
     }
@@ -466,20 +480,24 @@ export class Image {
     return new TextDecoder().decode(this.read(path));
   }
 
-  /** Makes a file with these bytes, or gives the one there these in place of its own. A refusal leaves the tree as it was. */
+  /** Writes a file. A refusal leaves the tree as it was. */
   write(path, data) {
-    this.#put(path, WRITE | CREATE | TRUNCATE, data);
+    this.#put(path, TRUNCATE, data);
   }
 
-  /** Writes these bytes at the end of a file, which is made where none is there. A refusal leaves the tree as it was. */
   append(path, data) {
-    this.#put(path, WRITE | CREATE | APPEND, data);
+    this.#put(path, APPEND, data);
   }
 
   #put(path, flags, data) {
-    const bytes = bytesIn(data), isNew = !this.exists(path), file = this.#open(path, flags);
+    const bytes = bytesIn(data);
+    // whether the file is new counts where it can't be written: that it is asked first, by an open that is refused, costs least
+    let file = this.#with((lib) => this.#ask("open", ...lib.put(path), WRITE | (flags === APPEND ? flags : CREATE | EXCLUSIVE)));
+    const isOther = file === -(flags === APPEND ? NO_ENT : EXIST), isNew = isOther === (flags === APPEND);
+    if (isOther) file = this.#at("open", path, WRITE | CREATE | flags);
+    else if (file < 0) throw new LittlefsError(-file, path);
     try {
-      this.#with(({ put }) => this.#call("file_write", path, file, ...put(bytes)));
+      this.#with((lib) => this.#call("file_write", path, file, ...lib.put(bytes)));
       this.#call("file_close", path, file);
     } catch (error) {
       this.#forget(path, file, isNew);
@@ -490,12 +508,8 @@ export class Image {
   /** Takes a file back that couldn't be written: one that is new is removed, and else a remount forgets what isn't saved. */
   #forget(path, file, isNew) {
     if (this.#library.failure) return;
-    if (isNew && this.#ask("file_close", file) >= 0) {
-      const bytes = bytesOf(path);
-      this.#with(({ put }) => this.#ask("remove_at", ...put(bytes)));
-    } else {
-      this.#ask("remount");
-    }
+    if (isNew && this.#ask("file_close", file) >= 0) this.#with((lib) => this.#ask("remove_at", ...lib.put(path)));
+    else this.#ask("remount");
   }
 }
 

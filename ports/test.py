@@ -1,12 +1,14 @@
 #!/usr/bin/env python3
 """Runs what ports/build.py built, compared with the proved program for x86-64: the same words have to give the same bytes.
 
-usage: ports/test.py [--count N] [--images N] [--seed WORD] [--out FOLDER] [--times]
+usage: ports/test.py [--folders N] [--images N] [--seed WORD] [--out FOLDER] [--times]
 
 - bindings/c/example.c and flash.c, with the static library for each machine and with the DLL: what they print, and the files that they leave;
 - mklittlefs for each machine and in Node, on N random folders: -c, -l, -u, --check, --cat, --put, --remove, --mkdir, --json, and words that
   are refused: status, both streams, images and unpacked trees are compared with those of crates/mklittlefs/out/mklittlefs;
-- bindings/js: the modules on N images, compared with the native library, their own tests, and the rows of bench/program_lines.py in Node;
+- calls.c: 30 random calls on each of N images, of which some are damaged, by each library and by both modules in Node: each answer, what
+  is put into a buffer, and all bytes at the end are compared with those of the library for x86-64;
+- bindings/js: its own tests, and the rows of bench/program_lines.py in Node;
 - the allocator of the modules, natively.
 
 AArch64 programs run under qemu-aarch64-static, those for Windows under wine64. With --times it prints instead how long the same work takes natively and by the modules.
@@ -22,10 +24,16 @@ import sys
 import tempfile
 
 TOP = Path(__file__).resolve().parent.parent
+sys.path.insert(0, str(TOP / "bench"))
+import image_maker
+import profiles
+
 JS = TOP / "bindings/js"
 NATIVE = TOP / "crates/mklittlefs/out/mklittlefs"
 RUNS = {"x86_64": [], "aarch64": ["qemu-aarch64-static"], "windows": ["/usr/lib/wine/wine64"]}
 COMPILERS = {"x86_64": ["gcc"], "aarch64": ["aarch64-linux-gnu-gcc"], "windows": ["x86_64-w64-mingw32-gcc", "-D__USE_MINGW_ANSI_STDIO=1"]}
+MODULES = {"littlefs.wasm": ["node"], "littlefs64.wasm": ["node", "--experimental-wasm-memory64"]}
+SIZES = [(1024, 128, 64), (1024, 8, 96), (2048, 256, 40), (4096, 256, 16), (4096, 512, 48), (65536, 512, 4)]
 NAMES = ["a", "ab", "b", "settings.json", "log", "today.csv", "name with space", "caf\u00e9", "back\\slash", "x" * 60, ".hidden", "\u6f22\u5b57"]
 OPTIONS = [[], ["-b", "8192"], ["-b", "1024", "-p", "128"], ["--board", "esp32"], ["--inline-max", "64"], ["--order", "shorter-first"], ["--times"],
            ["--name-max", "32"], ["--exclude", "*.csv"]]
@@ -49,12 +57,16 @@ def compiled(out, machine, source, work, library="liblittlefs_c.a"):
     return [*RUNS[machine], to]
 
 
-def library(out, work):
+def builds(out, work):
+    """Returns the machines, each with its libraries; the DLL is put where programs find it."""
     shutil.copy(out / "windows/littlefs_c.dll", work)
-    builds = [*[(machine, "liblittlefs_c.a") for machine in RUNS], ("windows", "liblittlefs_c.dll.a")]
+    return [*[(machine, "liblittlefs_c.a") for machine in RUNS], ("windows", "liblittlefs_c.dll.a")]
+
+
+def library(out, work):
     for name in ("example", "flash"):
         wanted = None
-        for machine, library in builds:
+        for machine, library in builds(out, work):
             program, image = compiled(out, machine, TOP / "bindings/c" / f"{name}.c", work, library), work / f"{name}-{machine}-{library}.img"
             runs = [ran([*program, image.name], cwd=work)[:2] for _ in range(2)]
             found = [[status, text.replace(b"\r\n", b"\n")] for status, text in runs], image.read_bytes()
@@ -125,22 +137,54 @@ def tool(out, work, rnd, count):
 
 
 def times(out, work):
-    modules = out / "wasm"
-    rows = {"native": [compiled(out, "x86_64", TOP / "ports/times.c", work)] * 3}
-    for name, words in (("littlefs.wasm", []), ("littlefs64.wasm", ["--experimental-wasm-memory64"])):
-        rows[name] = [["node", *words, JS / "test/times.mjs", modules / name]] * 3
+    """Prints the middle of three runs: natively, and by each module when its engine has compiled it, and at first."""
+    programs = {"native": compiled(out, "x86_64", TOP / "ports/times.c", work)}
+    programs |= {name: [*words, JS / "test/times.mjs", out / "wasm" / name] for name, words in MODULES.items()}
     shown = {}
-    for name, runs in rows.items():
-        each = [dict(line.split() for line in ran(words)[1].decode().splitlines()) for words in runs]
-        shown[name] = {what: sorted(float(it[what]) for it in each)[1] for what in each[0]}
+    for name, words in programs.items():
+        each = [[line.split() for line in ran(words)[1].decode().splitlines()] for _ in range(3)]
+        for at, column in enumerate([name, f"{name} at first"][: len(each[0][0]) - 1], 1):
+            shown[column] = {rows[0][0]: sorted(float(it[at]) for it in rows)[1] for rows in zip(*each)}
     print("| milliseconds | " + " | ".join(shown) + " |\n|---|" + "---|" * len(shown))
     for what in shown["native"]:
         print(f"| {what} | " + " | ".join(f"{it[what]:.1f}" for it in shown.values()) + " |")
 
 
-def modules(out, images):
-    env = {**os.environ, "LITTLEFS_C": str(out / "x86_64/littlefs_c.so")}
-    subprocess.run([sys.executable, str(JS / "test/against_native.py"), "--count", str(images), "--modules", str(out / "wasm")], env=env, check=True)
+def make_images(work, rnd, count):
+    """Makes images, every second one empty and some of the others damaged; returns the list that calls.c reads."""
+    lines = []
+    for number in range(count):
+        if number % 2:
+            block, page, blocks = rnd.choice(SIZES)
+            lines.append(f"{block} {page} {rnd.randrange(2)} 0 {blocks} -")
+            continue
+        also_2_1 = rnd.random() < 0.3
+        plan, _ = image_maker.random_plan(rnd, profile=profiles.Profile(versions=(profiles.TWO_ZERO, profiles.TWO_ONE)) if also_2_1 else profiles.DEFAULT)
+        image = bytearray(plan.image())
+        for _ in range(rnd.choice([1, 3, 20]) if rnd.random() < 0.3 else 0):
+            at = rnd.choice([0, plan.block_size]) + rnd.randrange(64)  # in the superblock's pair
+            image[rnd.choice([at, rnd.randrange(len(image))])] ^= 1 << rnd.randrange(8)
+        (work / f"image{number}").write_bytes(image)
+        lines.append(f"{plan.block_size} {plan.page} 0 {int(also_2_1)} 0 image{number}")
+    (work / "list").write_text("\n".join(lines) + "\n")
+    return work / "list"
+
+
+def calls(out, work, rnd, count):
+    images, lines, wanted = make_images(work, rnd, count), work / "lines", None
+    for machine, library in builds(out, work):
+        _, found, errors = ran([*compiled(out, machine, TOP / "ports/calls.c", work, library), images.name], cwd=work)
+        found = found.replace(b"\r\n", b"\n").splitlines()
+        wanted = wanted or found
+        differs = next((at for at, pair in enumerate(zip(found, wanted)) if pair[0] != pair[1]), min(len(found), len(wanted)))
+        same(f"calls for {machine}, {library}, line {differs + 1} {errors}", found[differs : differs + 1], wanted[differs : differs + 1])
+    lines.write_bytes(b"\n".join(wanted))
+    print(f"calls: {count} images, {len(wanted)} answers and parts of images, the same for {', '.join(RUNS)}, and with the DLL", flush=True)
+    for name, words in MODULES.items():
+        subprocess.run([*words, JS / "test/replay.mjs", images, lines, out / "wasm" / name], check=True)
+
+
+def scripts():
     subprocess.run(["node", "--test", "--test-reporter=dot", "test/image.test.mjs"], cwd=JS, check=True)
     subprocess.run([sys.executable, str(JS / "test/tool_lines.py")], check=True)
 
@@ -153,7 +197,7 @@ def allocator(work):
 
 def main():
     parser = argparse.ArgumentParser(usage=__doc__.split("usage: ")[1].split("\n")[0])
-    parser.add_argument("--count", type=int, default=10)
+    parser.add_argument("--folders", type=int, default=10)
     parser.add_argument("--images", type=int, default=100)
     parser.add_argument("--seed", default="1")
     parser.add_argument("--out", type=Path, default=TOP / "ports/out")
@@ -166,8 +210,9 @@ def main():
         for name in ("littlefs.wasm", "mklittlefs.wasm"):
             shutil.copy(out / "wasm" / name, JS)
         library(out, work)
-        tool(out, work, random.Random(given.seed), given.count)
-        modules(out, given.images)
+        tool(out, work, random.Random(given.seed), given.folders)
+        calls(out, work, random.Random(given.seed), given.images)
+        scripts()
         allocator(work)
 
 

@@ -11,7 +11,7 @@ class Browser:
     """A browser that has the page. `script` and `give` are each browser's own."""
 
     def text(self, selector):
-        return self.script("return document.querySelector(arguments[0]).innerText", selector)
+        return self.script("return document.querySelector(arguments[0])?.innerText ?? ''", selector)
 
     def click(self, selector):
         self.script("document.querySelector(arguments[0]).click()", selector)

@@ -42,29 +42,3 @@ export const chosen = (input) => [...input.files].map((file) => [file.webkitRela
 
 /** The same entries without the first name of each path, which is the folder's own. */
 export const inside = (entries) => entries.map(([path, file]) => [path.slice(path.indexOf("/") + 1), file, path]).filter(([, , path]) => path.includes("/"));
-
-/** The most bytes that an image holds, and so a folder that fits into one. */
-export const MOST = 1 << 28;
-
-/** Reads all files: each has a path, its bytes or null for a folder, and when it was modified. */
-export async function read(entries) {
-  const size = entries.reduce((sum, [, file]) => sum + (file?.size ?? 0), 0), found = [];
-  if (size > MOST) throw new Error(`the files have ${size.toLocaleString("en")} bytes, and an image holds at most 256 MiB`);
-  for (const [path, file] of entries) found.push({ path, bytes: file && new Uint8Array(await file.arrayBuffer()), time: file?.lastModified });
-  return found.sort((a, b) => (a.path < b.path ? -1 : a.path > b.path ? 1 : 0));
-}
-
-/** Puts files and folders into an image, below a folder of it. Returns how many files. */
-export function put(image, below, all) {
-  let count = 0;
-  for (const { path, bytes } of all) {
-    const to = `${below === "/" ? "" : below}/${path}`;
-    const parent = to.slice(0, to.lastIndexOf("/")) || "/";
-    if (parent !== "/" && !image.exists(parent)) image.mkdir(parent, { recursive: true });
-    if (bytes) {
-      image.write(to, bytes);
-      count++;
-    } else if (!image.exists(to)) image.mkdir(to, { recursive: true });
-  }
-  return count;
-}

@@ -55,6 +55,16 @@ def make_folder(at):
     return files
 
 
+# the longest time, in milliseconds, for which the page did nothing else
+PAUSES = """document.body.dataset.pause = 0;
+    let was = performance.now();
+    setInterval(() => {
+        const now = performance.now();
+        document.body.dataset.pause = Math.max(Number(document.body.dataset.pause), now - was - 10);
+        was = now;
+    }, 10)"""
+
+
 class Use:
     """A person who uses the page, with a folder of their own and the tool beside it."""
 
@@ -86,7 +96,7 @@ class Use:
         self.give("choose-image", "#pick-image", work / "board.img")
         page.until("the image is open", lambda: page.rows() == ["/", *self.listed])
         check = dict(line.split(" ", 1) for line in self.run("--check", work / "board.img").stdout.decode().splitlines()[1:])
-        facts = page.script("return Object.fromEntries([...document.querySelectorAll('#facts div')].map((it) => [it.firstChild.textContent, it.lastChild.textContent]))")
+        facts = self.facts()
         same("the facts", [facts["Files"], facts["Folders"], facts["Used"]], [check["files"], check["directories"], check["used"].replace(" blocks", "")])
         same("the verdict", page.text("#verdict"), "Accepted; nothing is left to recover")
         page.choose("/settings/wifi.json")
@@ -116,9 +126,9 @@ class Use:
         page.choose("/log")
         was = page.rows()
         page.press("ArrowLeft")
-        same("a folder closes", page.rows() != was, True)
+        page.until("a folder closes", lambda: len(page.rows()) < len(was))
         page.press("ArrowRight")
-        same("a folder opens again", page.rows(), was)
+        page.until("a folder opens again", lambda: page.rows() == was)
         page.choose("/empty")
         page.press("Delete")
         page.until("a file is removed", lambda: "/empty" not in page.rows())
@@ -207,6 +217,55 @@ class Use:
         page.do("new-empty")
         page.answer(size="1M")
         page.until("an empty image is made", lambda: page.text("#image-name") == "littlefs.img" and page.rows() == ["/"])
+        if page.takes_folders:
+            self.drops()
+
+    def facts(self):
+        return self.page.script("return Object.fromEntries([...document.querySelectorAll('#facts div')].map((it) => [it.firstChild.textContent, it.lastChild.textContent]))")
+
+    def said(self):
+        """Why an image is read only, and which of its pairs are the oldest."""
+        page, work = self.page, self.work
+        image = work / "worn.img"
+        shutil.copy(work / "board.img", image)
+        (work / "new").write_bytes(bytes(500))
+        for _ in range(40):
+            same("a put", self.run("--put", work / "new", "/worn", image).returncode, 0)
+        page.script("document.querySelector('#options [name=inline]').value = '64'")
+        self.give("choose-image", "#pick-image", image)
+        page.answer()
+        line = next(it for it in self.run("--check", "--inline-max", "64", image).stdout.decode().splitlines() if it.startswith("writable no: "))
+        page.until("why it is read only", lambda: page.text("#verdict").endswith(f"It can be read only: {line.removeprefix('writable no: ')}"))
+        revisions = [int.from_bytes(image.read_bytes()[at : at + 4], "little") for at in (0, 4096)]
+        same("the oldest pair", self.facts()["Revisions of metadata pairs"].startswith(f"{max(revisions)} (blocks 0, 1); "), True)
+        page.script("document.querySelector('#options [name=inline]').value = ''")
+
+    def many(self):
+        """10,000 files in a folder, and a file full of superblocks that promise what isn't there: the page never waits for a second."""
+        page, work = self.page, self.work
+        (work / "many/all").mkdir(parents=True)
+        for number in range(10000):
+            (work / f"many/all/file{number:05}").write_bytes(b"%d" % number)
+        same("10,000 files", self.run("-c", work / "many", "-s", "4M", work / "many.img").returncode, 0)
+        superblock = (work / "many.img").read_bytes()[:48]  # without its checksum
+        (work / "hostile.bin").write_bytes(superblock.ljust(4096, b"\xff") * 16384)
+        page.script(PAUSES)
+        self.give("choose-image", "#pick-image", work / "many.img")
+        page.until("the image is open", lambda: page.rows()[1:3] == ["/all", "/all/file00000"])
+        page.until("the first rows are shown", lambda: len(page.rows()) == 1002)
+        page.click("#tree .more")
+        page.until("more rows are shown", lambda: len(page.rows()) == 2002)
+        page.choose("/all/file01999")
+        page.until("a file is shown", lambda: page.text("#panel") == "1999")
+        page.press("Delete")
+        page.until("a file is removed", lambda: self.facts()["Files"] == "9999")
+        page.do("save")
+        same("the rest", len(self.unpacked(page.downloaded("many.img"))), 9999)
+        self.give("choose-image", "#pick-image", work / "hostile.bin")
+        page.until("it is refused", lambda: "hostile.bin" in page.text("#refused h2"), 300)
+        pause = page.script("return Number(document.body.dataset.pause)")
+        same("a pause of a second", pause if pause > 1000 else None, None)
+        return pause
 
     def drops(self):
         page, work = self.page, self.work
@@ -232,13 +291,13 @@ def main():
             try:
                 page.until("the library starts", lambda: page.script("return document.body.dataset.ready") == "yes")
                 use = Use(page, given.tool, work)
-                use.view(), use.keys(), use.change(), use.refusals(), use.flash()
+                use.view(), use.keys(), use.change(), use.refusals(), use.flash(), use.said()
+                pause = use.many()
                 if name == "chromium":
-                    use.drops()
                     same("nothing else is asked for", [it for it in page.requests() if not it.startswith((address, "blob:", "data:", "chrome:"))], [])
             finally:
                 page.quit()
-        print(f"{page.name}: all as it should be", flush=True)
+        print(f"{page.name}: all as it should be; the longest pause with 10,000 files and with a hostile file: {pause:.0f} ms", flush=True)
 
 
 if __name__ == "__main__":

@@ -33,23 +33,12 @@ export class Tool {
   /** Returns the image that `-c` makes of files and folders: `{ path: "log/today", bytes, time }`, or without bytes for a folder. */
   make(entries, { size = "auto", ...options } = {}) {
     const host = new MemoryHost(), { blockSize = 4096, page = usualPage(blockSize), nameMax, inlineMax, times } = options;
-    const at = (path) => Uint8Array.from([...bytesOf("data/"), ...bytesOf(path)]), made = new Set();
-    host.files.mkdir(bytesOf("data"));
-    for (const { path, bytes, time } of entries) {
-      for (let end = path.indexOf("/"); end > 0; end = path.indexOf("/", end + 1)) folder(path.slice(0, end));
-      if (bytes) host.files.put(at(path), bytes, time);
-      else folder(path, time);
-    }
-    function folder(path, time) {
-      if (!made.has(path)) host.files.mkdir(at(path), 0, time);
-      made.add(path);
-    }
+    host.put(bytesOf("data"));
+    for (const { path, bytes, time } of entries) host.put(bytesOf(`data/${path}`), bytes, time);
     const given = optionWords({ "-s": size, "-b": blockSize, "-p": page, "--name-max": nameMax, "--inline-max": inlineWithin(inlineMax, blockSize) });
-    const { status, errors } = this.run(["-c", "data", "--explain", ...given, ...(times ? ["--times"] : []), "image"], undefined, host);
+    const { status, output, errors } = this.run(["-c", "data", "--explain", ...given, ...(times ? ["--times"] : []), "-"], undefined, host);
     if (status) throw new Error(errors.trim().replaceAll("\n", ": ").replaceAll("data/", "/"));
-    const image = host.files.open(bytesOf("image"), 0), bytes = new Uint8Array(image.stat().size);
-    image.read(bytes, 0);
-    return bytes;
+    return output;
   }
 }
 

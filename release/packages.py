@@ -12,14 +12,12 @@ import argparse
 import email.utils
 import gzip
 import hashlib
-import io
 import os
 from pathlib import Path
 import re
 import shutil
 import subprocess
 import sys
-import tarfile
 import tempfile
 import time
 import zipfile
@@ -47,11 +45,12 @@ License: BSD-3-Clause
 """
 
 
+def output(words):
+    return subprocess.run([str(it) for it in words], cwd=TOP, check=True, stdout=subprocess.PIPE).stdout
+
+
 def epoch():
-    given = os.environ.get("SOURCE_DATE_EPOCH")
-    if not given:
-        given = subprocess.run(["git", "log", "-1", "--format=%ct"], cwd=TOP, check=True, stdout=subprocess.PIPE, text=True).stdout
-    return int(given)
+    return int(os.environ.get("SOURCE_DATE_EPOCH") or output(["git", "log", "-1", "--format=%ct"]))
 
 
 def packed(data):
@@ -60,7 +59,7 @@ def packed(data):
 
 def manual(ports):
     """Returns the manual page: what the tool prints for --help."""
-    text = subprocess.run([str(ports / "x86_64" / NAME), "--help"], check=True, stdout=subprocess.PIPE, text=True).stdout
+    text = output([ports / "x86_64" / NAME, "--help"]).decode()
     lines = [it.replace("\\", "\\e").replace("-", "\\-") for it in text.splitlines()]
     body = "".join(("\\&" if it.startswith((".", "'")) else "") + it + "\n" for it in lines)
     head = f'.TH MKLITTLEFS 1 "" "littlefs, proved {VERSION}" "User Commands"\n.SH NAME\n{NAME} \\- {SUMMARY}\n.SH DESCRIPTION\n.nf\n'
@@ -118,21 +117,26 @@ def files_for_windows(ports):
 
 # ---- packages
 
+def stage(root, files, when):
+    """Puts files into a folder of their own."""
+    for path, file in files.items():
+        at = root / path
+        at.parent.mkdir(parents=True, exist_ok=True)
+        if isinstance(file, str):
+            at.symlink_to(file)
+        else:
+            at.write_bytes(file[0])
+            at.chmod(file[1])
+    for at in [root, *root.rglob("*")]:
+        if at.is_dir() and not at.is_symlink():
+            at.chmod(0o755)
+        os.utime(at, (when, when), follow_symlinks=False)
+
+
 def tarball(to, top, files, when):
-    entries = {str(parent): None for path in files for parent in Path(path).parents if str(parent) != "."} | files
-    with gzip.GzipFile(to, "wb", 9, mtime=0) as out, tarfile.open(fileobj=out, mode="w", format=tarfile.GNU_FORMAT) as tar:
-        for path, file in sorted(entries.items()):
-            entry = tarfile.TarInfo(f"{top}/{path}")
-            entry.mtime = when
-            if file is None:
-                entry.type, entry.mode = tarfile.DIRTYPE, 0o755
-                tar.addfile(entry)
-            elif isinstance(file, str):
-                entry.type, entry.linkname, entry.mode = tarfile.SYMTYPE, file, 0o777
-                tar.addfile(entry)
-            else:
-                entry.size, entry.mode = len(file[0]), file[1]
-                tar.addfile(entry, io.BytesIO(file[0]))
+    with tempfile.TemporaryDirectory() as folder:
+        stage(Path(folder) / top, files, when)
+        to.write_bytes(packed(output(["tar", "--sort=name", "--owner=root:0", "--group=root:0", "-C", folder, "-cf", "-", top])))
 
 
 def zipped(to, top, files, when):
@@ -182,33 +186,17 @@ Description: {SUMMARY}
  comes littlefs_c, a library for C over images in memory. Their code is proved
  to keep its contracts.
 """
+    sums = "".join(f"{hashlib.md5(data).hexdigest()}  {path}\n" for path, (data, _) in sorted(real.items()))
+    about = {"control": control, "triggers": "activate-noawait ldconfig\n", "md5sums": sums}
     with tempfile.TemporaryDirectory() as folder:
-        root = Path(folder) / "root"
-        for path, file in files.items():
-            at = root / path
-            at.parent.mkdir(parents=True, exist_ok=True)
-            if isinstance(file, str):
-                at.symlink_to(file)
-            else:
-                at.write_bytes(file[0])
-                at.chmod(file[1])
-        (root / "DEBIAN").mkdir()
-        (root / "DEBIAN/control").write_text(control)
-        (root / "DEBIAN/triggers").write_text("activate-noawait ldconfig\n")
-        sums = "".join(f"{hashlib.md5(data).hexdigest()}  {path}\n" for path, (data, _) in sorted(real.items()))
-        (root / "DEBIAN/md5sums").write_text(sums)
-        for at in [root, *root.rglob("*")]:
-            if at.is_dir() and not at.is_symlink():
-                at.chmod(0o755)
-            os.utime(at, (when, when), follow_symlinks=False)
+        stage(Path(folder), {**files, **{f"DEBIAN/{name}": (text.encode(), 0o644) for name, text in about.items()}}, when)
         env = {**os.environ, "SOURCE_DATE_EPOCH": str(when)}
-        subprocess.run(["dpkg-deb", "--root-owner-group", "-Zxz", "--threads-max=1", "--build", str(root), str(to)], check=True, env=env, stdout=subprocess.DEVNULL)
+        subprocess.run(["dpkg-deb", "--root-owner-group", "-Zxz", "--threads-max=1", "--build", folder, str(to)], check=True, env=env, stdout=subprocess.DEVNULL)
 
 
 def wheel_for_linux(out, ports, machine):
     library = ports / machine / "littlefs_c.so"
-    readelf = subprocess.run(["readelf", "-W", "--version-info", str(library)], check=True, stdout=subprocess.PIPE, text=True).stdout
-    needed = [tuple(map(int, it.split("."))) for it in re.findall(r"GLIBC_([\d.]+)", readelf)]
+    needed = [tuple(map(int, it.split("."))) for it in re.findall(r"GLIBC_([\d.]+)", output(["readelf", "-W", "--version-info", library]).decode())]
     if max(needed) > (2, 17):
         sys.exit(f"{library} needs a glibc above 2.17, and the tag of its wheel and the Debian package say that 2.17 is enough")
     build_wheel.write_wheel(out, library, f"py3-none-manylinux_2_17_{machine}")

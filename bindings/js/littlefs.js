@@ -212,14 +212,12 @@ export function usualPage(blockSize) {
   return [256, 128, 64, 32, 16, 8].find((page) => blockSize % page === 0 && 8 * page <= blockSize) ?? 8;
 }
 
-/** A littlefs image in memory, mounted. `Image.mount` and `Image.format` make one. A refused call leaves it as it was. */
+/** A littlefs image in memory, mounted. index.d.ts says what each call is for. A refused call leaves the image as it was. */
 export class Image {
   #library;
   #session;
-  #config;
   #size;
 
-  /** Mounts a copy of an image. Without a block size the superblock's sizes and limits are taken, and bytes behind the image left out. */
   static mount(data, options = {}) {
     let bytes = bytesIn(data), given = { ...options };
     if (given.blockSize === undefined) {
@@ -235,7 +233,6 @@ export class Image {
     return image;
   }
 
-  /** Makes an empty image of so many blocks. */
   static format(options) {
     const { blockCount, blockSize = 4096 } = options;
     const image = new Image();
@@ -246,12 +243,9 @@ export class Image {
   #begin(given, size, start) {
     if (!library) throw new Error("the library isn't loaded: import index.js, or call load()");
     const { blockSize, page = usualPage(blockSize), order = "longer-first", also21 = false, pairCycles = 0 } = given;
-    const { nameMax, fileMax, attrMax, inlineMax } = { ...LARGEST, ...Object.fromEntries(Object.entries(given).filter(([, value]) => value !== undefined)) };
-    const lib = (this.#library = library);
-    this.#config = { blockSize, page, order, also21, nameMax, fileMax, attrMax, inlineMax, pairCycles };
-    this.#size = size;
-    const numbers = [blockSize, page, order === "shorter-first" ? 1 : 0, also21 ? 1 : 0, nameMax, fileMax, attrMax, inlineMax, pairCycles];
-    const at = lib.take(16), session = BigInt(at);
+    const limits = Object.fromEntries(Object.entries(LARGEST).map(([name, largest]) => [name, given[name] ?? largest]));
+    const numbers = [blockSize, page, order === "shorter-first" ? 1 : 0, also21 ? 1 : 0, ...Object.values(limits), pairCycles];
+    const lib = library, at = lib.take(16), session = BigInt(at);
     try {
       lib.bytes.fill(0, at, at + 16);
       lib.with(() => {
@@ -263,7 +257,9 @@ export class Image {
       if (!lib.failure) lib.call("free", session);
       throw error;
     }
-    this.#session = session;
+    [this.#library, this.#session, this.#size] = [lib, session, size];
+    const said = { blockSize, blockCount: size / blockSize, page, limits: Object.freeze(limits) };
+    for (const [name, value] of Object.entries(said)) Object.defineProperty(this, name, { value, enumerable: true });
     forgotten?.register(this, { library: lib, session }, this);
   }
 
@@ -303,29 +299,10 @@ export class Image {
 
   // ---- the image
 
-  get blockSize() {
-    return this.#config.blockSize;
-  }
-
-  get blockCount() {
-    return this.#size / this.#config.blockSize;
-  }
-
-  get page() {
-    return this.#config.page;
-  }
-
-  /** The longest name, file, attribute and inline file that are written, in bytes. */
-  get limits() {
-    const { nameMax, fileMax, attrMax, inlineMax } = this.#config;
-    return { nameMax, fileMax, attrMax, inlineMax };
-  }
-
   get closed() {
     return !this.#session;
   }
 
-  /** Lets the image's memory go. */
   close() {
     if (!this.#session) return;
     forgotten?.unregister(this);
@@ -352,24 +329,20 @@ export class Image {
     });
   }
 
-  /** How many blocks the image uses. */
   usedBlocks() {
     return this.#call("used_blocks", undefined);
   }
 
-  /** Ends what a loss of power left. Each call that changes the image does so first. */
   recover() {
     this.#call("recover", undefined);
   }
 
-  /** Reads the image anew: what mends it after NoMemory. */
   remount() {
     this.#call("remount", undefined);
   }
 
   // ---- folders
 
-  /** The entries of a folder, in name order. */
   list(path = "/") {
     const above = shown(path).replace(/\/$/, "");
     const lines = new TextDecoder("latin1").decode(this.#whole("list_at", path)).split("\n").slice(0, -1);
@@ -380,7 +353,6 @@ export class Image {
     });
   }
 
-  /** All entries below a folder, each folder before what is in it. */
   *walk(path = "/") {
     for (const entry of this.list(path)) {
       yield entry;
@@ -388,7 +360,6 @@ export class Image {
     }
   }
 
-  /** Makes an empty folder; with `recursive` also those above it, and none where one is there. */
   mkdir(path, { recursive = false } = {}) {
     if (recursive) {
       const text = shown(path);
@@ -400,7 +371,6 @@ export class Image {
 
   // ---- entries
 
-  /** What is at a path, or null. */
   stat(path) {
     const answer = this.#with((lib) => this.#ask("stat_at", ...lib.put(path)));
     if (answer === -NO_ENT || answer === -NOT_DIR) return null;
@@ -408,38 +378,31 @@ export class Image {
     return { isDirectory: answer === DIRECTORY, size: answer === DIRECTORY ? null : answer };
   }
 
-  /** Whether something is at a path. */
   exists(path) {
     return this.stat(path) !== null;
   }
 
-  /** Removes a file or an empty folder; with `recursive` a folder with all that is in it. */
   remove(path, { recursive = false } = {}) {
     if (recursive && this.stat(path)?.isDirectory) for (const entry of this.list(path)) this.remove(entry.path, { recursive });
     this.#at("remove_at", path);
   }
 
-  /** Gives an entry another path, in place of a file or an empty folder there. */
   rename(from, to) {
     this.#with((lib) => this.#call("rename_at", from, ...lib.put(from), ...lib.put(to)));
   }
 
-  /** The bytes of an entry's attribute, whose type is from 0 to 255. */
   getAttribute(path, type) {
     return this.#whole("get_attr_at", path, number8(type));
   }
 
-  /** Gives an entry an attribute. */
   setAttribute(path, type, data) {
     this.#with((lib) => this.#call("set_attr_at", path, ...lib.put(path), number8(type), ...lib.put(bytesIn(data))));
   }
 
-  /** Takes an attribute from an entry. */
   removeAttribute(path, type) {
     this.#at("remove_attr_at", path, number8(type));
   }
 
-  /** All attributes of an entry, by their types. */
   attributes(path) {
     const found = new Map(), size = 1024;
     this.#with((lib) => {
@@ -475,12 +438,10 @@ export class Image {
     }
   }
 
-  /** A file's bytes as text of UTF-8. */
   readText(path) {
     return new TextDecoder().decode(this.read(path));
   }
 
-  /** Writes a file. A refusal leaves the tree as it was. */
   write(path, data) {
     this.#put(path, TRUNCATE, data);
   }

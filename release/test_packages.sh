@@ -46,7 +46,7 @@ echo "pkg-config, CMake, and CMake for Windows: the example makes the same image
 python3 -m venv venv && venv/bin/pip install -q --no-index "$made"/littlefs_c-*-manylinux*x86_64.whl
 venv/bin/python -c 'import littlefs_c; image = littlefs_c.Image.by_superblock(open("disk.img", "rb").read()); print("wheel:", image.read("/log/today"))'
 for wheel in "$made"/*.whl; do
-    python3 -m zipfile -l "$wheel" | grep -q "littlefs_c/littlefs_c\.\(so\|dll\)"
+    unzip -l "$wheel" | grep "littlefs_c/littlefs_c\.\(so\|dll\)" > names
 done
 
 # the npm package

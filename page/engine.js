@@ -18,8 +18,10 @@ export async function start() {
   modules = await Promise.all([compiled(librarySource), compiled(toolSource)]);
 }
 
+const address = URL.createObjectURL(new Blob([source]));
+
 export class Engine {
-  #worker = new Worker(URL.createObjectURL(new Blob([source])));
+  #worker = new Worker(address);
   #waiting = new Map();
   #number = 0;
   #ended = null;

@@ -40,7 +40,10 @@ function optionsGiven() {
 async function begin(engine, name, run, isChanged = false) {
   if (coming !== engine) coming?.end();
   coming = engine;
-  const refused = await run(engine);
+  const refused = await run(engine).catch((error) => {
+    engine.end();
+    throw error;
+  });
   if (refused) return refuse(engine, name, refused);
   coming = null;
   close();
@@ -53,7 +56,8 @@ async function begin(engine, name, run, isChanged = false) {
 }
 
 async function openFile(file) {
-  if (await mayLeave()) await begin(new Engine(), file.name, (engine) => engine.call("open", file, optionsGiven()));
+  const options = optionsGiven();
+  if (await mayLeave()) await begin(new Engine(), file.name, (engine) => engine.call("open", file, options));
 }
 
 function refuse(engine, name, { reason, length, superblock, parts }) {

@@ -39,18 +39,20 @@ class Opened {
 
 /** A stream that the program writes. */
 class Written {
-  #bytes = new Uint8Array(4096);
-  #size = 0;
+  #parts = [];
 
   get all() {
-    return this.#bytes.slice(0, this.#size);
+    const all = new Uint8Array(this.#parts.reduce((sum, it) => sum + it.length, 0));
+    let at = 0;
+    for (const part of this.#parts) {
+      all.set(part, at);
+      at += part.length;
+    }
+    return all;
   }
 
   write(bytes) {
-    const size = this.#size + bytes.length, was = this.#bytes;
-    if (size > was.length) (this.#bytes = new Uint8Array(2 * size)).set(was);
-    this.#bytes.set(bytes, this.#size);
-    this.#size = size;
+    this.#parts.push(bytes.slice());
     return bytes.length;
   }
 

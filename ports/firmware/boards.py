@@ -65,7 +65,7 @@ def link(board, made, name, objects):
     start = c_object(board, HERE / f"board/{board.start}.c", made / f"{board.start}.o", *board.start_words)
     elf = made / f"{name}.elf"
     symbols = [f"-Wl,--defsym={symbol}={value}" for symbol, value in board.symbols.items()]
-    run(f"{board.gcc}-gcc", *board.cpu, board.libc, "-nostartfiles", "-Wl,--gc-sections", "-Wl,--no-warn-rwx-segments", f"-Wl,-Map={made / name}.map",
+    run(f"{board.gcc}-gcc", *board.cpu, board.libc, "-nostartfiles", "-Wl,--gc-sections", "-Wl,--no-warn-rwx-segments", "-Wl,--no-warn-execstack", f"-Wl,-Map={made / name}.map",
         "-T", HERE / f"board/{board.start}.ld", *symbols, *objects, start, "-lc", "-lgcc", "-o", elf)
     return elf
 

@@ -5,9 +5,11 @@ usage: ports/firmware/tests.py [TEST..] [--boards BOARD..] [--count N] [--every 
 
 build.py comes first: the tests link the libraries that it leaves in ports/firmware/out, or in FOLDER. TEST is one of these, or all are run:
 - example: the example application, three times on one flash chip;
-- work: the work of test/work.c, with a table of instructions, stack, heap and calls of the flash, also with blocks of 1,024 bytes;
+- work: the work of test/work.c, with a table of instructions, stack, heap and calls of the flash, also with blocks of 1,024 bytes; for
+  all boards the tables are in work.md, beside the libraries;
 - replay: COUNT operations (1,000), in blocks of 1,024 and 4,096 bytes: each answer, each buffer and the flash as by the x86-64 library;
-- faults: a flash that fails at each of its calls, and a heap that refuses each allocation, or at each Nth by --every;
+- faults: the steps of test/faults.c, with a flash that fails at each of its calls, and a heap that refuses each allocation, or at each Nth
+  by --every;
 - power: power is lost at each program and erase of the work, or at each Nth by --every: the emulator is stopped, and started again with
   the flash as it was left.
 
@@ -16,10 +18,11 @@ measured, and on the host that code reads what each test leaves.
 """
 
 import argparse
-from dataclasses import dataclass
+from dataclasses import dataclass, field
 from pathlib import Path
 import re
 import sys
+import zlib
 
 HERE = Path(__file__).resolve().parent
 sys.path[:0] = [str(HERE.parent), str(HERE.parent.parent / "bench")]
@@ -38,6 +41,7 @@ class Given:
     every: int
     littlefs: Path
     code: str  # littlefs's own code as a program of the host, or None
+    rows: list = field(default_factory=list)  # what was measured
 
 
 def expect(is_so, what):
@@ -99,11 +103,37 @@ def littlefs_program(board, made, littlefs, cache, words):
     return link(board, made, f"littlefs-{cache}", objects)
 
 
-def show(title, elf, lines):
-    print(f"== {title}")
-    for whose, at in sorted(sizes(elf.with_suffix(".map")).items(), key=lambda it: -it[1]["code"])[:4]:
-        print(f"   {whose:24} code {at['code']:7}  data {at['data']:5}")
-    print(lines, end="", flush=True)
+@dataclass
+class Measured:
+    """The work by one library on one board: the bytes of its code with libgcc's, and of each part in order what test/measured.c counts."""
+
+    board: str
+    block: int
+    whose: str
+    code: int
+    parts: list  # a name, and the numbers of its line
+    top: int  # the heap's bytes up to the last one ever in use, by first fit
+
+    def sum(self, index):
+        return sum(numbers[index] for _, numbers in self.parts)
+
+    def most(self, index):
+        return max(numbers[index] for _, numbers in self.parts)
+
+
+INSTRUCTIONS, STACK, HEAP, READS, READ_BYTES, PROGRAMS, ERASES = 0, 1, 2, 4, 5, 6, 8  # the numbers of a line of test/measured.c
+OURS = "this library"
+
+
+def measured(board, elf, at, block, whose, libraries):
+    """Runs the work, and returns what was measured."""
+    lines = run_program(board, elf, at, counts=True)
+    parts = [(found[1].strip(), [int(it) for it in found[2].split()]) for found in re.finditer(r"^(.{16})((?: +\d+){9})$", lines, re.M)]
+    expect(len(parts) == 11, f"{board.name}: the work has 11 parts:\n{lines}")
+    known = sizes(elf.with_suffix(".map"))
+    code = sum(known[it]["code"] for it in (*libraries, "libgcc") if it in known)
+    print(f"== {board.name}: {whose}, blocks of {block}, {code} bytes of code with libgcc's\n{lines}", end="", flush=True)
+    return Measured(board.name, block, whose, code, parts, int(re.search(r"top: (\d+)$", lines)[1]))
 
 
 def test_work(board, made, given):
@@ -111,15 +141,63 @@ def test_work(board, made, given):
         at = folder(made, "work-files")
         words = [f"-DBLOCK_BYTES={block}", f"-DPAGE_BYTES={page}"]
         elf = program(board, made, f"work-{block}", ("measured.c", *WORK), *words)
-        show(f"{board.name}: the library, blocks of {block}", elf, run_program(board, elf, at, counts=True))
+        given.rows.append(measured(board, elf, at, block, OURS, ["liblittlefs_flash"]))
         if not given.code:
             continue
         tree = tree_of(given.code, at / "flash.img", block)
         for cache in (page, block):
             elf = littlefs_program(board, made, given.littlefs, cache, words)
-            show(f"{board.name}: littlefs's own code {littlefs_code.release(given.littlefs)}, blocks of {block}, caches of {cache}", elf,
-                 run_program(board, elf, at, counts=True))
+            whose = f"littlefs {littlefs_code.release(given.littlefs)}, caches of {cache}"
+            given.rows.append(measured(board, elf, at, block, whose, ["lfs.o", "lfs2.o", "lfs_util.o", "lfs2_util.o"]))
             expect(tree_of(given.code, at / "flash.img", block) == tree, f"{board.name}: littlefs's own code leaves the same tree")
+
+
+# ---- the tables of docs/FIRMWARE.md
+
+def table(head, rows):
+    lines = [head, ["---"] + ["--:"] * (len(head) - 1), *rows]
+    return "".join(f"| {' | '.join(line)} |\n" for line in lines)
+
+
+def number(value):
+    return f"{value:,}"
+
+
+def millions(value):
+    return f"{value / 1e6:.1f}"
+
+
+def board_tables(rows, block):
+    """What each board needs, by each library."""
+    wholes = [it for it in rows if it.block == block]
+    whose, boards = list(dict.fromkeys(it.whose for it in wholes)), list(dict.fromkeys(it.board for it in wholes))
+    of = {(it.board, it.whose): it for it in wholes}
+    kinds = (("code, bytes", lambda it: number(it.code)), ("heap, bytes", lambda it: number(it.most(HEAP))), ("stack, bytes", lambda it: number(it.most(STACK))),
+             ("instructions, millions", lambda it: millions(it.sum(INSTRUCTIONS))))
+    lines = [[f"{kind}: {name}", *(text(of[board, name]) for board in boards)] for kind, text in kinds for name in whose]
+    flash = [[name, *(number(of[boards[0], name].sum(at)) for at in (READS, READ_BYTES, PROGRAMS, ERASES)), number(of[boards[0], name].top)] for name in whose]
+    for it in wholes:
+        same = all(it.sum(at) == of[boards[0], it.whose].sum(at) for at in (READS, READ_BYTES, PROGRAMS, ERASES))
+        expect(same, f"{it.board}: {it.whose} makes the same calls of the flash as on {boards[0]}")
+    return [table([f"Blocks of {number(block)}", *boards], lines),
+            table([f"Blocks of {number(block)}, each board", "reads, and questions if blank", "bytes of these", "programs", "erases", "heap's end, first fit"], flash)]
+
+
+def part_table(rows, board, block):
+    """The instructions of each part on a board, by each library."""
+    wholes = [it for it in rows if it.board == board and it.block == block]
+    names = [name for name, _ in wholes[0].parts]
+    lines = [[name, *(number(it.parts[at][1][INSTRUCTIONS]) for it in wholes)] for at, name in enumerate(names)]
+    return table([f"Instructions, {board}, blocks of {number(block)}", *(it.whose for it in wholes)], lines)
+
+
+def write_tables(given):
+    """Writes what the work took as the tables of docs/FIRMWARE.md."""
+    blocks, boards = dict.fromkeys(it.block for it in given.rows), dict.fromkeys(it.board for it in given.rows)
+    board = "m4" if "m4" in boards else next(iter(boards))
+    tables = [part_table(given.rows, board, block) for block in blocks] + [it for block in blocks for it in board_tables(given.rows, block)]
+    (given.out / "work.md").write_text("\n".join(tables))
+    print(f"the tables are in {given.out / 'work.md'}", flush=True)
 
 
 # ---- the same as the x86-64 library
@@ -143,15 +221,41 @@ def test_replay(board, made, given):
 
 # ---- failures
 
+def tree_sum(tree, attributes):
+    """Returns the checksum of test/tree.h for a tree as littlefs's own code shows it."""
+    total = 0xFFFFFFFF  # each step of zlib's is between two inversions
+    for path in sorted(tree, key=lambda it: it.split(b"/")):
+        total = zlib.crc32(path, total)
+        if tree[path]:
+            size, sum_ = tree[path]
+            total = zlib.crc32(size.to_bytes(4, "little") + sum_.to_bytes(4, "little"), total)
+        total = zlib.crc32(attributes[path].get(3, b""), total)
+    return total ^ 0xFFFFFFFF
+
+
 def test_faults(board, made, given):
-    elf = program(board, made, "faults", ("faults.c",), f"-DEVERY={given.every}", "-DFLASH_BYTES=131072", "-DBLOCK_BYTES=4096", "-DPAGE_BYTES=256")
-    print(f"{board.name}: faults: {run_program(board, elf, folder(made, 'faults-files'))}", end="", flush=True)
+    at = folder(made, "faults-files")
+    words = [f"-DEVERY={given.every}", "-DFLASH_BYTES=131072", "-DBLOCK_BYTES=4096", "-DPAGE_BYTES=256"]
+    elf = program(board, made, "faults", ("faults.c", "tree.c"), *words)
+    lines = run_program(board, elf, at)
+    left = re.findall(r"^left (\d+) ([0-9a-f]{8})$", lines, re.M)
+    print(f"{board.name}: faults: {lines.splitlines()[-1]}", flush=True)
+    for number, sum_ in left if given.code else []:
+        image = at / f"left{int(number):04}.img"
+        shown = littlefs_code.shown(given.code, str(image), (4096, 64, 0))
+        expect(shown and not shown.missing and not shown.twice, f"littlefs's own code reads {image}")
+        tree = {path: content for path, (content, _) in shown.tree.items() if path}
+        expect(tree_sum(tree, {path: it for path, (_, it) in shown.tree.items()}) == int(sum_, 16), f"littlefs's own code finds the same tree in {image}")
+    if given.code:
+        print(f"   littlefs's own code finds the same tree in each of the {len(left)} flashes that were left", flush=True)
+    folder(made, "faults-files")
 
 
 @dataclass
 class Start:
     """What a start after a loss of power finds, and what it leaves: trees with their checksums."""
 
+    has_image: bool
     found: str
     left: str
     tree: dict
@@ -166,7 +270,7 @@ def start_of(lines):
     for part in (parts[0], parts[2]):
         rows = [it.split(" ") for it in part.splitlines()]
         trees.append({row[-1]: (int(row[1]), int(row[2], 16)) if row[0] == "f" else None for row in rows})
-    return Start(parts[1], parts[3], *trees)
+    return Start(not lines.startswith("no file system"), parts[1], parts[3], *trees)
 
 
 def lose_power(board, elf, at, number, sums):
@@ -175,9 +279,8 @@ def lose_power(board, elf, at, number, sums):
     changes = int(re.fullmatch(r"stopped after (\d+)\n", run_program(board, elf, at))[1])
     stopped = (at / "flash.img").read_bytes()
     (at / "orders.txt").write_text("start")
-    lines = run_program(board, elf, at)
-    expect(not changes or not lines.startswith("no file system"), f"{board.name}: power lost at {number}: the flash is accepted")
-    start = start_of(lines)
+    start = start_of(run_program(board, elf, at))
+    expect(not changes or start.has_image, f"{board.name}: power lost at {number}: the flash is accepted")
     allowed = sums[max(changes - 1, 0) : changes + 1]
     expect(start.found in allowed, f"{board.name}: power lost at {number}: the tree from before or after change {changes + 1}")
     expect({**start.tree, "/after": (13, start.then["/after"][1])} == start.then, f"{board.name}: power lost at {number}: the work goes on")
@@ -186,7 +289,7 @@ def lose_power(board, elf, at, number, sums):
 
 def test_power(board, made, given):
     at = folder(made, "power-files")
-    elf = program(board, made, "power", ("power.c", *WORK), "-DBLOCK_BYTES=4096", "-DPAGE_BYTES=256", "-DFLASH_BYTES=262144")
+    elf = program(board, made, "power", ("power.c", "tree.c", *WORK), "-DBLOCK_BYTES=4096", "-DPAGE_BYTES=256", "-DFLASH_BYTES=262144")
     (at / "orders.txt").write_text("all")
     lines = run_program(board, elf, at)
     sums, writes = re.findall(r"^tree (\w+)$", lines, re.M), int(re.search(r"^writes (\d+)$", lines, re.M)[1])
@@ -198,13 +301,12 @@ def test_power(board, made, given):
             continue
         expect(tree_of(given.code, at / "flash.img", 4096) == start.then, f"{board.name}: power lost at {number}: littlefs's own code finds the tree")
         (at / "stopped.img").write_bytes(stopped)
-        shown = littlefs_code.shown(given.code, str(at / "stopped.img"), (4096, 64, 0))
-        if shown:
-            tree = {path.decode(): content for path, (content, _) in shown.tree.items() if path}
-            read += tree == start.tree
+        if start.has_image:
+            expect(tree_of(given.code, at / "stopped.img", 4096) == start.tree, f"{board.name}: power lost at {number}: littlefs's own code finds it without a start")
+            read += 1
     print(f"{board.name}: power: lost at {tried} of {writes} programs and erases, {len(sums)} changes: the tree from before or after each time", flush=True)
     if given.code:
-        print(f"   littlefs's own code finds the same tree in what each start leaves, and in {read} of the flashes as they were left without power", flush=True)
+        print(f"   littlefs's own code finds the same tree in {read} of the flashes as they were left without power, the others being formatted, and in each after a start", flush=True)
 
 
 TESTS = {"example": test_example, "work": test_work, "replay": test_replay, "faults": test_faults, "power": test_power}
@@ -228,6 +330,8 @@ def main():
             sys.exit(f"there is no {made / 'example.elf'}: run build.py {name}")
         for test in given.tests or TESTS:
             TESTS[test](board, made, all_)
+    if all_.rows:
+        write_tables(all_)
 
 
 if __name__ == "__main__":

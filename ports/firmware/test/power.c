@@ -9,82 +9,23 @@
 #include "fs.h"
 #include "littlefs_flash.h"
 #include "print.h"
+#include "tree.h"
 #include "work.h"
-
-#define PATH(path) (const uint8_t *)(path), strlen(path)
 
 extern lfs_flash fs;
 /* A second session, that only reads what is on the flash between two calls of the first: it may read files that are being written. */
 static lfs_flash reader = LFS_FLASH(1, BLOCK, PAGE, BLOCKS);
 static const lfs_flash_config config = LFS_FLASH_CONFIG;
 static uint32_t changes;
-static char dir_path[300], file_path[600];
-static uint8_t lines[2][2000], contents[4096];
+static uint8_t contents[16];
 
 static void nothing(void) {}
 static void nothing_after(const char *name) { (void)name; }
 
-/* littlefs's checksum, as its own code prints it on the host. */
-static uint32_t checksum(uint32_t sum, const uint8_t *bytes, size_t count) {
-    for (size_t at = 0; at < count; at++) {
-        sum ^= bytes[at];
-        for (int bit = 0; bit < 8; bit++) sum = sum >> 1 ^ (sum & 1 ? 0xedb88320 : 0);
-    }
-    return sum;
-}
-
-/* A tree that a session shows, and its checksum: over each path, and each file's size and checksum. */
-typedef struct {
-    lfs_flash *fs;
-    uint32_t sum;
-    int is_printed;
-} tree;
-
-static void see_file(tree *seen) {
-    int64_t file = lfs_flash_file_open(seen->fs, PATH(file_path), LFS_FLASH_READ);
-    must("a file", file);
-    int64_t size = lfs_flash_file_read(seen->fs, (uint32_t)file, contents, sizeof contents);
-    must("a file's bytes", size);
-    must("a close", lfs_flash_file_close(seen->fs, (uint32_t)file));
-    uint32_t words[2] = { (uint32_t)size, checksum(0xffffffff, contents, (size_t)size) };
-    seen->sum = checksum(checksum(seen->sum, PATH(file_path)), (uint8_t *)words, sizeof words);
-    if (!seen->is_printed) return;
-    board_write("f ");
-    print_number(words[0], 0);
-    board_write(" ");
-    print_hex(words[1], 8);
-    board_write(" ");
-    board_write(file_path);
-    board_write("\n");
-}
-
-static void see_directory(tree *seen, const char *path, int depth) {
-    int64_t len = lfs_flash_list(seen->fs, PATH(path), lines[depth], sizeof lines[depth]);
-    must_be("a list", len >= 0 && len <= (int64_t)sizeof lines[depth]);
-    for (uint8_t *at = lines[depth]; at < lines[depth] + len;) {
-        uint8_t *name = (uint8_t *)strchr(strchr((char *)at, ' ') + 1, ' ') + 1, *end = memchr(name, '\n', 300);
-        size_t path_len = strlen(path);
-        memcpy(file_path, path, path_len);
-        if (path_len > 1) file_path[path_len++] = '/';
-        memcpy(file_path + path_len, name, (size_t)(end - name));
-        file_path[path_len + (size_t)(end - name)] = 0;
-        if (*at == 'f') see_file(seen);
-        else {
-            seen->sum = checksum(seen->sum, PATH(file_path));
-            if (seen->is_printed) board_write("d "), board_write(file_path), board_write("\n");
-            must_be("two levels", depth == 0);
-            strcpy(dir_path, file_path);
-            see_directory(seen, dir_path, 1);
-        }
-        at = end + 1;
-    }
-}
-
 static void show_tree(lfs_flash *from, int is_printed) {
-    tree seen = { from, 0, is_printed };
-    see_directory(&seen, "/", 0);
+    uint32_t sum = tree_sum(from, is_printed);
     board_write("tree ");
-    print_hex(seen.sum, 8);
+    print_hex(sum, 8);
     board_write("\n");
 }
 

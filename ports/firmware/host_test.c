@@ -115,9 +115,24 @@ static void test_calls(void) {
     MUST(lfs_flash_fs_stat(&fs, &info) == 0 && info.version == 0x20000 && info.block_size == BLOCK && info.block_count == BLOCKS);
     MUST(info.name_max == 255 && info.file_max == 2147483647 && info.attr_max == 1022);
     MUST(lfs_flash_gstate(&fs) == 0 && lfs_flash_recover(&fs) == 0 && lfs_flash_remount(&fs) == 0);
+    MUST(lfs_flash_name_order(&fs) == 0 && lfs_flash_is_writable(&fs) == 1 && lfs_flash_read_only_reason(&fs) == 0);
     int64_t used = 0;
     for (uint32_t block = 0; block < BLOCKS; block++) used += lfs_flash_is_used(&fs, block);
     MUST(used == lfs_flash_used_blocks(&fs) && lfs_flash_is_used(&fs, BLOCKS) == -LFS_FLASH_INVALID);
+    MUST(lfs_flash_unmount(&fs) == 0);
+}
+
+/* An image with other limits than the configuration's is only read, until it is mounted by its own. */
+static void test_limits(void) {
+    start_anew();
+    lfs_flash_info info;
+    lfs_flash_config short_names = LFS_FLASH_CONFIG;
+    short_names.name_max = 32;
+    MUST(!lfs_flash_format(&fs, &short_names) && !lfs_flash_mount(&fs, &config));
+    MUST(lfs_flash_is_writable(&fs) == 0 && lfs_flash_read_only_reason(&fs) == LFS_FLASH_OTHER_LIMITS);
+    MUST(lfs_flash_mkdir(&fs, PATH("/d")) == -LFS_FLASH_READ_ONLY && lfs_flash_fs_stat(&fs, &info) == 0 && info.name_max == 32);
+    MUST(lfs_flash_unmount(&fs) == 0 && lfs_flash_mount(&fs, &short_names) == 0);
+    MUST(lfs_flash_is_writable(&fs) == 1 && lfs_flash_read_only_reason(&fs) == 0 && lfs_flash_mkdir(&fs, PATH("/d")) == 0);
     MUST(lfs_flash_unmount(&fs) == 0);
 }
 
@@ -195,6 +210,7 @@ static void test_failures(void) {
 int main(int count, char **words) {
     test_starts();
     test_calls();
+    test_limits();
     test_failures();
     FILE *file = count > 1 ? fopen(words[1], "wb") : NULL;
     if (file) MUST(fwrite(flash, 1, sizeof flash, file) == sizeof flash && !fclose(file));

@@ -52,7 +52,7 @@ extern "C" {
 #define LFS_FLASH_INVALID 22       /* a size, a setting, a path, flags or a position is out of range */
 #define LFS_FLASH_TOO_BIG 27       /* a file or an attribute would pass its limit */
 #define LFS_FLASH_NO_SPACE 28      /* too few blocks are free */
-#define LFS_FLASH_READ_ONLY 30     /* the image's limits aren't those of the configuration, so it is only read */
+#define LFS_FLASH_READ_ONLY 30     /* the image is only read: lfs_flash_read_only_reason says why */
 #define LFS_FLASH_NAME_TOO_LONG 36 /* a name has more than 255 bytes, or than name_max */
 #define LFS_FLASH_NOT_EMPTY 39     /* the directory has entries */
 #define LFS_FLASH_NO_ATTR 61       /* the entry has no such attribute */
@@ -82,7 +82,6 @@ typedef char lfs_flash_has_32_bytes[sizeof(lfs_flash) == 32 ? 1 : -1]; /* the li
 /* The images that are accepted, and the limits of a new one. littlefs's own code mounts an image only if its limits are at most
  * those that the code was built with. lfs_flash_fs_stat reads an image's limits. */
 typedef struct lfs_flash_config {
-    uint32_t order;       /* of names in a new image: 0 for littlefs's, the longer of two first that begin alike; 1 for the shorter */
     uint32_t versions;    /* 0 to accept version 2.0 alone, 1 to accept 2.1 too; a new image has 2.0 */
     uint32_t name_max;    /* bytes of a name, 1 to 255 */
     uint32_t file_max;    /* bytes of a file, 1 to 2,147,483,647 */
@@ -91,7 +90,7 @@ typedef struct lfs_flash_config {
     uint32_t pair_cycles; /* after how many compactions a metadata pair moves to other blocks; 0: never */
 } lfs_flash_config;
 
-#define LFS_FLASH_CONFIG { 0, 0, 255, 2147483647, 1022, 1022, 0 }
+#define LFS_FLASH_CONFIG { 0, 255, 2147483647, 1022, 1022, 0 }
 
 /* ---- a session */
 
@@ -128,6 +127,22 @@ typedef struct lfs_flash_info {
 
 /* Reads the superblock's fields, and returns 0. */
 int64_t lfs_flash_fs_stat(lfs_flash *fs, lfs_flash_info *info);
+
+/* Returns the image's order of names: 0 for littlefs's, the longer of two first that begin alike; 1 for the shorter. */
+int64_t lfs_flash_name_order(lfs_flash *fs);
+
+/* Returns 1 if the session may write, and 0 if its image is only read or the session has failed. */
+int64_t lfs_flash_is_writable(lfs_flash *fs);
+
+/* Why an image is only read. With OTHER_LIMITS it can be written by a session that is mounted with name_max, file_max and attr_max as
+ * lfs_flash_fs_stat reads them. If several rules are broken, the first of them is returned. */
+#define LFS_FLASH_OTHER_LIMITS 1 /* the image was made with other limits than the configuration has */
+#define LFS_FLASH_LONG_INLINE 2  /* a file in a directory has more bytes than an eighth of a block, or than inline_max */
+#define LFS_FLASH_EMPTY_PAIR 3   /* a directory goes on in a metadata pair without entries */
+#define LFS_FLASH_TOO_LARGE 4    /* a metadata pair or an entry is larger than this library writes */
+
+/* Returns 0 if the session may write, and otherwise one of these numbers; then it reads the directories. */
+int64_t lfs_flash_read_only_reason(lfs_flash *fs);
 
 /* Returns how many blocks the image uses. */
 int64_t lfs_flash_used_blocks(lfs_flash *fs);

@@ -7,7 +7,7 @@ build.py comes first: the tests link the libraries that it leaves in ports/firmw
 - example: the example application, three times on one flash chip;
 - work: the work of test/work.c, with a table of instructions, stack, heap and calls of the flash, also with blocks of 1,024 bytes; for
   all boards the tables are in work.md, beside the libraries;
-- replay: COUNT operations (1,000), in blocks of 1,024 and 4,096 bytes: each answer, each buffer and the flash as by the x86-64 library;
+- replay: COUNT operations (10,000), in blocks of 1,024 and 4,096 bytes: each answer, each buffer and the flash as by the x86-64 library;
 - faults: the steps of test/faults.c, with a flash that fails at each of its calls, and a heap that refuses each allocation, or at each Nth
   by --every;
 - power: power is lost at each program and erase of the work, or at each Nth by --every: the emulator is stopped, and started again with
@@ -32,6 +32,7 @@ import rattle_words  # noqa: E402
 
 COMMON = "flash.c", "driver.c", "counted_heap.c"
 WORK = "by_library.c", "work.c"
+ATTRIBUTE = 3  # as in test/tree.h
 
 
 @dataclass
@@ -70,6 +71,25 @@ def tree_of(code, image, block):
     shown = littlefs_code.shown(code, str(image), (block, 64, 0))
     expect(shown and not shown.missing and not shown.twice, f"littlefs's own code reads {image}")
     return {path.decode(): content for path, (content, _) in shown.tree.items() if path}
+
+
+def tree_sum(tree):
+    """Returns the checksum of test/tree.h for a tree as littlefs's own code shows it."""
+    total = 0xFFFFFFFF  # zlib inverts before and after
+    for path in sorted(filter(None, tree), key=lambda it: it.split(b"/")):
+        content, attributes = tree[path]
+        total = zlib.crc32(path, total)
+        if content:
+            total = zlib.crc32(b"".join(it.to_bytes(4, "little") for it in content), total)
+        total = zlib.crc32(attributes.get(ATTRIBUTE, b""), total)
+    return total ^ 0xFFFFFFFF
+
+
+def expect_tree(code, image, block, sum_):
+    """Ends the tests if littlefs's own code finds another tree in an image than the one with a checksum of test/tree.h."""
+    shown = littlefs_code.shown(code, str(image), (block, 64, 0))
+    expect(shown and not shown.missing and not shown.twice, f"littlefs's own code reads {image}")
+    expect(tree_sum(shown.tree) == int(sum_, 16), f"littlefs's own code finds the same tree in {image}")
 
 
 # ---- the example
@@ -206,32 +226,21 @@ def test_replay(board, made, given):
     for block in (1024, 4096):
         words = [f"-DCOUNT={given.count}", f"-DBLOCK_BYTES={block}", "-DPAGE_BYTES=64", "-DFLASH_BYTES=524288"]
         at, host = folder(made, "replay-files"), folder(given.out, "replay-files")
-        sources = [HERE / "test" / it for it in ("replay.c", "flash.c", "driver.c")] + [HERE / "board/native.c"]
+        sources = [HERE / "test" / it for it in ("replay.c", "tree.c", "flash.c", "driver.c")] + [HERE / "board/native.c"]
         run("gcc", "-O2", "-std=gnu11", *words, f"-I{HERE}", *sources, given.out / "kept/x86_64.a", rattle_words.kit() / "c/liblibc_c.a",
             "-o", given.out / "replay")
         run(given.out / "replay", cwd=host, stdout=(host / "lines").open("w"))
-        elf = program(board, made, f"replay-{block}", ("replay.c",), *words)
+        elf = program(board, made, f"replay-{block}", ("replay.c", "tree.c"), *words)
         lines = run_program(board, elf, at)
         expect(lines == (host / "lines").read_text(), f"{board.name}: the answers with blocks of {block}:\n{lines}")
         expect((at / "flash.img").read_bytes() == (host / "flash.img").read_bytes(), f"{board.name}: the flash with blocks of {block}")
         print(f"{board.name}: replay: {given.count} operations, blocks of {block}: {lines.splitlines()[-1]}, all as on x86-64", flush=True)
         if given.code:
-            expect(littlefs_code.shown(given.code, str(at / "flash.img"), (block, 64, 0)), "littlefs's own code reads the replay's flash")
+            expect_tree(given.code, at / "flash.img", block, re.search(r"^tree (\w{8})$", lines, re.M)[1])
+            print("   littlefs's own code finds the same tree", flush=True)
 
 
 # ---- failures
-
-def tree_sum(tree, attributes):
-    """Returns the checksum of test/tree.h for a tree as littlefs's own code shows it."""
-    total = 0xFFFFFFFF  # each step of zlib's is between two inversions
-    for path in sorted(tree, key=lambda it: it.split(b"/")):
-        total = zlib.crc32(path, total)
-        if tree[path]:
-            size, sum_ = tree[path]
-            total = zlib.crc32(size.to_bytes(4, "little") + sum_.to_bytes(4, "little"), total)
-        total = zlib.crc32(attributes[path].get(3, b""), total)
-    return total ^ 0xFFFFFFFF
-
 
 def test_faults(board, made, given):
     at = folder(made, "faults-files")
@@ -241,11 +250,7 @@ def test_faults(board, made, given):
     left = re.findall(r"^left (\d+) ([0-9a-f]{8})$", lines, re.M)
     print(f"{board.name}: faults: {lines.splitlines()[-1]}", flush=True)
     for number, sum_ in left if given.code else []:
-        image = at / f"left{int(number):04}.img"
-        shown = littlefs_code.shown(given.code, str(image), (4096, 64, 0))
-        expect(shown and not shown.missing and not shown.twice, f"littlefs's own code reads {image}")
-        tree = {path: content for path, (content, _) in shown.tree.items() if path}
-        expect(tree_sum(tree, {path: it for path, (_, it) in shown.tree.items()}) == int(sum_, 16), f"littlefs's own code finds the same tree in {image}")
+        expect_tree(given.code, at / f"left{int(number):04}.img", 4096, sum_)
     if given.code:
         print(f"   littlefs's own code finds the same tree in each of the {len(left)} flashes that were left", flush=True)
     folder(made, "faults-files")
@@ -316,7 +321,7 @@ def main():
     parser = argparse.ArgumentParser(usage=__doc__.split("usage: ")[1].split("\n\n")[0])
     parser.add_argument("tests", nargs="*", choices=[[], *TESTS])
     parser.add_argument("--boards", nargs="+", choices=list(BOARDS), default=list(BOARDS))
-    parser.add_argument("--count", type=int, default=1000)
+    parser.add_argument("--count", type=int, default=10000)
     parser.add_argument("--every", type=int, default=1)
     parser.add_argument("--littlefs", type=Path)
     parser.add_argument("--out", type=Path, default=HERE / "out")

@@ -3,8 +3,6 @@ use Rattle.std.specs.Prelude.{◌≤◌, ◌==◌, if◌then◌else◌}
 use Rattle.lfs_model.specs.format.Disk.{AreValidLimits}
 use Rattle.lfs_model.specs.declared.limits.AcceptedVersions.TheVariants.{AlsoTwoOne, OnlyTwoZero}
 use Rattle.lfs_model.specs.declared.limits.Profile.{Profile}
-use Rattle.lfs_model.specs.declared.order.NameOrder.{NameOrder}
-use Rattle.lfs_model.specs.declared.order.NameOrder.TheVariants.{LongerFirst, ShorterFirst}
 use Rattle.littlefs_flash.specs.declared.config.Config.{Config}
 
 abbrev pub config_profile : Config → Profile
@@ -18,11 +16,7 @@ config_profile config = record {
   search_seed = 0;
 }
 
-abbrev pub config_order : Config → NameOrder
-config_order config = if config.order == 0 then LongerFirst else ShorterFirst
-
--- Order and versions are 0 or 1, and no limit is 0 or above its default.
+-- Versions are 0 or 1, and no limit is 0 or above its default.
 pub record IsValidConfig (config : Config) : Type 0 where
-  pub order : config.order ≤ 1
   pub versions : config.versions ≤ 1
   pub limits : AreValidLimits (config_profile config)

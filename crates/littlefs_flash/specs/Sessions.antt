@@ -1,5 +1,5 @@
 -- What a call does to a session that C holds.
-use Rattle.std.specs.Prelude.{ℕ, ℤ, Bool, ◌≡◌, ◌≤◌, ◌==◌, not, true, pos, ◌-ℤ◌, List, length, drop, take, map, MatchResult, Option, Box, Vec, None, Some, Result, Ok, Err}
+use Rattle.std.specs.Prelude.{ℕ, ℤ, Bool, ◌≡◌, ◌≤◌, ◌==◌, ◌↔◌, IsTrue, not, true, pos, ◌-ℤ◌, List, length, drop, take, map, MatchResult, Option, Box, Vec, None, Some, Result, Ok, Err}
 use Rattle.std.specs.Option.{option_map}
 use Rattle.std.specs.Int.RustNames.{bit_and}
 use Rattle.lfs_device.specs.declared.error.Error.{Error}
@@ -10,16 +10,18 @@ use Rattle.lfs_lookup.specs.Finds.{listed_item_view, stat_view}
 use Rattle.lfs_lookup.specs.RefusalErrors.{is_refusal}
 use Rattle.lfs_lookup.specs.declared.kinds.ListItem.{ListItem}
 use Rattle.lfs_lookup.specs.declared.kinds.Stat.{Stat}
+use Rattle.lfs_model.specs.declared.breaches.ProfileBreach.{ProfileBreach}
 use Rattle.lfs_model.specs.format.EntryTypes.{SuperblockFields}
 use Rattle.lfs_model.specs.tree.Profile.{image_fields}
 use Rattle.lfs_fs.specs.CallEffects.{IsCall}
 use Rattle.lfs_fs.specs.GstateView.{returned_gstate_reply}
 use Rattle.lfs_fs.specs.ImageLimits.{FailedByRead, OnlyReadsSession}
+use Rattle.lfs_fs.specs.ReadOnly.{IsReadOnlyReason, MayWrite}
 use Rattle.lfs_fs.specs.Replies.{reply_from}
 use Rattle.lfs_fs.specs.SessionView.{SessionView}
 use Rattle.lfs_fs.specs.declared.gstate.Gstate.{Gstate}
 use Rattle.littlefs_flash.specs.Buffers.{item_lines, buffer_if_fitting}
-use Rattle.littlefs_flash.specs.Codes.{bool_number, gstate_number, result_code, stat_number}
+use Rattle.littlefs_flash.specs.Codes.{bool_number, gstate_number, order_number, result_code, rule_number, stat_number}
 use Rattle.littlefs_flash.specs.declared.sessions.FsInfo.{FsInfo}
 use Rattle.std.specs.Global.{Global}
 
@@ -114,6 +116,24 @@ WithCode {X} number P code old new = (new ≡ old) × ((x : X) × ((code ≡ num
 -- an answer about an open file
 abbrev pub IsFileAnswer : (SessionView → Result ℕ Error → Type 0) → ℤ → SessionView → SessionView → Type 0
 IsFileAnswer P code old new = WithCode {X = Result ℕ Error} (λ r. result_code (λ n. n) r) P code old new
+
+-- the answer whether a session may write, and the one that tells its image's order of names
+abbrev pub IsWritableAnswer : ℤ → SessionView → SessionView → Type 0
+IsWritableAnswer code old new = WithCode {X = Bool} (λ b. pos (bool_number b)) (λ s b. IsTrue b ↔ MayWrite s) code old new
+
+abbrev pub IsOrderAnswer : ℤ → SessionView → SessionView → Type 0
+IsOrderAnswer code old new = (new ≡ old) × (code ≡ pos (order_number old.tree.disk.order))
+
+-- ---- the reason why an image is read only
+
+-- The answer is that the session may write, or a rule that its image breaks, and the session was only read; or it failed by a read.
+abbrev pub ReadsReason : Result (Option ProfileBreach) Error → SessionView → SessionView → Type 0
+ReadsReason (Ok reason) old new = IsReadOnlyReason old reason × OnlyReadsSession old new
+ReadsReason (Err e) old new = FailedByRead old new e
+
+-- the same of an answer with this code; a session that may write stays
+abbrev pub IsReasonCall : ℤ → SessionView → SessionView → Type 0
+IsReasonCall code old new = (r : Result (Option ProfileBreach) Error) × ((code ≡ result_code rule_number r) × (ReadsReason r old new × (MayWrite old → new ≡ old)))
 
 -- ---- the superblock
 

@@ -15,7 +15,7 @@ use Rattle.lfs_model.specs.tree.Fresh.{IsFreshDisk}
 use Rattle.lfs_model.specs.tree.View.{IsAccepted}
 use Rattle.lfs_fs.specs.SessionView.{BeginsByMount, SessionView, system_state}
 use Rattle.littlefs_flash.specs.Codes.{result_code}
-use Rattle.littlefs_flash.specs.Configs.{IsValidConfig, config_order, config_profile}
+use Rattle.littlefs_flash.specs.Configs.{IsValidConfig, config_profile}
 use Rattle.littlefs_flash.specs.declared.chip.Chip.{Chip}
 use Rattle.littlefs_flash.specs.declared.config.Config.{Config}
 
@@ -76,12 +76,12 @@ LeavesFlash (Some s) old new = HasDiskOf s new
 
 -- ---- a format
 
--- The chip has a fresh file system in the order of the settings. Only its first two blocks have changed.
+-- The chip has a fresh file system. Only its first two blocks have changed.
 pub record IsFormattedFlash (config : Config) (old new : Chip) : Type 0 where
   pub valid : IsValidStart config old
   pub block_size : new.block_size ≡ old.block_size
   pub page : new.page ≡ old.page
-  pub fresh : IsFreshDisk (ordered_disk (config_order config) (chip_disk (config_profile config) new))
+  pub fresh : IsFreshDisk (chip_disk (config_profile config) new)
   pub others : SameExceptBlocks (0 ∷ 1 ∷ []) old.state.blocks new.state.blocks
   pub no_fault : fault_count new.state.history ≡ fault_count old.state.history
 

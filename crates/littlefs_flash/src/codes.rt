@@ -2,10 +2,11 @@
 
 ghost use Rattle.std.specs.Prelude.{◌≡◌, ◌<◌, ◌^◌, pos, ◌-ℤ◌, IfOk};
 ghost use Rattle.lfs_device.specs.Error.{error_number};
-ghost use Rattle.littlefs_flash.specs.Codes.{bool_number, gstate_number, result_code, stat_number};
+ghost use Rattle.littlefs_flash.specs.Codes.{bool_number, gstate_number, order_number, result_code, rule_number, stat_number};
 
 use lfs_device::Error;
 use lfs_fs::{Gstate, Kind, Stat};
+use lfs_model::{NameOrder, ProfileBreach};
 
 // Minus the number of `EBADFD`, for a call without a session.
 pub(crate) const CLOSED: i64 = -77;
@@ -79,6 +80,39 @@ pub(crate) fn gstate_code(answer: Result<Gstate, Error>) -> i64
 {
     match answer {
         Ok(gstate) => gstate_bits(&gstate),
+        Err(error) => error_code(error),
+    }
+}
+
+// Returns 0 for littlefs's order of names, and 1 for the other.
+pub(crate) fn order_code(order: NameOrder) -> i64
+    ensures { result ≡ pos (order_number order) }
+{
+    match order {
+        NameOrder::LongerFirst => 0,
+        NameOrder::ShorterFirst => 1,
+    }
+}
+
+// Returns the number of the rule that is broken, or 0 if none is.
+fn rule_code(reason: Option<ProfileBreach>) -> i64
+    ensures { result ≡ pos (rule_number reason) }
+{
+    match reason {
+        None => 0,
+        Some(ProfileBreach::OtherLimits { .. }) => 1,
+        Some(ProfileBreach::LongInline { .. }) => 2,
+        Some(ProfileBreach::EmptyPair { .. }) => 3,
+        Some(ProfileBreach::TooLarge { .. }) => 4,
+    }
+}
+
+// Returns the number of the rule that is broken, or 0 if none is.
+pub(crate) fn reason_code(answer: Result<Option<ProfileBreach>, Error>) -> i64
+    ensures { result ≡ result_code rule_number answer }
+{
+    match answer {
+        Ok(reason) => rule_code(reason),
         Err(error) => error_code(error),
     }
 }

@@ -1,18 +1,14 @@
 // The settings that C gives for a file system.
 
 ghost use Rattle.std.specs.Prelude.{◌≡◌, ◌↔◌, IsTrue};
-ghost use Rattle.littlefs_flash.specs.Configs.{IsValidConfig, config_order, config_profile};
+ghost use Rattle.littlefs_flash.specs.Configs.{IsValidConfig, config_profile};
 
 use lfs_device::{AcceptedVersions, Profile};
-use lfs_model::NameOrder;
 
 /// Which images are accepted, and which limits a new one gets. Sizes are in bytes.
 #[repr(C)]
 #[derive(Drop)]
 pub struct Config {
-    /// The order of names in a new image: 0 if the longer ones come first, 1 if the shorter ones do.
-    /// A mount finds the order by the names.
-    pub order: u32,
     /// The versions that are accepted: 0 for 2.0 alone, 1 for 2.1 too.
     pub versions: u32,
     pub name_max: u32,
@@ -43,20 +39,10 @@ impl Config {
         }
     }
 
-    // Returns the order of names in a new image.
-    pub(crate) fn name_order(&self) -> NameOrder
-        ensures { result ≡ config_order self.now }
-    {
-        match self.order {
-            0 => NameOrder::LongerFirst,
-            _ => NameOrder::ShorterFirst,
-        }
-    }
-
     // Returns whether each number is within its range.
     pub(crate) fn is_valid(&self) -> bool
         ensures { IsTrue result ↔ IsValidConfig self.now }
     {
-        self.order <= 1 && self.versions <= 1 && self.profile().is_valid()
+        self.versions <= 1 && self.profile().is_valid()
     }
 }

@@ -25,5 +25,8 @@ pub use open_files::{
     file_write,
 };
 pub use parts::Parts;
-pub use sessions::{FsInfo, gstate, is_used, recover, remount, stat_fs, used_blocks};
+pub use sessions::{
+    FsInfo, gstate, is_used, is_writable, name_order, read_only_reason, recover, remount, stat_fs,
+    used_blocks,
+};
 pub use starts::{format_flash, mount_flash, unmount_flash};

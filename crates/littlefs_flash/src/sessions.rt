@@ -1,9 +1,11 @@
 // The calls on a session as a whole.
 
 ghost use Rattle.lfs_model.specs.session.Operations as ops;
-ghost use Rattle.littlefs_flash.specs.Sessions.{CallsHeld, IsCountCall, IsGstateCall, IsInfoCall, IsUnitCall, IsUsedCall, ReadsInfo};
+ghost use Rattle.littlefs_flash.specs.Sessions.{CallsHeld, IsCountCall, IsGstateCall, IsInfoCall, IsOrderAnswer, IsReasonCall, IsUnitCall, IsUsedCall, IsWritableAnswer, ReadsInfo};
 
-use crate::codes::{CLOSED, bool_code, count_code, gstate_code, unit_code};
+use crate::codes::{
+    CLOSED, bool_code, count_code, gstate_code, order_code, reason_code, unit_code,
+};
 use lfs_device::{BlockDevice, Error};
 use lfs_fs::Session;
 use std::alloc::Global;
@@ -84,6 +86,57 @@ pub fn gstate<D: BlockDevice + Drop>(held: &Option<Box<Session<D>, Global>>) -> 
         return CLOSED;
     };
     gstate_code(session.gstate())
+}
+
+/// Returns the order of names that the image has: 0 for littlefs's, the longer of two first that
+/// begin alike; 1 for the shorter.
+///
+/// # Errors
+///
+/// 77 without a session.
+pub fn name_order<D: BlockDevice + Drop>(held: &Option<Box<Session<D>, Global>>) -> i64
+    ensures { CallsHeld (IsOrderAnswer result) result held.now held.now }
+{
+    let Some(session) = held else {
+        return CLOSED;
+    };
+    order_code(session.order())
+}
+
+/// Returns 1 if the session may write: it hasn't failed, and its image is in the writing profile.
+/// Returns 0 otherwise. Makes no call of the device.
+///
+/// # Errors
+///
+/// 77 without a session.
+pub fn is_writable<D: BlockDevice + Drop>(held: &Option<Box<Session<D>, Global>>) -> i64
+    ensures { CallsHeld (IsWritableAnswer result) result held.now held.now }
+{
+    let Some(session) = held else {
+        return CLOSED;
+    };
+    bool_code(Ok(session.is_writable()))
+}
+
+/// Returns 0 if the session may write, and then makes no call of the device. Otherwise reads the
+/// metadata pairs, and returns a rule of the writing profile that the image breaks: 1 if it was
+/// made with other limits, 2 if a file has too many bytes inline, 3 if a directory goes on in an
+/// empty pair, 4 if a pair or an entry is too large. If it breaks several, it returns the least.
+///
+/// # Errors
+///
+/// 77 without a session, and `Failed` if it has failed. `Io` if a read failed, and `NoMemory` if
+/// memory isn't granted; the session has failed then.
+pub fn read_only_reason<D: BlockDevice + Drop>(
+    alloc: Global,
+    held: &mut Option<Box<Session<D>, Global>>,
+) -> i64
+    ensures { CallsHeld (IsReasonCall result) result held.old held.new }
+{
+    let Some(session) = held else {
+        return CLOSED;
+    };
+    reason_code(session.read_only_reason(alloc))
 }
 
 /// The fields of a superblock, in the order of littlefs's `lfs_fsinfo`. Sizes are in bytes.

@@ -10,7 +10,7 @@ use crate::codes::unit_code;
 use crate::config::Config;
 use crate::flash::{Flash, FlashDevice};
 use lfs_device::Error;
-use lfs_fs::{Session, format_ordered, mount};
+use lfs_fs::{Session, format, mount};
 use std::alloc::Global;
 use std::mem::replace;
 
@@ -40,7 +40,7 @@ fn format_chip<F: Flash + Drop>(
         Ok(device) => device,
         Err((back, error)) => return (back, Err(error)),
     };
-    match format_ordered(alloc, device, config.name_order()) {
+    match format(alloc, device) {
         Ok(session) => (session.unmount().into_chip(), Ok(())),
         Err((device, error)) => (device.into_chip(), Err(error)),
     }

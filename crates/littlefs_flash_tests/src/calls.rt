@@ -1,11 +1,12 @@
 // Sessions on a flash in memory, by the calls for C.
 
 use lfs_device::{CountedCalls, FaultDevice, Geometry, RamDevice};
-use lfs_fs::{Session, format};
+use lfs_fs::{Profile, Profiled, Session, format, mount};
 use littlefs_flash::{
     FsInfo, file_close, file_open, file_read, file_seek, file_size, file_sync, file_tell,
-    file_truncate, file_write, get_attr, gstate, is_used, list_lines, mkdir, recover, remount,
-    remove_attr, remove_entry, rename_entry, set_attr, stat_entry, stat_fs, used_blocks,
+    file_truncate, file_write, get_attr, gstate, is_used, is_writable, list_lines, mkdir,
+    name_order, read_only_reason, recover, remount, remove_attr, remove_entry, rename_entry,
+    set_attr, stat_entry, stat_fs, used_blocks,
 };
 use std::alloc::Global;
 use std::test::Fail;
@@ -186,12 +187,48 @@ fn the_superblock_is_read(rt: HostRuntime) -> Result<(), Fail> {
     Ok(())
 }
 
+// Returns a session by the format's own limits, on an image whose names have at most 32 bytes.
+fn session_with_other_limits(alloc: Global) -> Held {
+    let geometry = Geometry::new(4096, 256, 16).ok()?;
+    let device = RamDevice::blank(alloc, geometry).ok()?;
+    let profile = Profile {
+        name_max: 32,
+        ..Profile::new()
+    };
+    let made = format(alloc, Profiled::new(device, profile)).ok()?;
+    let session = mount(alloc, made.unmount().into_inner()).ok()?;
+    Box::new(alloc, session).ok()
+}
+
+#[test]
+fn a_new_image_is_written(rt: HostRuntime) -> Result<(), Fail> {
+    let alloc = rt.alloc();
+    let mut held = session_in_memory(alloc);
+    assert_eq!(rt; name_order(&held), 0);
+    assert_eq!(rt; is_writable(&held), 1);
+    assert_eq!(rt; read_only_reason(alloc, &mut held), 0);
+    Ok(())
+}
+
+#[test]
+fn an_image_with_other_limits_is_only_read(rt: HostRuntime) -> Result<(), Fail> {
+    let alloc = rt.alloc();
+    let mut held = session_with_other_limits(alloc);
+    assert_eq!(rt; is_writable(&held), 0);
+    assert_eq!(rt; read_only_reason(alloc, &mut held), 1);
+    assert_eq!(rt; mkdir(alloc, &mut held, b"/a"), -30);
+    Ok(())
+}
+
 #[test]
 fn without_a_session_the_answer_is_minus_77(rt: HostRuntime) -> Result<(), Fail> {
     let alloc = rt.alloc();
     let mut held: Held = None;
     assert_eq!(rt; mkdir(alloc, &mut held, b"/a"), -77);
     assert_eq!(rt; used_blocks(&held), -77);
+    assert_eq!(rt; name_order(&held), -77);
+    assert_eq!(rt; is_writable(&held), -77);
+    assert_eq!(rt; read_only_reason(alloc, &mut held), -77);
     Ok(())
 }
 

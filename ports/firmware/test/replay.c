@@ -1,10 +1,11 @@
 /* Performs COUNT operations in an order that is always the same. A checksum of what each call returns and puts into a buffer is printed
- * ten times, and the flash goes to the host's file flash.img. So two machines can be compared. */
+ * ten times, at the end the tree's by tree.h, and the flash goes to the host's file flash.img. So two machines can be compared. */
 #include <string.h>
 
 #include "flash.h"
 #include "littlefs_flash.h"
 #include "print.h"
+#include "tree.h"
 
 enum { ROOM = 20000, READERS = 3, NONE = -1 };
 
@@ -123,6 +124,9 @@ static void describe(const draw *it) {
     note(lfs_flash_used_blocks(&fs));
     note(lfs_flash_is_used(&fs, it->size));
     note(lfs_flash_gstate(&fs));
+    note(lfs_flash_name_order(&fs));
+    note(lfs_flash_is_writable(&fs));
+    note(lfs_flash_read_only_reason(&fs));
     if (note(lfs_flash_fs_stat(&fs, &info)) == 0) add(&info, sizeof info);
 }
 
@@ -152,7 +156,7 @@ static void operation(void) {
 }
 
 int main(void) {
-    const lfs_flash_config config = { 0, 0, 255, 2147483647, 1022, 1022, 101 };
+    const lfs_flash_config config = { 0, 255, 2147483647, 1022, 1022, 101 };
     memset(flash, 0xff, sizeof flash);
     note(lfs_flash_mount(&fs, &config));
     must("format", note(lfs_flash_format(&fs, &config)));
@@ -164,6 +168,10 @@ int main(void) {
         print_hex(sum, 16);
         board_write("\n");
     }
+    must("remount", note(lfs_flash_remount(&fs)));
+    board_write("tree ");
+    print_hex(tree_sum(&fs, 0), 8);
+    board_write("\n");
     must("unmount", note(lfs_flash_unmount(&fs)));
     print_number(done, 0);
     board_write(" done, ");

@@ -6,14 +6,16 @@
 
 #define PATH(text) (const uint8_t *)(text), strlen(text)
 
+enum { LEVELS = 16 }; /* of directories */
+
 typedef struct {
     lfs_flash *fs;
     uint32_t sum;
     int is_printed;
 } tree;
 
-static char dir_path[300], entry_path[600];
-static uint8_t lines[2][2000], contents[4096];
+static char dir_paths[LEVELS][300], entry_path[600];
+static uint8_t lines[LEVELS][2000], contents[4096];
 
 /* littlefs's checksum, as its own code prints it on the host. */
 static uint32_t checksum(uint32_t sum, const uint8_t *bytes, size_t count) {
@@ -30,12 +32,15 @@ static void see_attribute(tree *seen) {
 }
 
 static void see_file(tree *seen) {
-    int64_t file = lfs_flash_file_open(seen->fs, PATH(entry_path), LFS_FLASH_READ);
+    int64_t file = lfs_flash_file_open(seen->fs, PATH(entry_path), LFS_FLASH_READ), count;
+    uint32_t words[2] = { 0, 0xffffffff };
     must("a file", file);
-    int64_t size = lfs_flash_file_read(seen->fs, (uint32_t)file, contents, sizeof contents);
-    must("a file's bytes", size);
+    while ((count = lfs_flash_file_read(seen->fs, (uint32_t)file, contents, sizeof contents)) > 0) {
+        words[0] += (uint32_t)count;
+        words[1] = checksum(words[1], contents, (size_t)count);
+    }
+    must("a file's bytes", count);
     must("a close", lfs_flash_file_close(seen->fs, (uint32_t)file));
-    uint32_t words[2] = { (uint32_t)size, checksum(0xffffffff, contents, (size_t)size) };
     seen->sum = checksum(checksum(seen->sum, PATH(entry_path)), (uint8_t *)words, sizeof words);
     if (!seen->is_printed) return;
     board_write("f ");
@@ -67,9 +72,9 @@ static void see_directory(tree *seen, const char *path, int depth) {
             seen->sum = checksum(seen->sum, PATH(entry_path));
             see_attribute(seen);
             if (seen->is_printed) board_write("d "), board_write(entry_path), board_write("\n");
-            must_be("two levels", depth == 0);
-            strcpy(dir_path, entry_path);
-            see_directory(seen, dir_path, 1);
+            must_be("few levels", depth + 1 < LEVELS && strlen(entry_path) < sizeof dir_paths[0]);
+            strcpy(dir_paths[depth], entry_path);
+            see_directory(seen, dir_paths[depth], depth + 1);
         }
         at = end + 1;
     }

@@ -195,6 +195,7 @@ def board_tables(rows, block):
     kinds = (("code, bytes", lambda it: number(it.code)), ("heap, bytes", lambda it: number(it.most(HEAP))), ("stack, bytes", lambda it: number(it.most(STACK))),
              ("instructions, millions", lambda it: millions(it.sum(INSTRUCTIONS))))
     lines = [[f"{kind}: {name}", *(text(of[board, name]) for board in boards)] for kind, text in kinds for name in whose]
+    lines = [it for at, it in enumerate(lines) if it[1:] != lines[at - 1][1:]]  # caches don't change the code
     flash = [[name, *(number(of[boards[0], name].sum(at)) for at in (READS, READ_BYTES, PROGRAMS, ERASES)), number(of[boards[0], name].top)] for name in whose]
     for it in wholes:
         same = all(it.sum(at) == of[boards[0], it.whose].sum(at) for at in (READS, READ_BYTES, PROGRAMS, ERASES))
@@ -215,7 +216,7 @@ def write_tables(given):
     """Writes what the work took as the tables of docs/FIRMWARE.md."""
     blocks, boards = dict.fromkeys(it.block for it in given.rows), dict.fromkeys(it.board for it in given.rows)
     board = "m4" if "m4" in boards else next(iter(boards))
-    tables = [part_table(given.rows, board, block) for block in blocks] + [it for block in blocks for it in board_tables(given.rows, block)]
+    tables = [it for block in blocks for it in (*board_tables(given.rows, block), part_table(given.rows, board, block))]
     (given.out / "work.md").write_text("\n".join(tables))
     print(f"the tables are in {given.out / 'work.md'}", flush=True)
 

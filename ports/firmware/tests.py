@@ -192,16 +192,16 @@ def board_tables(rows, block):
     wholes = [it for it in rows if it.block == block]
     whose, boards = list(dict.fromkeys(it.whose for it in wholes)), list(dict.fromkeys(it.board for it in wholes))
     of = {(it.board, it.whose): it for it in wholes}
-    kinds = (("code, bytes", lambda it: number(it.code)), ("heap, bytes", lambda it: number(it.most(HEAP))), ("stack, bytes", lambda it: number(it.most(STACK))),
-             ("instructions, millions", lambda it: millions(it.sum(INSTRUCTIONS))))
+    kinds = (("code, bytes", lambda it: number(it.code)), ("heap, bytes", lambda it: number(it.most(HEAP))),
+             ("stack, bytes", lambda it: number(it.most(STACK))), ("instructions, millions", lambda it: millions(it.sum(INSTRUCTIONS))))
     lines = [[f"{kind}: {name}", *(text(of[board, name]) for board in boards)] for kind, text in kinds for name in whose]
     lines = [it for at, it in enumerate(lines) if it[1:] != lines[at - 1][1:]]  # caches don't change the code
-    flash = [[name, *(number(of[boards[0], name].sum(at)) for at in (READS, READ_BYTES, PROGRAMS, ERASES)), number(of[boards[0], name].top)] for name in whose]
+    flash_of = lambda it: [*(number(it.sum(at)) for at in (READS, READ_BYTES, PROGRAMS, ERASES)), number(it.top)]
+    flash = [[name, *flash_of(of[boards[0], name])] for name in whose]
     for it in wholes:
-        same = all(it.sum(at) == of[boards[0], it.whose].sum(at) for at in (READS, READ_BYTES, PROGRAMS, ERASES))
-        expect(same, f"{it.board}: {it.whose} makes the same calls of the flash as on {boards[0]}")
-    return [table([f"Blocks of {number(block)}", *boards], lines),
-            table([f"Blocks of {number(block)}, each board", "reads, and questions if blank", "bytes of these", "programs", "erases", "heap's end, first fit"], flash)]
+        expect(flash_of(it) == flash_of(of[boards[0], it.whose]), f"{it.board}: {it.whose} uses the flash and the heap as on {boards[0]}")
+    head = [f"Blocks of {number(block)}, each board", "reads, and questions if blank", "bytes of these", "programs", "erases", "heap, first fit"]
+    return [table([f"Blocks of {number(block)}", *boards], lines), table(head, flash)]
 
 
 def part_table(rows, board, block):
@@ -308,11 +308,13 @@ def test_power(board, made, given):
         expect(tree_of(given.code, at / "flash.img", 4096) == start.then, f"{board.name}: power lost at {number}: littlefs's own code finds the tree")
         (at / "stopped.img").write_bytes(stopped)
         if start.has_image:
-            expect(tree_of(given.code, at / "stopped.img", 4096) == start.tree, f"{board.name}: power lost at {number}: littlefs's own code finds it without a start")
+            tree = tree_of(given.code, at / "stopped.img", 4096)
+            expect(tree == start.tree, f"{board.name}: power lost at {number}: littlefs's own code finds the tree without a start")
             read += 1
-    print(f"{board.name}: power: lost at {tried} of {writes} programs and erases, {len(sums)} changes: the tree from before or after each time", flush=True)
+    print(f"{board.name}: power: lost at {tried} of {writes} programs and erases, {len(sums)} changes: the tree from before or after", flush=True)
     if given.code:
-        print(f"   littlefs's own code finds the same tree in {read} of the flashes as they were left without power, the others being formatted, and in each after a start", flush=True)
+        print(f"   littlefs's own code finds the same tree in {read} of the flashes as they were left, the others being formatted,"
+              " and in each after a start", flush=True)
 
 
 TESTS = {"example": test_example, "work": test_work, "replay": test_replay, "faults": test_faults, "power": test_power}

@@ -18,7 +18,8 @@ measured, and on the host that code reads what each test leaves.
 """
 
 import argparse
-from dataclasses import dataclass, field
+from dataclasses import asdict, dataclass
+import json
 from pathlib import Path
 import re
 import sys
@@ -42,7 +43,6 @@ class Given:
     every: int
     littlefs: Path
     code: str  # littlefs's own code as a program of the host, or None
-    rows: list = field(default_factory=list)  # what was measured
 
 
 def expect(is_so, what):
@@ -157,19 +157,22 @@ def measured(board, elf, at, block, whose, libraries):
 
 
 def test_work(board, made, given):
+    rows = []
     for block, page in ((4096, 256), (1024, 64)):
         at = folder(made, "work-files")
         words = [f"-DBLOCK_BYTES={block}", f"-DPAGE_BYTES={page}"]
         elf = program(board, made, f"work-{block}", ("measured.c", *WORK), *words)
-        given.rows.append(measured(board, elf, at, block, OURS, ["liblittlefs_flash"]))
+        rows.append(measured(board, elf, at, block, OURS, ["liblittlefs_flash"]))
         if not given.code:
             continue
         tree = tree_of(given.code, at / "flash.img", block)
         for cache in (page, block):
             elf = littlefs_program(board, made, given.littlefs, cache, words)
             whose = f"littlefs {littlefs_code.release(given.littlefs)}, caches of {cache}"
-            given.rows.append(measured(board, elf, at, block, whose, ["lfs.o", "lfs2.o", "lfs_util.o", "lfs2_util.o"]))
+            rows.append(measured(board, elf, at, block, whose, ["lfs.o", "lfs2.o", "lfs_util.o", "lfs2_util.o"]))
             expect(tree_of(given.code, at / "flash.img", block) == tree, f"{board.name}: littlefs's own code leaves the same tree")
+    (made / "work.json").write_text(json.dumps([asdict(it) for it in rows]))
+    write_tables(given.out)
 
 
 # ---- the tables of docs/FIRMWARE.md
@@ -192,6 +195,7 @@ def board_tables(rows, block):
     wholes = [it for it in rows if it.block == block]
     whose, boards = list(dict.fromkeys(it.whose for it in wholes)), list(dict.fromkeys(it.board for it in wholes))
     of = {(it.board, it.whose): it for it in wholes}
+    whose = [name for name in whose if all((board, name) in of for board in boards)]
     kinds = (("code, bytes", lambda it: number(it.code)), ("heap, bytes", lambda it: number(it.most(HEAP))),
              ("stack, bytes", lambda it: number(it.most(STACK))), ("instructions, millions", lambda it: millions(it.sum(INSTRUCTIONS))))
     lines = [[f"{kind}: {name}", *(text(of[board, name]) for board in boards)] for kind, text in kinds for name in whose]
@@ -212,13 +216,14 @@ def part_table(rows, board, block):
     return table([f"Instructions, {board}, blocks of {number(block)}", *(it.whose for it in wholes)], lines)
 
 
-def write_tables(given):
-    """Writes what the work took as the tables of docs/FIRMWARE.md."""
-    blocks, boards = dict.fromkeys(it.block for it in given.rows), dict.fromkeys(it.board for it in given.rows)
+def write_tables(out):
+    """Writes what the work took on the boards where it was measured, as the tables of docs/FIRMWARE.md."""
+    files = [out / name / "work.json" for name in BOARDS]
+    rows = [Measured(**it) for file in files if file.is_file() for it in json.loads(file.read_text())]
+    blocks, boards = dict.fromkeys(it.block for it in rows), dict.fromkeys(it.board for it in rows)
     board = "m4" if "m4" in boards else next(iter(boards))
-    tables = [it for block in blocks for it in (*board_tables(given.rows, block), part_table(given.rows, board, block))]
-    (given.out / "work.md").write_text("\n".join(tables))
-    print(f"the tables are in {given.out / 'work.md'}", flush=True)
+    tables = [it for block in blocks for it in (*board_tables(rows, block), part_table(rows, board, block))]
+    (out / "work.md").write_text("\n".join(tables))
 
 
 # ---- the same as the x86-64 library
@@ -338,8 +343,6 @@ def main():
             sys.exit(f"there is no {made / 'example.elf'}: run build.py {name}")
         for test in given.tests or TESTS:
             TESTS[test](board, made, all_)
-    if all_.rows:
-        write_tables(all_)
 
 
 if __name__ == "__main__":

@@ -22,6 +22,7 @@ each counts half a second too little at most. An edit's check runs in a folder o
 the three are told apart. What all processes of the gate took together, as the kernel counts it, is printed beside their sum: the
 difference is what was missed, and what compiling, linking, and running tests and programs took.
 """
+import argparse
 import collections
 import json
 import os
@@ -176,8 +177,12 @@ def page(totals, yardstick, kit):
 
 
 def main():
-    anew = sys.argv[1:2] == ["--anew"]
-    log, *crates = sys.argv[1 + anew:] or ["gate.log"]
+    parser = argparse.ArgumentParser(usage=__doc__.splitlines()[5].removeprefix("usage: ").partition("  ")[0])
+    parser.add_argument("--anew", action="store_true")
+    parser.add_argument("log", nargs="?", default="gate.log")
+    parser.add_argument("crates", nargs="*")
+    options = parser.parse_args()
+    anew, log, crates = options.anew, options.log, options.crates
     with tempfile.TemporaryDirectory() as room:
         folder = copy_with(crates, room) if crates else "."
         status, last, wall, whole, totals = measured(log, folder, anew)

@@ -13,13 +13,13 @@ pub mod Opening
 pub mod PathBytes
 pub mod PathMoves
 pub mod PutEntries
-pub mod Runs
 pub mod Saving
 pub mod SessionOperations
 pub mod Soundness
 pub mod Steps
 pub mod TreesKept
 pub mod Unlinking
+pub mod VolumeLives
 pub mod VolumeSteps
 pub mod Working
 pub mod WrittenBytes

@@ -1,12 +1,12 @@
 -- One call of a session, by the definitions: the reply and the session after it.
-use Rattle.std.proofs.Common.{ℕ, zero, suc, ◌≡◌, ◌≢◌, ◌&&◌, ◌||◌, nat_lt, nat_le, not, length, is_none, is_some, Bool, true, false, cond, List, [], ◌∷◌, ◌++◌, Option, Some, None, Result, Ok, Err, unwrap_or, refl, sym, ap, ap₂, subst, ◌∙◌}
+use Rattle.std.proofs.Common.{ℕ, zero, suc, ◌≡◌, ◌&&◌, ◌||◌, nat_lt, nat_le, not, length, is_none, is_some, Bool, true, false, cond, List, [], ◌∷◌, ◌++◌, Option, Some, None, Result, Ok, Err, unwrap_or, refl, sym, ap, ap₂, subst, ◌∙◌}
 use Rattle.std.specs.Prelude.{IfErr, IsErrAnd, slice_get, if◌then◌else◌}
 use Rattle.std.specs.List.{list_any}
 use Rattle.lfs_device.specs.declared.error.Error.{Error}
 use Rattle.lfs_lookup.specs.RefusalErrors as refusals
 use Rattle.lfs_lookup.specs.RefusalErrors.{error_refusal}
 use Rattle.lfs_model.specs.format.Thread.{Pair}
-use Rattle.lfs_model.specs.tree.Tree.{Path, Tree}
+use Rattle.lfs_model.specs.tree.Tree.{Path}
 use Rattle.lfs_model.specs.tree.View.{IsAccepted}
 use Rattle.lfs_model.specs.session.Operations as ops
 use Rattle.lfs_model.specs.session.Operations.{Operation, Refusal, Reply, FlagsOfOpen, Busy, EntryFull, Exist, Invalid, IsDir, NameTooLong, NoEnt, NoSpace, ReadOnly, parse_path}
@@ -16,10 +16,10 @@ use Rattle.lfs_model.specs.session.Writers.{opened_writer}
 use Rattle.lfs_model.specs.session.State.{IsSummary, SessionHealth, HasFailed, Healthy, is_remount, remount_result, nonremount_result}
 use Rattle.lfs_model.specs.session.Refusals.{operation_refusal, path_or_root}
 use Rattle.lfs_model.specs.session.Effects.{operation_effect, operation_result, unless_refused}
-use Rattle.lfs_model.specs.session.Run.{IsReply, IsStep, SystemState, is_refusal}
+use Rattle.lfs_model.specs.session.Run.{IsReply, IsStep, is_refusal}
 use Rattle.lfs_fs.specs.SessionView.{SessionView, StepsOrFails, system_state, viewed_session}
 use Rattle.lfs_fs.specs.CallEffects.{IsCall}
-use Rattle.lfs_volume.specs.SessionCalls.{AreQuietCalls, EndsInCall, FailsInCalls, error_result}
+use Rattle.lfs_volume.specs.SessionCalls.{AreQuietCalls, FailsInCalls, error_result}
 
 -- The definitions give this reply and the session after it, from what the disk holds.
 pub record IsAnswered (old : SessionView) (op : Operation) (reply : Reply) (new : SessionView) : Type 0 where
@@ -33,7 +33,7 @@ pub record IsAnswered (old : SessionView) (op : Operation) (reply : Reply) (new 
 pub healthy_view : (h : SessionView) → h.tree.failed ≡ false → (system_state h).state ≡ Healthy (viewed_session h)
 healthy_view h works = ap (λ b. cond b HasFailed (Healthy (viewed_session h))) works
 
-same_session : (s t : Session) → Healthy s ≡ Healthy t → s ≡ t
+pub same_session : (s t : Session) → Healthy s ≡ Healthy t → s ≡ t
 same_session s t e = ap or_else e
   where
     or_else : SessionHealth → Session

@@ -1,5 +1,5 @@
 -- A volume as programs see it: the tree, the open files, and the handles that name them.
-use Rattle.std.specs.Prelude.{ℕ, ◌+◌, ◌==◌, nat_lt, min, max, if◌then◌else◌, Bool, true, false, List, [], ◌∷◌, length, take, Option, Some, None, slice_get, unwrap_or}
+use Rattle.std.specs.Prelude.{ℕ, ◌+◌, ◌==◌, min, max, if◌then◌else◌, List, [], ◌∷◌, length, take, Option, Some, None, slice_get, unwrap_or}
 use Rattle.std.specs.Option.{option_flatten}
 use Rattle.lfs_model.specs.tree.Tree.{Tree}
 use Rattle.lfs_model.specs.session.TreeEdits.{file_bytes}

@@ -16,7 +16,7 @@ mod volume;
 
 pub use flags::allows_volume_flags;
 pub use laws::{
-    replied_volume_works, stop_in_volume_call_leaves_either_tree, volume_call_is_a_run,
+    replied_volume_works, stop_in_volume_call_leaves_either_tree, volume_calls_are_lives,
 };
 pub use lfs_device::Error;
 pub use lfs_fs::{Gstate, Item, Kind, OpenFlags, Stat};

@@ -24,7 +24,7 @@ A clause that a CALLING.md quotes stands in the crate's `src`, whatever spaces a
 
 Beside backticks it looks at links, `[..](docs/FORMAT.md#tags)`, and at names of pages, as docs/FORMAT.md. It counts the wrong bodies of
 the gate where a page says "The gate tries .. at most 40" or "the 40", and the lines of code where README.md says "some 44,600 lines". It
-compares the options of the table in docs/TOOL.md with those of the help, by the table of `lfs_tool_line`.
+compares the options of the table in docs/TOOL.md with those of the help, by the table of `lfs_tool`.
 
 With --run it also runs the commands that README.md and docs/TOOL.md print (page_commands.py): some minutes, by `rt try`. PROGRAM is a
 built mklittlefs. With --proofs the commands that prove are run as well.
@@ -47,6 +47,8 @@ ENDINGS = ["", ".rt", ".antt", ".py", ".c", ".h", ".md", ".edit"]
 WORD = r"[A-Za-z_][A-Za-z0-9_]*(?:[-'][A-Za-z0-9_]+)*"
 LONG_OPTION, SHORT_OPTION = r"(?<![\w-])--[a-z][a-z0-9.-]*", r"(?<![\w-])-[a-z](?![\w-])"
 DEFINITIONS = "crates/lfs_model/specs/"
+# the table of the options of mklittlefs
+OPTIONS = "crates/lfs_tool/src/options.rt"
 # columns of files, and of what other tools name
 FILES, OF_MODEL, OTHERS = {"File", "Files"}, {"Definition", "Shown by"}, {"littlefs's word", "There", "Not there", "littlefs-python", "Where", "Setting", "Where the numbers are from"}
 OTHER_SECTIONS = set()
@@ -95,7 +97,7 @@ class Repository:
         to |= {part for word in re.findall(WORD, text) for part in [word, *re.split("[-']", word)]}
         if path.endswith(".antt"):
             to.add(os.path.splitext(os.path.basename(path))[0])
-        if crate == "lfs_tool_line":
+        if path == OPTIONS:
             self.options |= {"--" + name for name in re.findall(r'"([a-z][a-z0-9.-]+)"', text)} | {"-" + name for name in re.findall(r"'([a-z])'", text)}
         elif path.startswith(("bench/", "bindings/fuse/")):
             self.options |= set(re.findall(LONG_OPTION, text))
@@ -352,7 +354,7 @@ def wrong_help(repository, page):
     """Options of the help that docs/TOOL.md doesn't name, and options of its table that the help lacks."""
     if page != "docs/TOOL.md":
         return
-    table = text_of("crates/lfs_tool_line/src/options.rt")
+    table = text_of(OPTIONS)
     helped = {"--" + name for name in re.findall(r'(?m)^    "([a-z0-9.-]+)", \w.*, Value::', table)} - {"--image"}
     text = text_of(page)
     named, rows = set(re.findall(LONG_OPTION, text)), set(re.findall(r"(?m)^\| `(--[a-z0-9.-]+)", text))

@@ -6,7 +6,7 @@ use Rattle.lfs_model.proofs.Histories.{OnlyReadsSince-trans}
 use Rattle.lfs_thread.specs.Kept.{KeptThread}
 use Rattle.lfs_lookup.specs.TreeWalk.{tree_item_view}
 use Rattle.lfs_lookup.specs.declared.walks.TreeItem.{TreeItem}
-use Rattle.lfs_tool_folders.specs.Actions.{AddsAction}
+use Rattle.lfs_tool.specs.Actions.{AddsAction}
 
 list_of : (disk : Disk) (items : List TreeItem) (i : ℕ) (d : TreeItem) → HaveFormedLists disk (tree_items_view items) → i < length items → IsFormedList disk (owned_view (get_or items i d).structure)
 list_of disk [] i d h l = absurd (omega arith)

@@ -3,11 +3,11 @@ use Rattle.std.specs.Prelude.{◌++◌, ℕ, List, Option, Some, None, Bool, tru
 use Rattle.clap.specs.Words.{kind_of}
 use Rattle.clap.specs.declared.error.ErrorKind.{ErrorKind}
 use Rattle.clap.specs.declared.error.ErrorKind.TheVariants as kind
-use Rattle.lfs_tool_line.specs.declared.line.LineError.TheVariants.{Modes, NotUtf8, Order, Parser}
-use Rattle.lfs_tool_line.specs.declared.line.LineError.TheVariants as line_error
-use Rattle.lfs_tool_line.specs.declared.limits.Limit.{Limit}
-use Rattle.lfs_tool_line.specs.Extras.{misuse_rule}
-use Rattle.lfs_tool_line.specs.Limits.{limit_rule}
+use Rattle.lfs_tool.specs.declared.line.LineError.TheVariants.{Modes, NotUtf8, Order, Parser}
+use Rattle.lfs_tool.specs.declared.line.LineError.TheVariants as line_error
+use Rattle.lfs_tool.specs.declared.limits.Limit.{Limit}
+use Rattle.lfs_tool.specs.Extras.{misuse_rule}
+use Rattle.lfs_tool.specs.Limits.{limit_rule}
 use Rattle.lfs_model.specs.layers.Listing.{newline}
 use Rattle.lfs_tool.specs.Errors.{error_line, error_line_of, error_status}
 use Rattle.lfs_device.specs.declared.error.Error.TheVariants.{NoMemory}

@@ -11,9 +11,9 @@ use Rattle.lfs_tag.specs.declared.fields.Superblock.{Superblock}
 use Rattle.lfs_tool.specs.WrongNumbers.{IsFirstSuperblock, IsSuperblockAt}
 use Rattle.lfs_tool.specs.declared.image_layout.ImageLayout.{ImageLayout}
 use Rattle.lfs_tool.specs.declared.own_layouts.OwnLayout.{OwnLayout}
-use Rattle.lfs_tool_line.specs.Sizes.{AreImageSizes, IsFirstBroken}
-use Rattle.lfs_tool_line.specs.declared.sizes.Sizes.{Sizes}
-use Rattle.lfs_tool_line.specs.declared.sizes.SizeRule.{SizeRule}
+use Rattle.lfs_tool.specs.Sizes.{AreImageSizes, IsFirstBroken}
+use Rattle.lfs_tool.specs.declared.sizes.Sizes.{Sizes}
+use Rattle.lfs_tool.specs.declared.sizes.SizeRule.{SizeRule}
 
 -- a layout with the blocks of the superblock, in which a page is at most an eighth of a block
 abbrev pub own_layout : ImageLayout → Superblock → OwnLayout

@@ -9,13 +9,12 @@ ghost use Rattle.lfs_tool.specs.KnownBytes.{AppendsBeginning};
 ghost use Rattle.lfs_tool.specs.Reports.{HasShownOne};
 ghost use Rattle.lfs_tool.specs.RunEnds.{IsFailureReported};
 
-use crate::ToolOutput;
 use crate::output::write_and_flush;
+use crate::{LineError, ToolOutput};
 use arrayvec::ArrayString;
 use clap::error::ErrorKind;
 use itoa::Buffer;
 use lfs_device::Error;
-use lfs_tool_line::LineError;
 use std::alloc::AllocError;
 
 /// The cause for which a call of the tool failed.

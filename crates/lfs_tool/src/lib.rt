@@ -1,7 +1,39 @@
 // SPDX-License-Identifier: BSD-3-Clause
-//! What the tool mklittlefs finds in an image: it is listed, checked, or unpacked into any target.
+//! The tool mklittlefs without a session: the words of a command line, what an image has, and the folders and files that
+//! are read and written. An image is listed, checked, or unpacked into any target.
 #![tactic(auto)]
 
+// The command line.
+mod board;
+mod extras;
+mod help;
+mod limits;
+mod line;
+mod modes;
+mod numbers;
+mod options;
+mod sizes;
+mod values;
+
+// Folders and files.
+mod entries;
+mod fault_log;
+mod file_bytes;
+mod folder_rules;
+mod full_path;
+mod names;
+mod new_image;
+mod path_state;
+mod source;
+mod source_folder;
+mod source_memory;
+mod tally;
+mod target;
+mod target_folder;
+mod target_memory;
+mod temporary_files;
+
+// Images.
 mod checked_lines;
 mod errors;
 mod examination;
@@ -27,23 +59,35 @@ mod watched_stream;
 mod writer;
 
 pub use checked_lines::{breach_line, check_result_lines, reason_line};
+pub use entries::{SourceEntry, read_tree};
 pub use errors::{Fault, ToolError, report};
 pub use examination::result_of_image;
+pub use extras::{Extras, Misuse};
+pub use fault_log::{FaultLog, PathFault};
+pub use folder_rules::{FolderRules, Links};
 pub use image_checks::check;
 pub use image_devices::ram_device_of;
 pub use image_layout::{ImageLayout, geometry_of_sizes};
 pub use input::read_image;
 pub use judgement::judge_device;
 pub use lfs_lookup::{OwnedStruct, TreeItem, push_escaped_path};
-pub use lfs_tool_line::{
-    Extras, Limit, Line, LineError, Misuse, Mode, Request, read_line, read_request,
-};
+pub use limits::Limit;
+pub use line::{Line, LineError, Mode, Request, read_line, read_request};
 pub use listings::{items_of_image, list};
+pub use new_image::NewImage;
 pub use output::write_and_flush;
 pub use own_layouts::{OwnLayout, layout_by_blocks, layout_by_superblock};
 pub use progress::{FilesAndBytes, FollowsProgress, ProgressLine};
 pub use reader::ImageInput;
+pub use sizes::{SizeRule, Sizes};
+pub use source::{ListedName, Source, SourceError, SourceKind};
+pub use source_folder::{Folder, LongFile};
+pub use source_memory::{MemorySource, MemorySourceEntry};
 pub use superblocks::{image_superblock_at, image_wrong_number};
+pub use tally::Tally;
+pub use target::{Target, TargetError};
+pub use target_folder::TargetFolder;
+pub use target_memory::{MemoryTarget, TargetAction};
 pub use unpacked_images::{target_tool_error, unpack};
 pub use verdict::{
     AcceptedOrders, BrokenRule, CheckResult, GivenSizes, ImageSummary, ImageVerdict, RefusalReason,

@@ -5,11 +5,11 @@ ghost use Rattle.lfs_model.specs.format.EntryTypes.{SuperblockFields};
 ghost use Rattle.lfs_tool.specs.OwnLayouts.{HasOwnBlocks, IsOwnLayout, IsOwnLayoutError, own_layout, own_profile, own_sizes};
 ghost use Rattle.lfs_tool.specs.WrongNumbers.{IsSuperblockAt};
 
+use crate::Sizes;
 use crate::image_layout::ImageLayout;
 use crate::superblocks::image_superblock_at;
 use lfs_device::{AcceptedVersions, Error, Profile};
 use lfs_tag::Superblock;
-use lfs_tool_line::Sizes;
 
 /// The layout of an image that its superblock decides, and the length of the image in bytes.
 #[derive(Clone, Copy, Debug, PartialEq, Eq)]

@@ -4,7 +4,7 @@ ghost use Rattle.std.specs.Prelude.{◌≡◌, ◌⊎◌, ◌<◌, ◌^◌, IfEr
 ghost use Rattle.lfs_device.specs.RamDevice.{ram_blocks, ram_geometry};
 ghost use Rattle.lfs_device.specs.DeviceDisk.{disk_of_blocks as shown};
 ghost use Rattle.lfs_model.specs.tree.View.{IsFormedList};
-ghost use Rattle.lfs_tool_folders.specs.Actions.{AddsAction};
+ghost use Rattle.lfs_tool.specs.Actions.{AddsAction};
 ghost use Rattle.lfs_tool.specs.Unpackings.{HaveFormedLists, FailsUnpackingDisk, FailsUnpackingImage, ActionsPartlyDone, HasDoneActions, HasUnpackedDisk, HasUnpackedImage, ReportsTargetFaults, place_action, place_actions};
 ghost use Rattle.lfs_thread.specs.ThreadSteps.{OnlyReadsThread};
 ghost use Rattle.lfs_lookup.specs.FileBytes.{struct_file_bytes};
@@ -14,11 +14,10 @@ ghost use Rattle.lfs_tool.specs.Reports.{ReportsOneFault};
 ghost use Rattle.lfs_model.specs.format.Disk.{Disk};
 
 use crate::image_devices::{ram_device_of, ram_tree_items};
-use crate::{FilesAndBytes, FollowsProgress, ImageLayout, ToolError};
+use crate::{FilesAndBytes, FollowsProgress, ImageLayout, Target, TargetError, ToolError};
 use lfs_device::{Error, RamDevice};
 use lfs_lookup::{OwnedStruct, TreeItem, read_struct_bytes};
 use lfs_thread::Thread;
-use lfs_tool_folders::{Target, TargetError};
 use std::alloc::Global;
 
 // Returns the bytes of a file of an image in memory.

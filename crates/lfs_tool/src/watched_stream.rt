@@ -1,7 +1,6 @@
 ghost use Rattle.std.specs.Prelude.{◌≡◌};
 
-use crate::{ImageInput, ToolOutput};
-use lfs_tool_folders::Tally;
+use crate::{ImageInput, Tally, ToolOutput};
 use std::fmt::Display;
 use std::io;
 use std::io::{ErrorKind, Read, Write};

@@ -23,8 +23,8 @@ pub use Rattle.lfs_model.specs.tree.Tree.{DirectoryNode, FileNode, Node, Path, T
 pub use Rattle.lfs_model.specs.tree.View.{IsAccepted}
 pub use Rattle.lfs_tool_run.specs.AppliedOperations.{AppliesUntilError, AreApplied, HealthyWithoutFiles, IsFirstRefusal, RunsToError, entries_operations, entry_operations, node_of_optional}
 pub use Rattle.lfs_tool_run.specs.MadeImages.{RefusesEntries}
-pub use Rattle.lfs_tool_folders.specs.MemorySources.{optional_bytes_view}
-pub use Rattle.lfs_tool_folders.specs.SourceEntries.{AreDepthFirst, AreSortedFolderNames, AreSourceEntries, HasSourceContents, PathAndKind, paths_in_folder}
+pub use Rattle.lfs_tool.specs.MemorySources.{optional_bytes_view}
+pub use Rattle.lfs_tool.specs.SourceEntries.{AreDepthFirst, AreSortedFolderNames, AreSourceEntries, HasSourceContents, PathAndKind, paths_in_folder}
 pub use Rattle.std.proofs.lemmas.Grind.{flat_map-append}
 pub use Rattle.std.proofs.lemmas.List.{append-nil}
 pub use Rattle.std.proofs.lemmas.List.Elements.{All-contains, All-contains_itself, All-from_recursion, recursion_from_All}

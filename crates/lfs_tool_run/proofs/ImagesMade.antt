@@ -21,7 +21,7 @@ use Rattle.lfs_model.proofs.Counts.{each_always, each_joined}
 use Rattle.lfs_model.proofs.Cuts.{length-cut}
 use Rattle.lfs_model.proofs.Kept.{fresh_settled, fresh_true}
 use Rattle.lfs_model.proofs.Uniqueness.{one_thread}
-use Rattle.lfs_tool_folders.specs.declared.entries.SourceEntry.{SourceEntry}
+use Rattle.lfs_tool.specs.declared.entries.SourceEntry.{SourceEntry}
 use Rattle.lfs_tool_run.specs.MadeImages.{AreImageBytes, BeginsFresh, IsSourceImage}
 use Rattle.lfs_tool_run.proofs.Growing.{carried_tree, tree_after}
 use Rattle.lfs_fs.proofs.StepShapes.{steps_keep_order, steps_keep_shape}

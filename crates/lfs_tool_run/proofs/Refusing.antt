@@ -10,7 +10,7 @@ use Rattle.lfs_model.specs.session.Run.{ShowsTree}
 use Rattle.lfs_model.specs.format.Slots.{zero_gstate}
 use Rattle.lfs_fs.specs.SessionView.{SessionFails}
 use Rattle.lfs_lookup.specs.RefusalErrors as refusals
-use Rattle.lfs_tool_folders.specs.declared.entries.SourceEntry.{SourceEntry}
+use Rattle.lfs_tool.specs.declared.entries.SourceEntry.{SourceEntry}
 use Rattle.lfs_tool_run.proofs.Runs.{ended_before, ended_on}
 use Rattle.lfs_tool_run.proofs.Stepping.{HasCarried, carried_from}
 

@@ -11,7 +11,7 @@ use Rattle.lfs_fs.specs.SessionView.{StepsOrFails}
 use Rattle.lfs_fs.specs.Replies.{reply_from}
 use Rattle.lfs_lookup.specs.RefusalErrors as refusals
 use Rattle.lfs_lookup.specs.RefusalErrors.{error_refusal}
-use Rattle.lfs_tool_folders.specs.declared.entries.SourceEntry.{SourceEntry}
+use Rattle.lfs_tool.specs.declared.entries.SourceEntry.{SourceEntry}
 use Rattle.lfs_tool_run.proofs.Stepping.{opened_first}
 
 abbrev IsAccepted : Reply → Type 0

@@ -11,7 +11,7 @@ use Rattle.lfs_model.specs.session.Effects.{operation_result, tree_after_storing
 use Rattle.lfs_model.specs.session.Refusals.{operation_refusal}
 use Rattle.lfs_model.specs.session.State.{nonremount_result}
 use Rattle.lfs_model.specs.session.Run.{AreSteps}
-use Rattle.lfs_tool_folders.specs.declared.entries.SourceEntry.{SourceEntry}
+use Rattle.lfs_tool.specs.declared.entries.SourceEntry.{SourceEntry}
 use Rattle.lfs_tool_run.specs.AppliedOperations.{AllFilesClosed}
 use Rattle.lfs_tool_run.proofs.Growing.{AreNew, grown, tree_after}
 

@@ -7,7 +7,7 @@ use Rattle.lfs_model.specs.declared.order.NameOrder.TheVariants.{ShorterFirst}
 use Rattle.lfs_model.specs.session.TreeEdits as apply
 use Rattle.lfs_model.specs.layers.Listing as listing
 use Rattle.lfs_model.specs.layers.Listing.{IsDepthFirst, entry_paths}
-use Rattle.lfs_tool_folders.specs.declared.entries.SourceEntry.{SourceEntry}
+use Rattle.lfs_tool.specs.declared.entries.SourceEntry.{SourceEntry}
 use Rattle.lfs_tool_run.specs.MadeImages.{CopySource}
 use Rattle.lfs_tool_run.proofs.Growing.{beneath, carried_tree, tree_after}
 use Rattle.lfs_tool_run.proofs.NamesGiven.{Rising, each_found, kind_moved, less_unlike, rising_from}

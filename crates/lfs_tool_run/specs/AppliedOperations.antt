@@ -12,8 +12,8 @@ use Rattle.lfs_model.specs.session.State.{Healthy}
 use Rattle.lfs_model.specs.tree.Tree.{Node, FileNode, DirectoryNode}
 use Rattle.lfs_fs.specs.SessionView.{EndsInError}
 use Rattle.lfs_lookup.specs.RefusalErrors.{is_refusal, error_refusal}
-use Rattle.lfs_tool_folders.specs.MemorySources.{optional_bytes_view}
-use Rattle.lfs_tool_folders.specs.declared.entries.SourceEntry.{SourceEntry}
+use Rattle.lfs_tool.specs.MemorySources.{optional_bytes_view}
+use Rattle.lfs_tool.specs.declared.entries.SourceEntry.{SourceEntry}
 
 -- ---- the operations
 

@@ -21,8 +21,8 @@ use Rattle.lfs_tool.specs.declared.errors.ToolError.{ToolError}
 use Rattle.lfs_tool.specs.declared.errors.ToolError.TheVariants.{Input}
 use Rattle.lfs_tool.specs.KnownBytes.{AppendsBeginning}
 use Rattle.lfs_tool_run.specs.AppliedOperations.{AreApplied, IsFirstRefusal, entries_operations}
-use Rattle.lfs_tool_folders.specs.SourceEntries.{AreSourceEntries, HasFaultOr, HasBadNames}
-use Rattle.lfs_tool_folders.specs.declared.entries.SourceEntry.{SourceEntry}
+use Rattle.lfs_tool.specs.SourceEntries.{AreSourceEntries, HasFaultOr, HasBadNames}
+use Rattle.lfs_tool.specs.declared.entries.SourceEntry.{SourceEntry}
 
 -- ---- a run
 

@@ -5,8 +5,7 @@ use crate::files::Host;
 use crate::run::{folder_of_line, geometry_of_line};
 use crate::times::{keep_times, times_of_entries};
 use lfs_device::{Error, Geometry, RamDevice};
-use lfs_tool::{Extras, FollowsProgress, Line, Mode, ToolError};
-use lfs_tool_folders::SourceEntry;
+use lfs_tool::{Extras, FollowsProgress, Line, Mode, SourceEntry, ToolError};
 
 /// The most bytes that an image has.
 pub(crate) const IMAGE_MAX: u32 = 268_435_456;

@@ -3,14 +3,16 @@ ghost use Rattle.lfs_device.specs.RamDevice.{ram_bytes};
 ghost use Rattle.lfs_fs.specs.SessionView.{system_state};
 ghost use Rattle.lfs_tool.specs.Reports.{ReportsWriterFaults};
 ghost use Rattle.lfs_tool_run.specs.MadeImages.{AreImageBytes, BeginsFresh, HasCopiedEntries, HasWrittenBeginning, HasWrittenImage, RefusesEntries, ReportsSourceFaults};
-ghost use Rattle.lfs_tool_folders.specs.SourceEntries.{AreSourceEntries};
+ghost use Rattle.lfs_tool.specs.SourceEntries.{AreSourceEntries};
 
 use crate::source_entries::copy_entries;
 use lfs_device::{Error, Geometry, RamDevice};
 use lfs_fs::{Session, format_ordered};
 use lfs_model::NameOrder;
-use lfs_tool::{FollowsProgress, ToolError, ToolOutput, write_and_flush};
-use lfs_tool_folders::{Source, SourceEntry, SourceError, read_tree};
+use lfs_tool::{
+    FollowsProgress, Source, SourceEntry, SourceError, ToolError, ToolOutput, read_tree,
+    write_and_flush,
+};
 use std::alloc::Global;
 
 /// Reads all that a source has, depth first and in name order.

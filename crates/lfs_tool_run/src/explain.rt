@@ -8,12 +8,10 @@ use crate::run::{folder_of_line, geometry_of_line, layout_of_line};
 use lfs_device::{AcceptedVersions, Error};
 use lfs_tag::Superblock;
 use lfs_tool::{
-    CheckResult, Fault, ImageLayout, Line, LineError, Mode, RefusalReason, ToolError, ToolOutput,
-    check_result_lines, image_superblock_at, layout_by_blocks, push_escaped_path, report,
-    result_of_image, write_and_flush,
+    CheckResult, Fault, Folder, ImageLayout, Line, LineError, Mode, RefusalReason, Sizes,
+    SourceEntry, ToolError, ToolOutput, check_result_lines, image_superblock_at, layout_by_blocks,
+    push_escaped_path, report, result_of_image, write_and_flush,
 };
-use lfs_tool_folders::{Folder, SourceEntry};
-use lfs_tool_line::Sizes;
 use std::alloc::AllocError;
 
 // The modes, for words that don't give exactly one.

@@ -1,8 +1,7 @@
 // The image at a path of the command line: a file, or for `-` a standard stream.
 
 use crate::leftovers::{begin_new_image, remove_leftovers};
-use lfs_tool::ToolError;
-use lfs_tool_folders::{FaultLog, FolderRules, NewImage};
+use lfs_tool::{FaultLog, FolderRules, NewImage, ToolError};
 use std::alloc::Global;
 use std::cell::Cell;
 use std::fs::File;

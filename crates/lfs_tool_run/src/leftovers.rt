@@ -1,6 +1,6 @@
 // The files that runs have left beside an image, which were cut off as they made one.
 
-use lfs_tool_folders::NewImage;
+use lfs_tool::NewImage;
 use std::fs::File;
 use std::io::Write;
 use std::path::Path;

@@ -10,11 +10,10 @@ use crate::session::{cat_file, change_image, mount_image};
 use crate::times::{set_times, times_in_image};
 use lfs_device::{Error, Geometry};
 use lfs_tool::{
-    Extras, Fault, ImageLayout, Line, LineError, Mode, ProgressLine, Request, ToolError,
-    ToolOutput, WatchedStream, geometry_of_sizes, ram_device_of, read_request, report,
-    target_tool_error, unpack, write_and_flush,
+    Extras, Fault, Folder, FolderRules, ImageLayout, Line, LineError, Links, Mode, ProgressLine,
+    Request, Target, TargetFolder, ToolError, ToolOutput, WatchedStream, geometry_of_sizes,
+    ram_device_of, read_request, report, target_tool_error, unpack, write_and_flush,
 };
-use lfs_tool_folders::{Folder, FolderRules, Links, Target, TargetFolder};
 use std::io;
 use std::io::{ErrorKind, IsTerminal, Stderr};
 

@@ -12,8 +12,7 @@ ghost use Rattle.lfs_tool_run.specs.AppliedOperations.{AreApplied, AppliesUntilE
 use bitflags::Flags;
 use lfs_device::{Error, RamDevice};
 use lfs_fs::{OpenFlags, Session};
-use lfs_tool::{FilesAndBytes, FollowsProgress};
-use lfs_tool_folders::SourceEntry;
+use lfs_tool::{FilesAndBytes, FollowsProgress, SourceEntry};
 use std::alloc::Global;
 
 // Returns the flags of a file that is to be made.

@@ -3,8 +3,7 @@
 use crate::sources::{Items, memory_source_of_items};
 use crate::texts::{create_of_source, list_text, unpack_text, with_error_line};
 use lfs_device::{Error, Geometry};
-use lfs_tool::{ImageLayout, WatchedStream};
-use lfs_tool_folders::MemorySource;
+use lfs_tool::{ImageLayout, MemorySource, WatchedStream};
 use std::alloc::Global;
 use std::test::Fail;
 

@@ -1,6 +1,6 @@
 // Of what is noted in a log of faults the first is taken, once.
 
-use lfs_tool_folders::{FaultLog, PathFault};
+use lfs_tool::{FaultLog, PathFault};
 use std::alloc::{AllocError, Global};
 use std::fs;
 use std::test::Fail;

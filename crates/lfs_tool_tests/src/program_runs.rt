@@ -1,8 +1,7 @@
 // Runs of the program over real files: the rows, and what no row says.
 
 use crate::runs::{RUNS, make_files, program_words, seconds_at, set_seconds, time_in_image};
-use lfs_tool::WatchedStream;
-use lfs_tool_folders::FaultLog;
+use lfs_tool::{FaultLog, WatchedStream};
 use lfs_tool_run::{Host, run_words};
 use std::cell::Cell;
 use std::io::Write;

@@ -5,8 +5,7 @@ use crate::sources::memory_source_of_items;
 use crate::texts::create_of_source;
 use lfs_device::{Error, Geometry};
 use lfs_fixtures::image_with_commit;
-use lfs_tool::{FilesAndBytes, FollowsProgress, ImageLayout, WatchedStream, unpack};
-use lfs_tool_folders::MemoryTarget;
+use lfs_tool::{FilesAndBytes, FollowsProgress, ImageLayout, MemoryTarget, WatchedStream, unpack};
 use std::alloc::{AllocError, Global};
 use std::test::Fail;
 

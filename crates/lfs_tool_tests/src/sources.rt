@@ -1,8 +1,6 @@
 // Sources, and what is read of them.
 
-use lfs_tool_folders::{
-    FaultLog, Folder, MemorySource, MemorySourceEntry, Source, SourceError, read_tree,
-};
+use lfs_tool::{FaultLog, Folder, MemorySource, MemorySourceEntry, Source, SourceError, read_tree};
 use std::alloc::{AllocError, Global};
 use std::rt::Files;
 use std::test::Fail;

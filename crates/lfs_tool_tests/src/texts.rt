@@ -3,10 +3,9 @@
 use lfs_device::Geometry;
 use lfs_model::NameOrder;
 use lfs_tool::{
-    Fault, FollowsProgress, ImageInput, ImageLayout, ToolError, ToolOutput, WatchedStream, check,
-    list, read_image, report, unpack,
+    Fault, FollowsProgress, ImageInput, ImageLayout, MemoryTarget, Source, TargetAction, ToolError,
+    ToolOutput, WatchedStream, check, list, read_image, report, unpack,
 };
-use lfs_tool_folders::{MemoryTarget, Source, TargetAction};
 use lfs_tool_run::{create, read_source_entries};
 use std::alloc::{AllocError, Global};
 

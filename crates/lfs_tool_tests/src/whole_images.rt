@@ -1,7 +1,7 @@
 // Images that are written whole or not at all.
 
 use crate::disk::{DiskFiles, DiskHabit, MemoryFileSystem, PathAndKind};
-use lfs_tool_folders::NewImage;
+use lfs_tool::NewImage;
 use std::alloc::Global;
 use std::fs::Files;
 use std::io;

@@ -2,8 +2,7 @@
 //! mklittlefs: makes an image of a littlefs file system from a folder, unpacks one into a folder, lists one, or checks one.
 #![tactic(auto)]
 
-use lfs_tool::WatchedStream;
-use lfs_tool_folders::FaultLog;
+use lfs_tool::{FaultLog, WatchedStream};
 use lfs_tool_run::{Host, Lines, run_words};
 use std::cell::Cell;
 use std::io::IsTerminal;

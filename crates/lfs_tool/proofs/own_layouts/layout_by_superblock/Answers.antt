@@ -2,8 +2,8 @@ use Rattle.std.proofs.Common.{◌∙◌, ap, subst}
 use Rattle.lfs_model.specs.declared.limits.Profile.{Profile}
 use Rattle.lfs_tool.specs.OwnLayouts.{own_layout, own_sizes}
 use Rattle.lfs_tool.specs.declared.image_layout.ImageLayout.{ImageLayout}
-use Rattle.lfs_tool_line.specs.Sizes.{IsFirstBroken}
-use Rattle.lfs_tool_line.specs.declared.sizes.Sizes.{Sizes}
+use Rattle.lfs_tool.specs.Sizes.{IsFirstBroken}
+use Rattle.lfs_tool.specs.declared.sizes.Sizes.{Sizes}
 use Rattle.lfs_tool.proofs.own_layouts.layout_by_superblock.Goals as goal
 
 pub returns-in-None-clause-err : goal.returns-in-None-clause-err

@@ -1,6 +1,6 @@
 use Rattle.std.proofs.Common.{◌∙◌, ap, subst, sym, take}
 use Rattle.lfs_tool_run.proofs.Common.{fault_count, system_state, AreApplied, RunsToError, entry_operations}
-use Rattle.lfs_tool_folders.specs.declared.entries.SourceEntry.{SourceEntry}
+use Rattle.lfs_tool.specs.declared.entries.SourceEntry.{SourceEntry}
 use Rattle.lfs_tool_run.proofs.Refusing.{first_refused, no_file}
 use Rattle.lfs_tool_run.proofs.Runs.{entry_more}
 use Rattle.lfs_tool_run.proofs.source_entries.copy_entries.Goals as goal

@@ -1,0 +1,13 @@
+use Rattle.std.proofs.Common.{◌≡◌, map}
+use Rattle.lfs_tool.specs.SourceTrees.{IsUnchanged}
+use Rattle.lfs_tool.specs.SourceEntries.{waiting_view}
+use Rattle.lfs_tool.proofs.Reading.{AreFolders, Goes}
+use Rattle.lfs_tool.proofs.entries.read_tree.Given as goal
+
+abbrev pub invariant-loop : goal.invariant-loop
+invariant-loop g l = record {
+  goes : Goes (g.S.Source.shown l.fn.source) (map waiting_view l.waiting.items) l.entries.items;
+  folders : AreFolders (g.S.Source.shown l.fn.source) (map waiting_view l.waiting.items);
+  shown : IsUnchanged (g.S.Source.shown l.fn.source) (g.S.Source.shown l.source);
+  kept : g.S.Source.faults l.source ≡ g.S.Source.faults l.fn.source;
+}

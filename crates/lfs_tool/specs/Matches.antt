@@ -1,0 +1,216 @@
+-- The values of a line of words.
+use Rattle.std.specs.Prelude.{◌≡◌, ◌≤◌, ◌+◌, ◌∷◌, ◌||◌, ◌&&◌, if◌then◌else◌, ℕ, [], Bool, List, Option, Some, None, false, true, codes, is_some, nat_eq, not, unwrap_or, count_by}
+use Rattle.std.specs.Str.{bytes_eq}
+use Rattle.clap.specs.Words.{Kinds, Row, Text, all_of, fault_of, first_of, matches_of}
+use Rattle.clap.specs.Kinds.{or_else}
+use Rattle.clap.specs.Words.{HasKind, first_value}
+use Rattle.clap.specs.declared.parser.matches.Found.{Found}
+use Rattle.lfs_model.specs.declared.limits.AcceptedVersions.{AcceptedVersions}
+use Rattle.lfs_model.specs.declared.limits.AcceptedVersions.TheVariants.{AlsoTwoOne}
+use Rattle.lfs_model.specs.declared.limits.Profile.{Profile}
+use Rattle.lfs_model.specs.declared.order.NameOrder.{NameOrder}
+use Rattle.lfs_model.specs.declared.order.NameOrder.TheVariants.{LongerFirst, ShorterFirst}
+use Rattle.lfs_tool.specs.Boards.{board_block_size, board_named, board_profile}
+use Rattle.lfs_tool.specs.Command.{mklittlefs}
+use Rattle.lfs_tool.specs.Extras.{AreExtrasOf, misused_option}
+use Rattle.lfs_tool.specs.Limits.{first_broken_limit}
+use Rattle.lfs_tool.specs.Values.{flag_in_rows, is_option_auto, number_errors, number_or}
+use Rattle.lfs_tool.specs.declared.board.Board.{Board}
+use Rattle.lfs_tool.specs.declared.board.Board.TheVariants.{Unnamed}
+use Rattle.lfs_tool.specs.declared.limits.Limit.{Limit}
+use Rattle.lfs_tool.specs.declared.line.Line.{Line}
+use Rattle.lfs_tool.specs.declared.line.LineError.{LineError}
+use Rattle.lfs_tool.specs.declared.line.LineError.TheVariants as error
+use Rattle.lfs_tool.specs.declared.line.LineError.TheVariants.{Modes, NotUtf8, Order, Parser}
+use Rattle.lfs_tool.specs.declared.line.Mode.{Mode}
+use Rattle.lfs_tool.specs.declared.line.Request.{Request}
+use Rattle.lfs_tool.specs.declared.line.Mode.TheVariants as mode
+use Rattle.lfs_tool.specs.declared.modes.GivenModes.{GivenModes}
+use Rattle.lfs_tool.specs.declared.modes.GivenModes.TheVariants as given
+
+-- the matches that clap's definition of a simple command gives for the words
+unfoldable pub rows : List Text → List Row
+rows words = matches_of mklittlefs words
+
+-- the error with which the words are refused: that of clap, or that of a number; empty where they are taken
+unfoldable pub faults : List Text → Kinds
+faults words = or_else (fault_of mklittlefs words) (number_errors (rows words))
+
+abbrev pub ParserAccepts : List Text → Type 0
+ParserAccepts words = faults words ≡ []
+
+abbrev pub asks_list : List Row → Bool
+asks_list rows = flag_in_rows (codes "list") rows
+
+abbrev pub asks_check : List Row → Bool
+asks_check rows = flag_in_rows (codes "check") rows
+
+abbrev pub asks_explanation : List Row → Bool
+asks_explanation rows = flag_in_rows (codes "explain") rows
+
+-- whether each of -c, -u, -l and --check is given
+abbrev pub folder_flags : List Row → List Bool
+folder_flags rows = is_some (first_of (codes "create") rows)
+    ∷ is_some (first_of (codes "unpack") rows) ∷ asks_list rows ∷ asks_check rows ∷ []
+
+-- the two texts of a list of two
+abbrev pub exactly_two_texts : Option (List Text) → Option (Text × Text)
+exactly_two_texts (Some (first ∷ second ∷ [])) = Some (first, second)
+exactly_two_texts _ = None
+
+-- the two texts of an option
+abbrev pub given_two_texts : Text → List Row → Option (Text × Text)
+given_two_texts id rows = exactly_two_texts (all_of id rows)
+
+-- whether each of --cat, --put, --remove and --mkdir is given
+abbrev pub path_flags : List Row → List Bool
+path_flags rows = is_some (first_of (codes "cat") rows)
+    ∷ is_some (given_two_texts (codes "put") rows) ∷ is_some (first_of (codes "remove") rows) ∷ is_some (first_of (codes "mkdir") rows) ∷ []
+
+-- how many of these are given
+abbrev pub given_count : List Bool → ℕ
+given_count flags = count_by (λ b. b) flags
+
+-- how many modes are given
+abbrev pub mode_count : List Row → ℕ
+mode_count rows = given_count (folder_flags rows) + given_count (path_flags rows)
+
+abbrev pub OneMode : List Row → Type 0
+OneMode rows = mode_count rows ≡ 1
+
+-- the mode is the one that is given
+abbrev pub IsModeOf : List Row → Mode → Type 0
+IsModeOf rows (mode.Create dir) = first_of (codes "create") rows ≡ Some dir.now
+IsModeOf rows (mode.Unpack dir) = first_of (codes "unpack") rows ≡ Some dir.now
+IsModeOf rows mode.List = asks_list rows ≡ true
+IsModeOf rows mode.Check = asks_check rows ≡ true
+IsModeOf rows (mode.Cat path) = first_of (codes "cat") rows ≡ Some path.now
+IsModeOf rows (mode.Put file path) = given_two_texts (codes "put") rows ≡ Some (file.now, path.now)
+IsModeOf rows (mode.Remove path) = first_of (codes "remove") rows ≡ Some path.now
+IsModeOf rows (mode.Mkdir path) = first_of (codes "mkdir") rows ≡ Some path.now
+
+-- what is given of the modes with these flags
+abbrev pub AreGivenModes : List Bool → List Row → GivenModes → Type 0
+AreGivenModes flags rows given.None = given_count flags ≡ 0
+AreGivenModes flags rows (given.One mode) = (given_count flags ≡ 1) × IsModeOf rows mode
+AreGivenModes flags rows given.Several = 2 ≤ given_count flags
+
+-- the order of names that a text names
+abbrev pub order_named : Text → Option NameOrder
+order_named text = if bytes_eq text (codes "longer-first") then Some LongerFirst else (if bytes_eq text (codes "shorter-first") then Some ShorterFirst else None)
+
+abbrev pub order_if_present : Option Text → Option NameOrder
+order_if_present None = None
+order_if_present (Some text) = order_named text
+
+abbrev pub order_in_rows : List Row → Option NameOrder
+order_in_rows rows = order_if_present (first_of (codes "order") rows)
+
+-- the order that is given is one
+abbrev pub HasValidOrder : List Row → Type 0
+HasValidOrder rows = is_some (order_in_rows rows) ≡ true
+
+-- the board that is given
+abbrev pub board_if_present : Option Text → Option Board
+board_if_present None = Some Unnamed
+board_if_present (Some text) = board_named text
+
+abbrev pub board_in_rows : List Row → Option Board
+board_in_rows rows = board_if_present (first_of (codes "board") rows)
+
+-- the board that is given is one
+abbrev pub KnownBoard : List Row → Type 0
+KnownBoard rows = is_some (board_in_rows rows) ≡ true
+
+abbrev pub board_or_none : List Row → Board
+board_or_none rows = unwrap_or (board_in_rows rows) Unnamed
+
+-- the size of a block, which is the board's where none is given
+abbrev pub given_block_size : List Row → ℕ
+given_block_size rows = number_or (board_block_size (board_or_none rows)) (codes "block") rows
+
+-- the versions that are accepted
+abbrev pub versions_given_or : AcceptedVersions → List Row → AcceptedVersions
+versions_given_or other rows = if flag_in_rows (codes "also-2.1") rows then AlsoTwoOne else other
+
+-- a profile with the limits and versions that are given
+abbrev pub profile_given_or : Profile → List Row → Profile
+profile_given_or other rows = record other {
+  versions = versions_given_or other.versions rows;
+  name_max = number_or other.name_max (codes "name-max") rows;
+  file_max = number_or other.file_max (codes "file-max") rows;
+  attr_max = number_or other.attr_max (codes "attr-max") rows;
+  inline_max = number_or other.inline_max (codes "inline-max") rows;
+  pair_cycles = number_or other.pair_cycles (codes "pair-cycles") rows;
+}
+
+-- the profile, which is the board's where no limit and no version is given
+abbrev pub given_profile : List Row → Profile
+given_profile rows = profile_given_or (board_profile (board_or_none rows)) rows
+
+-- the first limit that breaks its rule
+abbrev pub broken_limit : List Row → Option Limit
+broken_limit rows = first_broken_limit (given_block_size rows) rows
+
+-- the superblock decides the size and the number of blocks
+abbrev pub has_auto_blocks : List Row → Bool
+has_auto_blocks rows = is_option_auto (codes "block") rows || flag_in_rows (codes "auto") rows
+
+-- each part of the line is the value that the words give it, or its default
+pub record IsLineOf (rows : List Row) (line : Line) : Type 0 where
+  pub one_mode : OneMode rows
+  pub mode : IsModeOf rows line.mode
+  pub known_board : KnownBoard rows
+  pub block_size : given_block_size rows ≡ line.block_size
+  pub is_auto : has_auto_blocks rows ≡ line.is_auto
+  pub has_own_limits : flag_in_rows (codes "auto") rows ≡ line.has_own_limits
+  pub offset : number_or 0 (codes "offset") rows ≡ line.offset
+  pub page : number_or 256 (codes "page") rows ≡ line.page
+  pub size : number_or 65536 (codes "size") rows ≡ line.size
+  pub order : order_in_rows rows ≡ Some line.order
+  pub explain : asks_explanation rows ≡ line.explain
+  pub limits : broken_limit rows ≡ None
+  pub profile : given_profile rows ≡ line.profile
+  pub image : first_of (codes "image") rows ≡ Some line.image.now
+
+-- a part of a file is given, and what is behind it isn't known to stay
+abbrev pub gives_part : Line → Bool
+gives_part line = not (nat_eq line.offset 0) || (line.is_auto && not line.has_own_limits)
+
+abbrev pub makes_part_with : Mode → Bool → Bool
+makes_part_with (mode.Create dir) part = part
+makes_part_with (mode.Put file path) part = part
+makes_part_with (mode.Remove path) part = part
+makes_part_with (mode.Mkdir path) part = part
+makes_part_with other part = false
+
+-- the line's mode writes an image, and a part of a file is given
+abbrev pub makes_part : Line → Bool
+makes_part line = makes_part_with line.mode (gives_part line)
+
+-- the line and what it requests beside its image
+pub record IsRequestOf (rows : List Row) (request : Request) : Type 0 where
+  pub line : IsLineOf rows request.line
+  pub extras : AreExtrasOf rows request.extras
+  pub whole : makes_part request.line ≡ false
+
+-- the image is there
+abbrev pub HasImage : Found → Type 0
+HasImage f = is_some (first_value f (codes "image")) ≡ true
+
+-- the parser takes the words, which name one mode, and an order and a board that are known
+abbrev pub NamesKnownModes : List Text → Type 0
+NamesKnownModes words = ParserAccepts words × OneMode (rows words) × HasValidOrder (rows words) × KnownBoard (rows words)
+
+-- The cause for which there is no line: the parser refuses the words; or it takes them and not exactly one mode is given; or an
+-- order is none of the two; or a board is none of the four; or a limit breaks its rule, and none before it does;
+-- or a part of a file is to be written; or an option has no meaning where it is given, and none before it. Text is UTF-8.
+abbrev pub IsLineError : List Text → LineError → Type 0
+IsLineError words (Parser e) = HasKind (faults words) e
+IsLineError words Modes = ParserAccepts words × ¬ OneMode (rows words)
+IsLineError words Order = ParserAccepts words × OneMode (rows words) × ¬ HasValidOrder (rows words)
+IsLineError words error.Board = ParserAccepts words × OneMode (rows words) × HasValidOrder (rows words) × ¬ KnownBoard (rows words)
+IsLineError words (error.Limit limit) = NamesKnownModes words × (broken_limit (rows words) ≡ Some limit)
+IsLineError words (error.Misuse misuse) = NamesKnownModes words × (broken_limit (rows words) ≡ None) × (misused_option (rows words) ≡ Some misuse)
+IsLineError words error.Part = ParserAccepts words × ((line : Line) × (IsLineOf (rows words) line × (makes_part line ≡ true)))
+IsLineError words NotUtf8 = ⊥

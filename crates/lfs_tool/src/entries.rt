@@ -1,0 +1,171 @@
+ghost use Rattle.std.specs.Prelude.{◌≡◌, ◌++◌, ◌∷◌, [], IfOk, IfSome, IsErrOf, OnOk, map, reverse, true};
+ghost use Rattle.lfs_model.specs.layers.Source.{HaveBadOrRepeated, source_names, path_in_folder};
+ghost use Rattle.lfs_tool.specs.SourceTrees.{IsUnchanged, is_folder, listed_view};
+ghost use Rattle.lfs_tool.specs.MemorySources.{optional_bytes_view};
+ghost use Rattle.lfs_tool.specs.SourceEntries.{AreSourceEntries, AreSortedFolderNames, HasFaultOr, HasBadNames, HasSourceContents, waiting_view, paths_in_folder};
+
+use crate::names::{are_names_allowed, sort_names};
+use crate::{ListedName, Source, SourceError, SourceKind};
+use std::alloc::Global;
+
+/// A file or a folder of a source.
+#[derive(Debug, Drop)]
+pub struct SourceEntry {
+    /// The path, `/` before each name.
+    pub path: Vec<u8>,
+    /// A file's bytes, and none for a folder.
+    pub bytes: Option<Vec<u8>>,
+}
+
+// A file or a folder that is known to be there, and is still to be read.
+#[derive(Debug, Drop)]
+struct WaitingEntry {
+    path: Vec<u8>,
+    kind: SourceKind,
+    len: u64,
+}
+
+// Returns the path of a name in a folder.
+fn join_path(alloc: Global, folder: &[u8], name: &[u8]) -> Result<Vec<u8>, SourceError>
+    ensures path { IfOk result (λ v. v.items ≡ path_in_folder folder.now name.now) }
+    ensures memory { (e : _) → result ≡ Err e → e ≡ SourceError.NoMemory }
+{
+    let len = folder.len().saturating_add(1).saturating_add(name.len());
+    let mut path = Vec::with_capacity(alloc, len).map_err(|_| SourceError::NoMemory)?;
+    path.extend_from_slice(folder)
+        .map_err(|_| SourceError::NoMemory)?;
+    path.push(b'/').map_err(|_| SourceError::NoMemory)?;
+    path.extend_from_slice(name)
+        .map_err(|_| SourceError::NoMemory)?;
+    Ok(path)
+}
+
+// Returns the names in a folder, in order.
+fn sorted_names<S: Source>(
+    alloc: Global,
+    source: &mut S,
+    folder: &[u8],
+) -> Result<Vec<ListedName>, SourceError>
+    ensures names { IfOk result (λ v. AreSortedFolderNames (S.shown source.old) folder.now (map listed_view v.items)) }
+    ensures shown { IsUnchanged (S.shown source.old) (S.shown source.new) }
+    ensures kept { OnOk result (S.faults source.new ≡ S.faults source.old) }
+    ensures fault { IsErrOf result SourceError.Fault
+        → HasFaultOr (S.faults source.old) (S.faults source.new) (IfSome (S.shown source.old) (λ s. HaveBadOrRepeated (source_names (s.names folder.now)))) }
+    ensures no_memory { IsErrOf result SourceError.NoMemory → S.faults source.new ≡ S.faults source.old }
+{
+    let mut names = source.list(alloc, folder)?;
+    sort_names(&mut names);
+    if !are_names_allowed(names.as_slice()) {
+        return Err(SourceError::Fault);
+    }
+    Ok(names)
+}
+
+fn push_waiting_entry(waiting: &mut Vec<WaitingEntry>, one: WaitingEntry) -> Result<(), SourceError>
+    ensures waiting { OnOk result (waiting.new.items ≡ waiting.old.items ++ one ∷ []) }
+    ensures memory { (e : _) → result ≡ Err e → e ≡ SourceError.NoMemory }
+{
+    waiting.push(one).map_err(|_| SourceError::NoMemory)
+}
+
+fn push_names_waiting(
+    alloc: Global,
+    folder: &[u8],
+    names: &[ListedName],
+    waiting: &mut Vec<WaitingEntry>,
+) -> Result<(), SourceError>
+    ensures places { OnOk result (map waiting_view waiting.new.items ≡ map waiting_view waiting.old.items ++ paths_in_folder folder.now (map listed_view names.now)) }
+    ensures memory { (e : _) → result ≡ Err e → e ≡ SourceError.NoMemory }
+{
+    for one in names {
+        let path = join_path(alloc, folder, one.name.as_slice())?;
+        let kind = one.kind;
+        let len = one.len;
+        push_waiting_entry(waiting, WaitingEntry { path, kind, len })?;
+    }
+    Ok(())
+}
+
+// Adds the names in a folder to the pending ones, the first name last.
+fn push_folder_names<S: Source>(
+    alloc: Global,
+    source: &mut S,
+    folder: &[u8],
+    waiting: &mut Vec<WaitingEntry>,
+) -> Result<(), SourceError>
+    ensures within { OnOk result ((within : _) × (AreSortedFolderNames (S.shown source.old) folder.now within
+        × (map waiting_view waiting.new.items ≡ map waiting_view waiting.old.items ++ reverse (paths_in_folder folder.now within)))) }
+    ensures shown { IsUnchanged (S.shown source.old) (S.shown source.new) }
+    ensures kept { OnOk result (S.faults source.new ≡ S.faults source.old) }
+    ensures fault { IsErrOf result SourceError.Fault
+        → HasFaultOr (S.faults source.old) (S.faults source.new) (IfSome (S.shown source.old) (λ s. HaveBadOrRepeated (source_names (s.names folder.now)))) }
+    ensures no_memory { IsErrOf result SourceError.NoMemory → S.faults source.new ≡ S.faults source.old }
+{
+    let mut names = sorted_names(alloc, source, folder)?;
+    names.reverse();
+    push_names_waiting(alloc, folder, names.as_slice(), waiting)?;
+    Ok(())
+}
+
+// Returns a file's bytes. The names in a folder become pending.
+fn read_waiting_entry<S: Source>(
+    alloc: Global,
+    source: &mut S,
+    one: &WaitingEntry,
+    waiting: &mut Vec<WaitingEntry>,
+) -> Result<Option<Vec<u8>>, SourceError>
+    ensures holds { IfOk result (λ bytes. (within : _) × (HasSourceContents (S.shown source.old) one.now.path.items (is_folder one.now.kind) (optional_bytes_view bytes) within
+        × (map waiting_view waiting.new.items ≡ map waiting_view waiting.old.items ++ reverse (paths_in_folder one.now.path.items within)))) }
+    ensures shown { IsUnchanged (S.shown source.old) (S.shown source.new) }
+    ensures kept { OnOk result (S.faults source.new ≡ S.faults source.old) }
+    ensures fault { IsErrOf result SourceError.Fault
+        → HasFaultOr (S.faults source.old) (S.faults source.new)
+        ((is_folder one.now.kind ≡ true) × IfSome (S.shown source.old) (λ s. HaveBadOrRepeated (source_names (s.names one.now.path.items)))) }
+    ensures no_memory { IsErrOf result SourceError.NoMemory → S.faults source.new ≡ S.faults source.old }
+{
+    match one.kind {
+        SourceKind::Folder => {
+            push_folder_names(alloc, source, one.path.as_slice(), waiting)?;
+            Ok(None)
+        }
+        SourceKind::File => {
+            let bytes = source.read(alloc, one.path.as_slice(), one.len)?;
+            Ok(Some(bytes))
+        }
+    }
+}
+
+fn push_source_entry(entries: &mut Vec<SourceEntry>, entry: SourceEntry) -> Result<(), SourceError>
+    ensures entries { OnOk result (entries.new.items ≡ entries.old.items ++ entry ∷ []) }
+    ensures memory { (e : _) → result ≡ Err e → e ≡ SourceError.NoMemory }
+{
+    entries.push(entry).map_err(|_| SourceError::NoMemory)
+}
+
+/// Reads all that a source has, depth first and in name order. A folder comes before its entries.
+///
+/// # Errors
+/// - `Fault` where the source couldn't be read, or a name in a folder is given twice, is empty, `.` or
+///   `..`, or has a byte 0x00 or `/`.
+/// - `NoMemory` where memory isn't granted.
+pub fn read_tree<S: Source>(alloc: Global, source: &mut S) -> Result<Vec<SourceEntry>, SourceError>
+    ensures entries { IfOk result (λ v. AreSourceEntries (S.shown source.old) v.items) }
+    ensures shown { IsUnchanged (S.shown source.old) (S.shown source.new) }
+    ensures kept { OnOk result (S.faults source.new ≡ S.faults source.old) }
+    ensures fault { IsErrOf result SourceError.Fault → HasFaultOr (S.faults source.old) (S.faults source.new) (IfSome (S.shown source.old) HasBadNames) }
+    ensures no_memory { IsErrOf result SourceError.NoMemory → S.faults source.new ≡ S.faults source.old }
+{
+    let mut entries = Vec::new(alloc);
+    let mut waiting = Vec::new(alloc);
+    push_folder_names(alloc, source, b"", &mut waiting)?;
+    // Each round holds an entry, so memory ends before the rounds do.
+    for _ in 0..u64::MAX {
+        let Some(one) = waiting.pop() else {
+            return Ok(entries);
+        };
+        let bytes = read_waiting_entry(alloc, source, &one, &mut waiting)?;
+        let path = one.path;
+        push_source_entry(&mut entries, SourceEntry { path, bytes })?;
+    }
+    Err(SourceError::NoMemory)
+}

@@ -1,0 +1,260 @@
+ghost use Rattle.std.specs.Prelude.{◌≡◌, List, IfErr, IfOk, Some, false, map};
+ghost use Rattle.clap.specs.Words.{Text, found_of, rows_of};
+ghost use Rattle.lfs_tool.specs.Choices.{AreChoicesOf};
+ghost use Rattle.lfs_tool.specs.Matches.{HasImage, IsLineError, IsLineOf, IsRequestOf, ParserAccepts, has_auto_blocks, makes_part, broken_limit, board_in_rows, order_in_rows, order_named, rows};
+
+use crate::board::Board;
+use crate::extras::{Extras, Misuse, extras_of_matches, misused_option};
+use crate::limits::{Limit, first_broken_limit, profile_given_or};
+use crate::modes::mode_of_matches;
+use crate::options::parse_words;
+use crate::values::{argument_text, flag_value, is_auto, number_given_or};
+use clap::ArgMatches;
+use lfs_model::{NameOrder, Profile};
+use std::alloc::Global;
+use std::convert::AsStr;
+use thiserror::Error;
+
+/// What the program does.
+#[derive(Clone, Copy, Debug, PartialEq)]
+pub enum Mode<'a> {
+    /// Create the image from this folder.
+    Create(&'a str),
+    /// Unpack the image into this folder.
+    Unpack(&'a str),
+    /// List the image.
+    List,
+    /// Check the image.
+    Check,
+    /// Write the bytes of the file at this path in the image.
+    Cat(&'a str),
+    /// Put the bytes of this file at this path in the image.
+    Put(&'a str, &'a str),
+    /// Remove what is at this path in the image.
+    Remove(&'a str),
+    /// Make a directory at this path in the image.
+    Mkdir(&'a str),
+}
+
+/// The request of a command line. Its numbers are as they were given: no size is checked here.
+#[derive(Clone, Copy, Debug, PartialEq)]
+pub struct Line<'a> {
+    pub mode: Mode<'a>,
+    /// The size of a block in bytes.
+    pub block_size: u32,
+    /// Whether the size and the number of blocks are those of the superblock: `-b auto` or `--auto`.
+    pub is_auto: bool,
+    /// Whether the versions and the limits are those of the superblock too: `--auto`.
+    pub has_own_limits: bool,
+    /// How many bytes are before the image.
+    pub offset: u32,
+    /// The size of a page in bytes, the unit that a device programs.
+    pub page: u32,
+    /// The size of the image in bytes, for `Mode::Create`.
+    pub size: u32,
+    /// The order of the names in the image, for `Mode::Create`.
+    pub order: NameOrder,
+    /// Whether each error is explained by further lines: `--explain`.
+    pub explain: bool,
+    /// What is accepted of the image, and the limits of the one to be made.
+    pub profile: Profile,
+    /// The path of the image.
+    pub image: &'a str,
+}
+
+/// A line, and what it requests beside its image.
+#[derive(Debug, Drop)]
+pub struct Request<'a> {
+    pub line: Line<'a>,
+    pub extras: Extras<'a>,
+}
+
+// What of a line is one of several names.
+#[derive(Clone, Copy)]
+struct Choices<'a> {
+    mode: Mode<'a>,
+    order: NameOrder,
+    board: Board,
+}
+
+/// The cause for which there is no command line.
+#[derive(Debug, Drop, Error)]
+pub enum LineError {
+    /// The parser's own error, which also comes of a number that is none, with a request for help, and where memory
+    /// isn't granted.
+    #[error(transparent)]
+    Parser(clap::Error),
+    /// None of the modes is given, or more than one is.
+    #[error("error: give exactly one of -c, -u, -l")]
+    Modes,
+    /// The order of names is neither `longer-first` nor `shorter-first`.
+    #[error("error: --order is longer-first or shorter-first")]
+    Order,
+    /// The board has another name than the four.
+    #[error("error: --board is esp8266, esp32, rp2040 or micropython")]
+    Board,
+    /// A limit is 0, or larger than it may be.
+    #[error("error: {}", .0.rule())]
+    Limit(Limit),
+    /// An option has no meaning with the mode.
+    #[error("error: {}", .0.rule())]
+    Misuse(Misuse),
+    /// An image is to be written, and a part of a file is given.
+    #[error("error: -b auto and --offset are for -l, -u, --check and --cat")]
+    Part,
+    /// A word isn't UTF-8. `read_line` doesn't return this, since its words are text.
+    #[error("error: the command line is not UTF-8")]
+    NotUtf8,
+}
+
+// Returns the order that a text names.
+fn order_of_text(text: &str) -> Option<NameOrder>
+    ensures { result ≡ order_named text.now }
+{
+    if text == "longer-first" {
+        Some(NameOrder::LongerFirst)
+    } else if text == "shorter-first" {
+        Some(NameOrder::ShorterFirst)
+    } else {
+        None
+    }
+}
+
+// Returns the order that is given, or the default.
+fn order_of_matches(matches: &ArgMatches<'_>) -> Option<NameOrder>
+    ensures { result ≡ order_in_rows (rows_of (found_of matches.now)) }
+{
+    match argument_text(matches, "order") {
+        Some(text) => order_of_text(text),
+        None => None,
+    }
+}
+
+// Returns the board that is given, or none.
+fn board_of_matches(matches: &ArgMatches<'_>) -> Option<Board>
+    ensures { result ≡ board_in_rows (rows_of (found_of matches.now)) }
+{
+    match argument_text(matches, "board") {
+        Some(text) => Board::of_name(text),
+        None => Some(Board::Unnamed),
+    }
+}
+
+// Returns the choices of the matches, or the first one that is wrong.
+fn choices_of_matches<'a>(matches: &ArgMatches<'a>) -> Result<Choices<'a>, LineError>
+    ensures ok { IfOk result (AreChoicesOf (rows_of (found_of matches.now))) }
+    ensures err { (words : List Text) → ParserAccepts words → rows_of (found_of matches.now) ≡ rows words → IfErr result (IsLineError words) }
+{
+    let Some(mode) = mode_of_matches(matches) else {
+        return Err(LineError::Modes);
+    };
+    let Some(order) = order_of_matches(matches) else {
+        return Err(LineError::Order);
+    };
+    match board_of_matches(matches) {
+        Some(board) => Ok(Choices { mode, order, board }),
+        None => Err(LineError::Board),
+    }
+}
+
+// Returns whether a line's mode writes an image, and a part of a file is given.
+fn makes_part(line: &Line<'_>) -> bool
+    ensures { result ≡ makes_part line.now }
+{
+    match line.mode {
+        Mode::Create(_) | Mode::Put(..) | Mode::Remove(_) | Mode::Mkdir(_) => {
+            line.offset != 0 || (line.is_auto && !line.has_own_limits)
+        }
+        _ => false,
+    }
+}
+
+// Returns whether the superblock decides the size and the number of blocks.
+fn has_auto_blocks(matches: &ArgMatches<'_>) -> bool
+    ensures { result ≡ has_auto_blocks (rows_of (found_of matches.now)) }
+{
+    is_auto(matches, "block") || flag_value(matches, "auto")
+}
+
+// Returns the line of the matches, or the first limit that breaks its rule.
+fn line_of_matches<'a>(matches: &ArgMatches<'a>, choices: Choices<'a>) -> Result<Line<'a>, Limit>
+    requires image { HasImage (found_of matches.now) }
+    requires choices { AreChoicesOf (rows_of (found_of matches.now)) choices }
+    ensures ok { IfOk result (IsLineOf (rows_of (found_of matches.now))) }
+    ensures err { IfErr result (λ limit. broken_limit (rows_of (found_of matches.now)) ≡ Some limit) }
+{
+    let board = choices.board;
+    let block_size = number_given_or(matches, "block", board.block_size());
+    if let Some(limit) = first_broken_limit(matches, block_size) {
+        return Err(limit);
+    }
+    Ok(Line {
+        mode: choices.mode,
+        block_size,
+        is_auto: has_auto_blocks(matches),
+        has_own_limits: flag_value(matches, "auto"),
+        offset: number_given_or(matches, "offset", 0),
+        page: number_given_or(matches, "page", 256),
+        size: number_given_or(matches, "size", 65536),
+        order: choices.order,
+        explain: flag_value(matches, "explain"),
+        profile: profile_given_or(matches, board.profile()),
+        image: argument_text(matches, "image").unwrap(),
+    })
+}
+
+/// Reads the words of a command line, the program's name first. `--help` and docs/TOOL.md have the options.
+///
+/// An option that isn't given has its default: blocks of 4096 bytes, pages of 256, an image of 65536, the longer names
+/// first, and the format's own limits. A board replaces the block size, the limits and the versions among these.
+/// ORDER and the limits are read in each mode.
+///
+/// # Errors
+/// `LineError::Parser` if the parser refuses the words, an option has no number, the words ask for help or for the
+/// version, or memory isn't granted. Else the first of these that applies: `LineError::Modes` unless exactly one mode is
+/// given, `LineError::Order` and `LineError::Board` for a name that is none, `LineError::Limit` for a limit that is 0 or
+/// too large, `LineError::Part` for `-b auto` or an offset if the mode writes an image, `LineError::Misuse` for another
+/// option that has no meaning where it is given.
+pub fn read_request<'a, S: AsStr>(alloc: Global, words: &'a [S]) -> Result<Request<'a>, LineError>
+    ensures ok { IfOk result (λ request. ParserAccepts (map S.text words.entry.now)
+        × IsRequestOf (rows (map S.text words.entry.now)) request) }
+    ensures err { IfErr result (IsLineError (map S.text words.entry.now)) }
+{
+    let matches = match parse_words(alloc, words) {
+        Ok(matches) => matches,
+        Err(error) => return Err(LineError::Parser(error)),
+    };
+    let choices = match choices_of_matches(&matches) {
+        Ok(choices) => choices,
+        Err(error) => return Err(error),
+    };
+    let line = match line_of_matches(&matches, choices) {
+        Ok(line) => line,
+        Err(limit) => return Err(LineError::Limit(limit)),
+    };
+    if makes_part(&line) {
+        return Err(LineError::Part);
+    }
+    if let Some(misuse) = misused_option(&matches) {
+        return Err(LineError::Misuse(misuse));
+    }
+    match extras_of_matches(alloc, &matches) {
+        Ok(extras) => Ok(Request { line, extras }),
+        Err(error) => Err(LineError::Parser(clap::Error::from(error))),
+    }
+}
+
+/// Reads the words of a command line as `read_request` does, and returns the line alone.
+///
+/// # Errors
+/// Those of `read_request`.
+pub fn read_line<'a, S: AsStr>(alloc: Global, words: &'a [S]) -> Result<Line<'a>, LineError>
+    ensures ok { IfOk result (λ line. ParserAccepts (map S.text words.entry.now)
+        × IsLineOf (rows (map S.text words.entry.now)) line × (makes_part line ≡ false)) }
+    ensures err { IfErr result (IsLineError (map S.text words.entry.now)) }
+{
+    match read_request(alloc, words) {
+        Ok(request) => Ok(request.line),
+        Err(error) => Err(error),
+    }
+}

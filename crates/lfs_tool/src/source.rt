@@ -1,0 +1,68 @@
+ghost use Rattle.std.specs.Prelude.{◌≡◌, ℕ, IfOk, IfSome, IsErrOf, None, OnOk, Option, map, suc};
+ghost use Rattle.lfs_model.specs.layers.Source as model;
+ghost use Rattle.lfs_tool.specs.SourceTrees.{IsUnchanged, listed_view};
+
+use std::alloc::Global;
+
+/// The kind of a name.
+#[derive(Clone, Copy, Debug, PartialEq, Eq, PartialOrd, Ord, Drop)]
+pub enum SourceKind {
+    /// A file, which has bytes.
+    File,
+    /// A folder, which has names.
+    Folder,
+}
+
+/// A name in a folder.
+#[derive(Debug, PartialEq, Eq, PartialOrd, Ord, Drop)]
+pub struct ListedName {
+    /// The name's bytes.
+    pub name: Vec<u8>,
+    /// Its kind.
+    pub kind: SourceKind,
+    /// A file's length when it was listed, which may be wrong by now. Of a folder it says nothing.
+    pub len: u64,
+}
+
+/// The cause for which a source gave nothing.
+#[derive(Clone, Copy, Debug, PartialEq, Eq, Drop)]
+pub enum SourceError {
+    /// It couldn't be read, or a folder has bad names.
+    Fault,
+    /// A growth was refused.
+    NoMemory,
+}
+
+/// A folder and all below it. A path has `/` before each name, and is empty for the folder itself.
+pub trait Source {
+    // The tree of the source, where it is known.
+    ghost shown: { Self → Option model.TreeSource } = { λ _. None };
+
+    // How many calls have met a fault.
+    ghost faults: { Self → ℕ };
+
+    /// Returns the names in a folder, in any order.
+    ///
+    /// # Errors
+    /// - `Fault` where the folder couldn't be read.
+    /// - `NoMemory` where memory isn't granted.
+    fn list(&mut self, alloc: Global, folder: &[u8]) -> Result<Vec<ListedName>, SourceError>
+        ensures names { IfOk result (λ v. IfSome (shown self.old) (λ s. map listed_view v.items ≡ s.names folder.now)) }
+        ensures shown { IsUnchanged (shown self.old) (shown self.new) }
+        ensures kept { OnOk result (faults self.new ≡ faults self.old) }
+        ensures fault { IsErrOf result SourceError.Fault → faults self.new ≡ suc (faults self.old) }
+        ensures no_memory { IsErrOf result SourceError.NoMemory → faults self.new ≡ faults self.old };
+
+    /// Returns the bytes of a file. `listed_len` is the length in its `ListedName`. The file may have become
+    /// longer or shorter since, and all bytes that it has are returned.
+    ///
+    /// # Errors
+    /// - `Fault` where the file couldn't be read.
+    /// - `NoMemory` where memory isn't granted.
+    fn read(&mut self, alloc: Global, file: &[u8], listed_len: u64) -> Result<Vec<u8>, SourceError>
+        ensures bytes { IfOk result (λ v. IfSome (shown self.old) (λ s. v.items ≡ s.bytes file.now)) }
+        ensures shown { IsUnchanged (shown self.old) (shown self.new) }
+        ensures kept { OnOk result (faults self.new ≡ faults self.old) }
+        ensures fault { IsErrOf result SourceError.Fault → faults self.new ≡ suc (faults self.old) }
+        ensures no_memory { IsErrOf result SourceError.NoMemory → faults self.new ≡ faults self.old };
+}

@@ -1,0 +1,151 @@
+// Files beside a path, which come to stand there.
+
+ghost use Rattle.std.specs.Prelude.{◌≡◌, ◌++◌, IfOk, OnOk, false, true};
+ghost use Rattle.std.specs.Fmt.{decimal};
+ghost use Rattle.std.specs.String.{string_bytes};
+ghost use Rattle.lfs_tool.specs.TemporaryNames.{IsNumberedPath, temporary_prefix};
+
+use crate::path_state::{PathState, state_of_metadata};
+use std::alloc::{AllocError, Global};
+use std::fs::{File, OpenFile, OpenOptions, Permissions};
+use std::io::ErrorKind;
+use std::path::Path;
+use std::rt::Files;
+use std::{fs, io};
+
+// How many names are tried.
+const NAMES: u32 = 1000;
+
+// How many digits the number of a name may have.
+const DIGITS: usize = 10;
+
+// The path of an image, and one beside it. The memory for each name that is tried is granted when this is
+// made.
+#[derive(Drop)]
+pub(crate) struct ImagePaths {
+    // Where the image is to stand.
+    pub(crate) path: String,
+    // What each path beside it begins with. A number follows.
+    start: String,
+    // The path beside it that was tried last.
+    pub(crate) beside: String,
+    ghost is_start: { string_bytes start ≡ temporary_prefix (string_bytes path) },
+}
+
+impl ImagePaths {
+    // The paths of an image that is to stand at this one.
+    pub(crate) fn new(alloc: Global, path: &str) -> Result<ImagePaths, AllocError>
+        ensures { IfOk result (λ p. string_bytes p.path ≡ path.now) }
+    {
+        let start = Path::new(path)
+            .with_file_name(alloc, ".mklittlefs-")?
+            .into_string();
+        let beside = String::with_capacity(alloc, start.len().saturating_add(DIGITS))?;
+        Ok(ImagePaths {
+            path: String::from_str(alloc, path)?,
+            start,
+            beside,
+        })
+    }
+
+    // Takes the path beside it of that number.
+    fn set_temporary_number(&mut self, number: u32) -> Result<(), AllocError>
+        ensures path { self.new.path ≡ self.old.path }
+        ensures beside { OnOk result (string_bytes self.new.beside ≡ temporary_prefix (string_bytes self.old.path) ++ decimal number) }
+    {
+        self.beside.clear();
+        self.beside.push_str(self.start.as_str())?;
+        write!(self.beside, "{number}")?;
+        Ok(())
+    }
+}
+
+// Makes a new file beside a path, under the first name that is free.
+fn create_temporary_file<R: Files>(files: &R, paths: &mut ImagePaths) -> io::Result<R::File>
+    ensures path { paths.new.path ≡ paths.old.path }
+    ensures beside { OnOk result (IsNumberedPath (string_bytes paths.old.path) (string_bytes paths.new.beside)) }
+{
+    for number in 0..NAMES {
+        paths.set_temporary_number(number)?;
+        match File::create_new(files, paths.beside.as_str()) {
+            Ok(file) => return Ok(file),
+            Err(error) if error.kind() == ErrorKind::AlreadyExists => {}
+            Err(error) => return Err(error),
+        }
+    }
+    Err(io::Error::from(ErrorKind::AlreadyExists))
+}
+
+// Makes a new file beside a path. Where the folder takes no new file, makes or empties the one at the
+// path. Returns whether the file is beside it.
+fn create_new_file<R: Files>(files: &R, paths: &mut ImagePaths) -> io::Result<(R::File, bool)>
+    ensures path { paths.new.path ≡ paths.old.path }
+    ensures beside { IfOk result (λ made. made.1 ≡ true → IsNumberedPath (string_bytes paths.old.path) (string_bytes paths.new.beside)) }
+{
+    match create_temporary_file(files, paths) {
+        Ok(file) => Ok((file, true)),
+        Err(error) if error.kind() == ErrorKind::PermissionDenied => {
+            Ok((File::create(files, paths.path.as_str())?, false))
+        }
+        Err(error) => Err(error),
+    }
+}
+
+// Makes the file that replaces one with these permissions. Fails where the old one may not be written.
+fn create_replacement_file<R: Files>(
+    files: &R,
+    paths: &mut ImagePaths,
+    permissions: Permissions,
+) -> io::Result<(R::File, bool)>
+    ensures path { paths.new.path ≡ paths.old.path }
+    ensures beside { IfOk result (λ made. made.1 ≡ true → IsNumberedPath (string_bytes paths.old.path) (string_bytes paths.new.beside)) }
+{
+    let _there = OpenOptions::new()
+        .write(true)
+        .open(files, paths.path.as_str())?;
+    let made = create_new_file(files, paths)?;
+    // Where the system knows no permissions, the file has those of a new one.
+    let _ = made.0.set_permissions(permissions);
+    Ok(made)
+}
+
+// Makes the file that is to stand at a path where that stands there now.
+fn create_by_state<R: Files>(
+    files: &R,
+    paths: &mut ImagePaths,
+    standing: PathState,
+) -> io::Result<(R::File, bool)>
+    ensures path { paths.new.path ≡ paths.old.path }
+    ensures beside { IfOk result (λ made. made.1 ≡ true → IsNumberedPath (string_bytes paths.old.path) (string_bytes paths.new.beside)) }
+    ensures there { standing ≡ PathState.Other → IfOk result (λ made. made.1 ≡ false) }
+{
+    match standing {
+        PathState::Nothing => create_new_file(files, paths),
+        PathState::File(permissions) => create_replacement_file(files, paths, permissions),
+        PathState::Other => Ok((File::create(files, paths.path.as_str())?, false)),
+    }
+}
+
+// Makes the file that is to stand at a path, and says whether it is beside it until then. Where something
+// stands there that is no file, that is what is written.
+pub(crate) fn create_image_file<R: Files>(
+    files: &R,
+    paths: &mut ImagePaths,
+) -> io::Result<(R::File, bool)>
+    ensures path { paths.new.path ≡ paths.old.path }
+    ensures beside { IfOk result (λ made. made.1 ≡ true → IsNumberedPath (string_bytes paths.old.path) (string_bytes paths.new.beside)) }
+{
+    let found = fs::symlink_metadata(files, paths.path.as_str());
+    create_by_state(files, paths, state_of_metadata(found))
+}
+
+// Puts the file beside a path in its place. Where the system refuses that, as at a file that is mounted
+// alone, its bytes are copied there.
+pub(crate) fn move_to_path<R: Files>(files: &R, paths: &ImagePaths) -> io::Result<()> {
+    let (beside, path) = (paths.beside.as_str(), paths.path.as_str());
+    if fs::rename(files, beside, path).is_ok() {
+        return Ok(());
+    }
+    fs::copy(files, beside, path)?;
+    fs::remove_file(files, beside)
+}

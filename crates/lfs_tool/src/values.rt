@@ -1,0 +1,115 @@
+// The values of a command line's options.
+
+ghost use Rattle.std.specs.Prelude.{◌≡◌, map, option_map};
+ghost use Rattle.clap.specs.Words.{first_of, found_of, rows_of};
+ghost use Rattle.lfs_tool.specs.Values.{bad_option_number, bad_option_size, first_bad_number, first_bad_text, flag_in_rows, is_option_auto, number_or, number_in_rows};
+
+use crate::numbers::number_in_text;
+use clap::ArgMatches;
+
+// Returns the text of an argument.
+pub(crate) fn argument_text<'a>(matches: &ArgMatches<'a>, id: &str) -> Option<&'a str>
+    ensures { option_map (λ s. s.now) result ≡ first_of id.now (rows_of (found_of matches.now)) }
+{
+    matches.get_str(id)
+}
+
+// Returns the value of a flag.
+pub(crate) fn flag_value(matches: &ArgMatches<'_>, id: &str) -> bool
+    ensures { result ≡ flag_in_rows id.now (rows_of (found_of matches.now)) }
+{
+    matches.get_one::<bool>(id).unwrap_or(false)
+}
+
+// Returns the number of an option, where it is given.
+pub(crate) fn given_number(matches: &ArgMatches<'_>, id: &str) -> Option<u32>
+    ensures { result ≡ number_in_rows id.now (rows_of (found_of matches.now)) }
+{
+    match argument_text(matches, id) {
+        Some(text) => number_in_text(text),
+        None => None,
+    }
+}
+
+// Returns the number of an option, or the other one where none is given.
+pub(crate) fn number_given_or(matches: &ArgMatches<'_>, id: &str, other: u32) -> u32
+    ensures { result ≡ number_or other id.now (rows_of (found_of matches.now)) }
+{
+    given_number(matches, id).unwrap_or(other)
+}
+
+// Returns the text of an option that takes a number, where it names none.
+fn bad_number<'a>(matches: &ArgMatches<'a>, id: &str) -> Option<&'a str>
+    ensures { option_map (λ s. s.now) result ≡ bad_option_number id.now (rows_of (found_of matches.now)) }
+{
+    match argument_text(matches, id) {
+        Some(text) => match number_in_text(text) {
+            Some(_) => None,
+            None => Some(text),
+        },
+        None => None,
+    }
+}
+
+// Returns whether an option says that its number is found elsewhere.
+pub(crate) fn is_auto(matches: &ArgMatches<'_>, id: &str) -> bool
+    ensures { result ≡ is_option_auto id.now (rows_of (found_of matches.now)) }
+{
+    match argument_text(matches, id) {
+        Some(text) => text == "auto",
+        None => false,
+    }
+}
+
+// Returns the text of an option that takes a number or `auto`, where it is neither.
+fn bad_size<'a>(matches: &ArgMatches<'a>, id: &str) -> Option<&'a str>
+    ensures { option_map (λ s. s.now) result ≡ bad_option_size id.now (rows_of (found_of matches.now)) }
+{
+    if is_auto(matches, id) {
+        return None;
+    }
+    bad_number(matches, id)
+}
+
+// Returns the first of these options whose text names no number, and the text.
+#[tactic(auto, using(crate::proofs::Table::bad_found, crate::proofs::Table::good_passed, crate::proofs::Table::none_bad))]
+fn bad_number_among<'a>(
+    matches: &ArgMatches<'a>,
+    ids: &[&'static str],
+) -> Option<(&'static str, &'a str)>
+    ensures { option_map (λ bad. bad.1.now) result ≡ first_bad_number (map (λ id. id.now) ids.now) (rows_of (found_of matches.now)) }
+{
+    for id in ids {
+        if let Some(text) = bad_number(matches, id) {
+            return Some((id, text));
+        }
+    }
+    None
+}
+
+// The options that take a number alone, but for the size of a page.
+const NUMBERS: [&str; 7] = [
+    "offset",
+    "name-max",
+    "file-max",
+    "attr-max",
+    "inline-max",
+    "pair-cycles",
+    "spare",
+];
+
+/// Returns the first option whose text names no number, and the text.
+pub(crate) fn first_bad_number<'a>(matches: &ArgMatches<'a>) -> Option<(&'static str, &'a str)>
+    ensures { option_map (λ bad. bad.1.now) result ≡ first_bad_text (rows_of (found_of matches.now)) }
+{
+    if let Some(text) = bad_size(matches, "block") {
+        return Some(("block", text));
+    }
+    if let Some(text) = bad_number(matches, "page") {
+        return Some(("page", text));
+    }
+    if let Some(text) = bad_size(matches, "size") {
+        return Some(("size", text));
+    }
+    bad_number_among(matches, &NUMBERS)
+}

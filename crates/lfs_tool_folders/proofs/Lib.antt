@@ -1,4 +1,0 @@
-mod HeldItems
-mod NamesBeside
-mod Order
-mod Reading

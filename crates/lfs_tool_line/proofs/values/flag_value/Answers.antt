@@ -1,7 +1,0 @@
-use Rattle.std.proofs.Common.{◌∙◌}
-use Rattle.clap.specs.Words.{found_of}
-use Rattle.lfs_tool_line.proofs.Getters.{flag_read}
-use Rattle.lfs_tool_line.proofs.values.flag_value.Goals as goal
-
-pub returns : goal.returns
-returns c = c.unwrap_or.ensures ∙ flag_read _ (found_of c.args.matches.now) c.args.id.now c.get_one.result c.get_one.ensures.none c.get_one.ensures.value

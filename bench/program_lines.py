@@ -158,7 +158,7 @@ LISTED = (0, "f 2 /a\n", "")
 CORRUPT = "error: Corrupt (84)\n"
 SIZE_DIFFERS = CORRUPT + "corrupt\nsuperblock: block size 8192, given 4096\nblocks of 8192 bytes: -b 8192\n"
 MODES = ("the modes are -c DIR, -u DIR, -l, --check, --cat PATH, --put FILE PATH, --remove PATH and --mkdir PATH\n")
-DECIDED = "error: --auto takes the place of -b, --board, --also-2.1, --name-max, --file-max and --attr-max\n"
+DECIDED = "error: --auto replaces -b, --board, --also-2.1, --name-max, --file-max and --attr-max\n"
 
 
 def auto_rows(tool, folder):

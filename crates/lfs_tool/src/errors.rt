@@ -90,7 +90,7 @@ impl ToolError {
 type LineText = ArrayString<96>;
 
 fn line_of_words(words: &str) -> LineText
-    requires { length words.now ≤ 88 }
+    requires { length words.now ≤ 80 }
     ensures { result.bytes ≡ codes "error: " ++ words.now ++ newline }
 {
     let mut line = LineText::new();
@@ -115,7 +115,7 @@ fn text_of_error(error: Error) -> LineText
 
 // Writes the line of a mistake in a command line, and returns its status. A failed write is ignored.
 fn write_mistake<E: ToolOutput>(err: &mut E, rule: &str) -> u8
-    requires { length rule.now ≤ 88 }
+    requires { length rule.now ≤ 80 }
     ensures status { result ≡ 2 }
     ensures beginning { AppendsBeginning (E.contents err.old) (E.contents err.new) (codes "error: " ++ rule.now ++ newline) }
     ensures line { E.faults err.new ≡ E.faults err.old → Appends (E.contents err.old) (E.contents err.new) (codes "error: " ++ rule.now ++ newline) }

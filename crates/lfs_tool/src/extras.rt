@@ -68,7 +68,7 @@ impl Misuse {
             Misuse::Streams => "--put takes - as FILE or as IMAGE, not as both",
             Misuse::Auto => "--auto is for all modes but -c",
             Misuse::Decided => {
-                "--auto takes the place of -b, --board, --also-2.1, --name-max, --file-max and --attr-max"
+                "--auto replaces -b, --board, --also-2.1, --name-max, --file-max and --attr-max"
             }
         }
     }

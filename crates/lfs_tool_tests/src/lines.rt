@@ -484,7 +484,7 @@ const CYCLES: &str = "error: --pair-cycles is for --put, --remove and --mkdir\n"
 const AUTO: &str = "error: --auto is for all modes but -c\n";
 
 const DECIDED: &str =
-    "error: --auto takes the place of -b, --board, --also-2.1, --name-max, --file-max and --attr-max\n";
+    "error: --auto replaces -b, --board, --also-2.1, --name-max, --file-max and --attr-max\n";
 
 const REFUSED: [(&[&str], Option<&str>); 58] = [
     // what the image decides, with what it would decide

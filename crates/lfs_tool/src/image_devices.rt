@@ -1,24 +1,18 @@
 // Images as devices.
 
-ghost use Rattle.std.specs.Prelude.{◌≡◌, ◌<◌, ◌/◌, ◌%◌, ◌^◌, [], List, IfErr, IfOk, OnOk, length};
+ghost use Rattle.std.specs.Prelude.{◌≡◌, ◌<◌, ◌/◌, ◌%◌, ◌^◌, [], IfErr, IfOk, OnOk, length};
 ghost use Rattle.lfs_device.specs.RamDevice.{ram_blocks, ram_geometry, ram_history};
 ghost use Rattle.lfs_device.specs.DeviceDisk.{disk_of_blocks as shown};
 ghost use Rattle.lfs_model.specs.format.Disk.{ordered_disk, IsWholeImage, disk_of_image};
 ghost use Rattle.lfs_model.specs.format.Geometry.{IsValidGeometry};
-ghost use Rattle.lfs_model.specs.format.Thread.{Pair};
-ghost use Rattle.lfs_model.specs.tree.View.{IsAccepted};
-ghost use Rattle.lfs_model.specs.declared.order.NameOrder.{NameOrder};
 ghost use Rattle.lfs_model.specs.declared.order.NameOrder.TheVariants.{LongerFirst};
 ghost use Rattle.lfs_mount.specs.Accepted.{IsMountedOn};
-ghost use Rattle.lfs_mount.specs.MountFaults.{MountMayReport};
-ghost use Rattle.lfs_thread.specs.ThreadDevice.{GivesDeviceBack};
-ghost use Rattle.lfs_thread.specs.Kept.{disk_of_device};
 ghost use Rattle.lfs_tool.specs.Listings.{IsWalkedThread, IsMountError};
 ghost use Rattle.lfs_lookup.specs.TreeWalk.{tree_items_view};
 
 use crate::input::IMAGE_MAX;
 use crate::{ImageLayout, geometry_of_sizes};
-use lfs_device::{BlockDevice, Error, Geometry, RamDevice};
+use lfs_device::{Error, Geometry, RamDevice};
 use lfs_lookup::{TreeItem, walk_tree};
 use lfs_mount::mount;
 use lfs_thread::Thread;
@@ -52,44 +46,31 @@ pub fn ram_device_of(image: Vec<u8>, layout: ImageLayout) -> Result<RamDevice, E
 }
 
 // Mounts the image of a device. Drops the rule that it breaks: callers need only `Corrupt`.
-fn mount_thread<D: BlockDevice>(alloc: Global, device: D) -> Result<Thread<D>, (D, Error)>
-    ensures mounted { IfOk result (λ t. IsMountedOn (ordered_disk t.kept.disk.order (disk_of_device D.BlockDevice device)) (D.history device) t) }
-    ensures corrupt { IfErr result (λ e. e.1 ≡ Error.Corrupt → (order : NameOrder) (ps : List Pair) → ¬ IsAccepted (ordered_disk order (disk_of_device D.BlockDevice device)) ps) }
-    ensures errors { IfErr result (λ e. MountMayReport e.1) }
-    ensures back { IfErr result (λ e. GivesDeviceBack D.BlockDevice device e.0 e.1) }
+fn mount_thread(alloc: Global, device: RamDevice) -> Result<Thread<RamDevice>, Error>
+    ensures mounted { IfOk result (λ t. IsMountedOn (ordered_disk t.kept.disk.order (shown (ram_geometry device) (ram_blocks device))) (ram_history device) t) }
+    ensures err { IfErr result (IsMountError (shown (ram_geometry device) (ram_blocks device))) }
 {
     match mount(alloc, device) {
         Ok(thread) => Ok(thread),
-        Err((device, error)) => Err((device, error.into())),
+        Err((_device, error)) => Err(error.into()),
     }
 }
 
 // Returns the thread of an image that is accepted in one of the orders of names, and all its entries.
-pub(crate) fn tree_items_of<D: BlockDevice>(
-    alloc: Global,
-    device: D,
-) -> Result<(Thread<D>, Vec<TreeItem>), (D, Error)>
-    ensures items { IfOk result (λ found. IsWalkedThread (disk_of_device D.BlockDevice device) found.0 (tree_items_view found.1.items)) }
-    ensures corrupt { IfErr result (λ e. e.1 ≡ Error.Corrupt → (order : NameOrder) (ps : List Pair) → ¬ IsAccepted (ordered_disk order (disk_of_device D.BlockDevice device)) ps) }
-    ensures errors { IfErr result (λ e. MountMayReport e.1) }
-    ensures back { IfErr result (λ e. GivesDeviceBack D.BlockDevice device e.0 e.1) }
-{
-    let mut thread = mount_thread(alloc, device)?;
-    match walk_tree(alloc, &mut thread) {
-        Ok(items) => Ok((thread, items)),
-        Err(error) => Err((thread.into_device(), error)),
-    }
-}
-
-pub(crate) fn ram_tree_items(
+pub(crate) fn tree_items_of(
     alloc: Global,
     device: RamDevice,
 ) -> Result<(Thread<RamDevice>, Vec<TreeItem>), Error>
     ensures items { IfOk result (λ found. IsWalkedThread (shown (ram_geometry device) (ram_blocks device)) found.0 (tree_items_view found.1.items)) }
     ensures err { IfErr result (IsMountError (shown (ram_geometry device) (ram_blocks device))) }
 {
-    match tree_items_of(alloc, device) {
-        Ok(found) => Ok(found),
-        Err((_device, error)) => Err(error),
+    let mut thread = mount_thread(alloc, device)?;
+    match walk_tree(alloc, &mut thread) {
+        Ok(items) => Ok((thread, items)),
+        Err(error) => {
+            // The device had no fault, so memory ran out.
+            let _device = thread.device();
+            Err(error)
+        }
     }
 }

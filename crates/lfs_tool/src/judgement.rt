@@ -6,7 +6,6 @@ ghost use Rattle.lfs_device.specs.DeviceDisk.{disk_of_blocks};
 ghost use Rattle.lfs_model.specs.format.Disk.{ordered_disk};
 ghost use Rattle.lfs_model.specs.layers.Violations.{Breaks};
 ghost use Rattle.lfs_mount.specs.TrueViolation.{IsTrueViolation};
-ghost use Rattle.lfs_thread.specs.Kept.{disk_of_device};
 ghost use Rattle.lfs_thread.specs.MountErrors.{error_of_mount};
 ghost use Rattle.lfs_tool.specs.ImageSummaries.{HasAcceptedOrders, AcceptedInOrder};
 ghost use Rattle.lfs_tool.specs.Verdict.{BreaksInSomeOrder, IsAcceptedInNeither, IsDiskVerdict, IsSummarized};
@@ -18,18 +17,14 @@ ghost use Rattle.lfs_model.specs.declared.order.NameOrder.TheVariants.{LongerFir
 use crate::summaries::summary_of_thread;
 use crate::verdict::{AcceptedOrders, BrokenRule, ImageSummary, ImageVerdict};
 use crate::violation_lines::broken_rule;
-use lfs_device::{BlockDevice, Error, RamDevice};
+use lfs_device::{Error, RamDevice};
 use lfs_model::{NameOrder, Violation};
 use lfs_mount::{MountError, mount, mount_in_order};
 use lfs_thread::Thread;
 use std::alloc::Global;
 
-fn accepts_order<D: BlockDevice + Drop>(
-    alloc: Global,
-    device: D,
-    order: NameOrder,
-) -> Result<bool, Error>
-    ensures { IfOk result (λ b. IsTrue b ↔ AcceptedInOrder order (disk_of_device D.BlockDevice device)) }
+fn accepts_order(alloc: Global, device: RamDevice, order: NameOrder) -> Result<bool, Error>
+    ensures { IfOk result (λ b. IsTrue b ↔ AcceptedInOrder order (disk_of_blocks (ram_geometry device) (ram_blocks device))) }
 {
     match mount_in_order(alloc, device, order) {
         Ok(_thread) => Ok(true),
@@ -39,14 +34,14 @@ fn accepts_order<D: BlockDevice + Drop>(
 }
 
 // Returns in which orders of names the image of a device is accepted. The order `first` is one of these.
-fn accepted_name_orders<D: BlockDevice + Drop>(
+fn accepted_name_orders(
     alloc: Global,
-    device: D,
+    device: RamDevice,
     first: NameOrder,
 ) -> Result<AcceptedOrders, Error>
-    requires first { AcceptedInOrder first (disk_of_device D.BlockDevice device) }
-    requires longer { first ≡ ShorterFirst → ¬ AcceptedInOrder LongerFirst (disk_of_device D.BlockDevice device) }
-    ensures { IfOk result (HasAcceptedOrders (disk_of_device D.BlockDevice device)) }
+    requires first { AcceptedInOrder first (disk_of_blocks (ram_geometry device) (ram_blocks device)) }
+    requires longer { first ≡ ShorterFirst → ¬ AcceptedInOrder LongerFirst (disk_of_blocks (ram_geometry device) (ram_blocks device)) }
+    ensures { IfOk result (HasAcceptedOrders (disk_of_blocks (ram_geometry device) (ram_blocks device))) }
 {
     match first {
         NameOrder::ShorterFirst => Ok(AcceptedOrders::ShorterFirst),
@@ -92,9 +87,9 @@ fn broken_rule_of(alloc: Global, device: RamDevice, longer: Violation) -> Result
 }
 
 // Returns what a mounted image has. An error is one of memory or of the device.
-fn judge_thread<D: BlockDevice + Drop>(
+fn judge_thread(
     alloc: Global,
-    mut thread: Thread<D>,
+    mut thread: Thread<RamDevice>,
 ) -> Result<(ImageSummary, AcceptedOrders), Error>
     requires works { thread.failed ≡ false }
     requires accepted { IsAccepted thread.kept.disk thread.kept.pairs }

@@ -8,7 +8,7 @@ ghost use Rattle.lfs_tool.specs.KnownBytes.{AppendsBeginning};
 ghost use Rattle.lfs_tool.specs.Reports.{ReportsWriterFaults};
 ghost use Rattle.lfs_tool.specs.Listings.{IsImageListing, IsImageWalk, IsMountError, IsWalkedThread, RefusesToList};
 
-use crate::image_devices::{ram_device_of, ram_tree_items};
+use crate::image_devices::{ram_device_of, tree_items_of};
 use crate::lines::tree_item_lines;
 use crate::output::write_and_flush;
 use crate::{ImageLayout, ToolError, ToolOutput};
@@ -20,7 +20,7 @@ fn items_of_ram(alloc: Global, device: RamDevice) -> Result<Vec<TreeItem>, Error
     ensures items { IfOk result (λ items. (t : ThreadView) × IsWalkedThread (shown (ram_geometry device) (ram_blocks device)) t (tree_items_view items.items)) }
     ensures err { IfErr result (IsMountError (shown (ram_geometry device) (ram_blocks device))) }
 {
-    match ram_tree_items(alloc, device) {
+    match tree_items_of(alloc, device) {
         Ok((_thread, items)) => Ok(items),
         Err(error) => Err(error),
     }

@@ -13,7 +13,7 @@ ghost use Rattle.lfs_lookup.specs.TreeWalk.{tree_item_view, tree_items_view};
 ghost use Rattle.lfs_tool.specs.Reports.{ReportsOneFault};
 ghost use Rattle.lfs_model.specs.format.Disk.{Disk};
 
-use crate::image_devices::{ram_device_of, ram_tree_items};
+use crate::image_devices::{ram_device_of, tree_items_of};
 use crate::{FilesAndBytes, FollowsProgress, ImageLayout, Target, TargetError, ToolError};
 use lfs_device::{Error, RamDevice};
 use lfs_lookup::{OwnedStruct, TreeItem, read_struct_bytes};
@@ -138,7 +138,7 @@ fn unpack_ram_device<T: Target, F: FollowsProgress>(
     ensures failed { IfErr result (FailsUnpackingDisk (shown (ram_geometry device) (ram_blocks device)) (T.done target.old) (T.done target.new)) }
     ensures output { ReportsOneFault ToolError.Output (T.faults target.old) (T.faults target.new) result }
 {
-    match ram_tree_items(alloc, device) {
+    match tree_items_of(alloc, device) {
         Ok((mut thread, items)) => unpack_tree_items(alloc, &mut thread, &items, target, progress),
         Err(error) => Err(ToolError::Fs(error)),
     }

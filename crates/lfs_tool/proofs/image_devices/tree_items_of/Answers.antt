@@ -1,14 +1,12 @@
-use Rattle.std.proofs.Common.{◌∙◌, Err, ap, arith, subst, sym}
-use Rattle.lfs_thread.specs.Kept.{disk_of_device}
-use Rattle.lfs_tool.proofs.Common.{ordered_disk, Disk, fault_count, IsAccepted, AreWalkItems, tree_items_view}
-use Rattle.lfs_model.specs.session.History.{OnlyReadsSince}
-use Rattle.lfs_model.specs.declared.order.NameOrder.TheVariants.{LongerFirst}
-use Rattle.lfs_model.proofs.Histories.{goes_on_by}
+use Rattle.std.proofs.Common.{◌∙◌, Err, ap, subst, sym}
+use Rattle.lfs_device.specs.DeviceDisk.{disk_of_blocks as shown}
+use Rattle.lfs_tool.proofs.Common.{ordered_disk, Disk, fault_count, IsAccepted, IsMountError, AreWalkItems, ram_blocks, ram_geometry, tree_items_view}
+use Rattle.lfs_tool.proofs.Mounts.{only_memory}
 use Rattle.lfs_tool.proofs.image_devices.tree_items_of.Goals as goal
 
 pub returns-in-Ok-clause-items : goal.returns-in-Ok-clause-items
-returns-in-Ok-clause-items g c =
-    let disk = disk_of_device g.D.BlockDevice c.args.device in
+returns-in-Ok-clause-items c =
+    let disk = shown (ram_geometry c.args.device) (ram_blocks c.args.device) in
     let places = tree_items_view c.in-Ok.items.items in
     let m = c.in_ok-thread.ensures.mounted in
     let e = c.in-Ok.ensures in
@@ -20,15 +18,8 @@ returns-in-Ok-clause-items g c =
       walked = subst (λ d. AreWalkItems d c.walk_tree.new.thread.kept.pairs places) (m.disk_is ∙ same) (subst (λ ps. AreWalkItems c.in_ok-thread.thread.kept.disk ps places) (sym e.reading.only.pairs) e.walked);
     }
 
-pub returns-in-Err-clause-back : goal.returns-in-Err-clause-back
-returns-in-Err-clause-back g c =
-    let disk = disk_of_device g.D.BlockDevice c.args.device in
-    let m = c.in_ok-thread.ensures.mounted in
-    let e = c.in-Err.ensures.reading in
-    let history = c.into_device.ensures.history in
-    record {
-      disk = ap (ordered_disk LongerFirst) (c.into_device.ensures.disk ∙ e.only.disk ∙ m.disk_is);
-      reads = subst (OnlyReadsSince disk.blocks (g.D.BlockDevice.history c.args.device)) (sym history) (goes_on_by m.reads (subst (λ d. OnlyReadsSince d.blocks c.in_ok-thread.thread.kept.history c.walk_tree.new.thread.kept.history) m.disk_is e.only.reads));
-      fault = λ io. (let more = e.reported.fault (ap Err io) in omega (arith, more, m.no_fault, ap fault_count history));
-      no_fault = λ other. ap fault_count history ∙ e.reported.no_fault (λ io. other (cc)) ∙ m.no_fault;
-    }
+pub returns-in-Err-clause-err : goal.returns-in-Err-clause-err
+returns-in-Err-clause-err c =
+    let reported = c.in-Err.ensures.reading.reported in
+    let memory = only_memory c.in-Err.error _ _ reported.errors (λ io. reported.fault (ap Err io)) (ap fault_count (sym c.device-device.ensures.history) ∙ c.device-device.result.now.no_fault) in
+    subst (IsMountError (shown (ram_geometry c.args.device) (ram_blocks c.args.device))) (sym memory) tt

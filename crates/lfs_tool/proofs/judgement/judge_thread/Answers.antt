@@ -6,7 +6,7 @@ use Rattle.lfs_tool.specs.ImageSummaries.{HasAcceptedOrders, AcceptedInOrder}
 use Rattle.lfs_tool.proofs.judgement.judge_thread.Goals as goal
 
 pub accepted_name_orders-requires-clause-first : goal.accepted_name_orders-requires-clause-first
-accepted_name_orders-requires-clause-first g c =
+accepted_name_orders-requires-clause-first c =
     let old = c.args.thread.kept in
     let only = c.in_ok-summary.ensures.only in
     let shown = ap (ordered_disk LongerFirst) (c.into_device.ensures.disk ∙ only.disk) in
@@ -17,14 +17,14 @@ accepted_name_orders-requires-clause-first g c =
     )
 
 pub accepted_name_orders-requires-clause-longer : goal.accepted_name_orders-requires-clause-longer
-accepted_name_orders-requires-clause-longer g c = λ is a.
+accepted_name_orders-requires-clause-longer c = λ is a.
     let only = c.in_ok-summary.ensures.only in
     let shown = ap (ordered_disk LongerFirst) (c.into_device.ensures.disk ∙ only.disk) in
     let own = sym (ap (λ (d : Disk). d.order) only.disk) ∙ sym c.order-order.ensures ∙ is in
     c.requires.longer own (subst (AcceptedInOrder LongerFirst) shown a)
 
 pub returns : goal.returns
-returns g c =
+returns c =
     let old = c.args.thread.kept in
     let shown = ap (ordered_disk LongerFirst) (c.into_device.ensures.disk ∙ c.in_ok-summary.ensures.only.disk) in
     record {

@@ -1,10 +1,13 @@
 // Images that are checked, and the lines of each.
 
-use crate::images::{
-    BELOW, EMPTY, ENTRIES, FIELDS, FIRST, HARD_TAIL, LARGER, LONGER_FIRST, MOVE_STATE, PAIR, SAME,
-    SHORT_NAMES, SHORTER, SOFT_TAIL, TURNED,
+use crate::images::{BELOW, ENTRIES, LONGER_FIRST, SHORTER};
+use crate::log_entries::{
+    A0, A1, A2, AB1, AB2, B0, B1, B2, D1, E2, EMPTY, EMPTY0, EMPTY1, EMPTY2, EMPTY3, FIRST,
+    GOES_ON, HARD_TAIL, LARGER, LATER_FIELDS, LIST1, LIST2, MOVE_STATE, NEXT_PAIR, PAIR,
+    PLAIN_FIELDS, SAME, SHORT_FIELDS, SOFT_TAIL, SUPERBLOCK, TO_PAIR1, TO_ROOT1, TURNED,
 };
 use crate::texts::check_text;
+use lfs_fixtures::BlockFilling::{Bytes, Commit};
 use lfs_fixtures::{BlockFilling, FixtureEntries, image_with_commit};
 use lfs_tool::{ImageLayout, WatchedStream};
 use std::alloc::{AllocError, Global};
@@ -15,13 +18,9 @@ const NEXT: &[u8] = &[4, 0, 0, 0, 5, 0, 0, 0];
 
 const FAR: &[u8] = &[2, 0, 0, 0, 16, 0, 0, 0];
 
-// Superblocks: of blocks of 8,192 bytes, and of version 2.1.
+// A superblock of blocks of 8,192 bytes.
 const LONG_BLOCKS: &[u8] = &[
     0, 0, 2, 0, 0, 32, 0, 0, 16, 0, 0, 0, 255, 0, 0, 0, 255, 255, 255, 127, 254, 3, 0, 0,
-];
-
-pub(crate) const LATER_VERSION: &[u8] = &[
-    1, 0, 2, 0, 0, 16, 0, 0, 16, 0, 0, 0, 255, 0, 0, 0, 255, 255, 255, 127, 254, 3, 0, 0,
 ];
 
 // An image: a second commit of its first block, its other blocks, and the lines of its check.
@@ -39,29 +38,19 @@ const ACCEPTED: [Row<'static>; 11] = [
     ),
     // names of which one begins the other
     (
-        &[
-            (0x0010_0402, b"ab"),
-            (0x2010_0400, b""),
-            (0x0010_0801, b"a"),
-            (0x2010_0800, b""),
-        ],
+        &[AB1, EMPTY1, A2, EMPTY2],
         &[],
         "ok\nfiles 2\ndirectories 0\nused 2 of 16 blocks\nfree 14\norder longer-first\nrecover no\nwritable yes\n",
     ),
     (
-        &[
-            (0x0010_0401, b"a"),
-            (0x2010_0400, b""),
-            (0x0010_0802, b"ab"),
-            (0x2010_0800, b""),
-        ],
+        &[A1, EMPTY1, AB2, EMPTY2],
         &[],
         "ok\nfiles 2\ndirectories 0\nused 2 of 16 blocks\nfree 14\norder shorter-first\nrecover no\nwritable yes\n",
     ),
     // a pair that isn't reached, with the sync bit
     (
         &[
-            (SOFT_TAIL, PAIR),
+            NEXT_PAIR,
             (MOVE_STATE, &[0, 0, 0, 0x80, 0, 0, 0, 0, 0, 0, 0, 0]),
         ],
         &[(2, EMPTY)],
@@ -70,27 +59,27 @@ const ACCEPTED: [Row<'static>; 11] = [
     // a limit that isn't written here, a file of 600 bytes in its slot, a pair without slots that the root
     // goes on with, and an entry with many bytes of attributes
     (
-        &[(0x2010_0018, SHORT_NAMES)],
+        &[SHORT_FIELDS],
         &[],
         "ok\nfiles 0\ndirectories 0\nused 2 of 16 blocks\nfree 14\norder either\nrecover no\n\
         writable no: pair 0 1, slot 0: a superblock with other limits than this library writes, name_max 32\n",
     ),
     (
-        &[(0x0010_0401, b"a"), (0x2010_0658, &[7; 600])],
+        &[A1, (0x2010_0658, &[7; 600])],
         &[],
         "ok\nfiles 1\ndirectories 0\nused 2 of 16 blocks\nfree 14\norder either\nrecover no\n\
         writable no: pair 0 1, slot 1: more bytes inline than an eighth of a block\n",
     ),
     (
-        &[(HARD_TAIL, PAIR)],
+        &[GOES_ON],
         &[(2, EMPTY)],
         "ok\nfiles 0\ndirectories 0\nused 4 of 16 blocks\nfree 12\norder either\nrecover no\n\
         writable no: pair 2 3: no entry, but a directory goes on in it\n",
     ),
     (
         &[
-            (0x0010_0401, b"a"),
-            (0x2010_0400, b""),
+            A1,
+            EMPTY1,
             (0x3000_06bc, &[7; 700]),
             (0x3010_06bc, &[7; 700]),
         ],
@@ -100,24 +89,17 @@ const ACCEPTED: [Row<'static>; 11] = [
     ),
     // other limits, and a file of 600 bytes
     (
-        &[
-            (0x2010_0018, SHORT_NAMES),
-            (0x0010_0401, b"a"),
-            (0x2010_0658, &[7; 600]),
-        ],
+        &[SHORT_FIELDS, A1, (0x2010_0658, &[7; 600])],
         &[],
         "ok\nfiles 1\ndirectories 0\nused 2 of 16 blocks\nfree 14\norder either\nrecover no\n\
         writable no: pair 0 1, slot 0: a superblock with other limits than this library writes, name_max 32\n",
     ),
     // a file of 600 bytes in its slot, behind a pair without slots
     (
-        &[(HARD_TAIL, PAIR)],
+        &[GOES_ON],
         &[
-            (2, BlockFilling::Commit(&[(HARD_TAIL, NEXT)])),
-            (
-                4,
-                BlockFilling::Commit(&[(0x0010_0001, b"a"), (0x2010_0258, &[7; 600])]),
-            ),
+            (2, Commit(&[(HARD_TAIL, NEXT)])),
+            (4, Commit(&[A0, (0x2010_0258, &[7; 600])])),
         ],
         "ok\nfiles 1\ndirectories 0\nused 6 of 16 blocks\nfree 10\norder either\nrecover no\n\
         writable no: pair 4 5, slot 0: more bytes inline than an eighth of a block\n",
@@ -143,17 +125,17 @@ const REFUSED: [Row<'static>; 14] = [
         "corrupt\nblock 0: in two pairs, 0 1 and 0 1\n",
     ),
     (
-        &[(SOFT_TAIL, PAIR)],
+        &[NEXT_PAIR],
         &[],
         "corrupt\npair 2 3: no commit with a right checksum\n",
     ),
     (
-        &[(0x0010_0401, b"a"), (0x2010_0400, b""), (0x2010_0c00, b"")],
+        &[A1, EMPTY1, EMPTY3],
         &[],
         "corrupt\npair 0 1: its log has an entry that may not stand there\n",
     ),
     (
-        &[(0x0010_0401, b"a"), (0x3410_0400, b"")],
+        &[A1, (0x3410_0400, b"")],
         &[],
         "corrupt\npair 0 1, slot 1: \"a\" has no struct\n",
     ),
@@ -164,11 +146,8 @@ const REFUSED: [Row<'static>; 14] = [
     ),
     // the superblock's chain
     (
-        &[(HARD_TAIL, PAIR)],
-        &[(
-            2,
-            BlockFilling::Commit(&[(0x0ff0_0008, b"littlefs"), (0x2010_0018, LARGER)]),
-        )],
+        &[GOES_ON],
+        &[(2, Commit(&[SUPERBLOCK, (0x2010_0018, LARGER)]))],
         "corrupt\npair 2 3, superblock: block count 17, given 16\n",
     ),
     (
@@ -177,7 +156,7 @@ const REFUSED: [Row<'static>; 14] = [
         "corrupt\npair 0 1, slot 0: no superblock's struct\n",
     ),
     (
-        &[(0x2010_0018, LATER_VERSION)],
+        &[LATER_FIELDS],
         &[],
         "corrupt\npair 0 1, superblock: version 2.1\n",
     ),
@@ -192,11 +171,8 @@ const REFUSED: [Row<'static>; 14] = [
         "corrupt\nsuperblock: the root directory doesn't begin with one\n",
     ),
     (
-        &[(HARD_TAIL, PAIR)],
-        &[(
-            2,
-            BlockFilling::Commit(&[(0x0ff0_0008, b"littlefs"), (0x2010_0018, SHORT_NAMES)]),
-        )],
+        &[GOES_ON],
+        &[(2, Commit(&[SUPERBLOCK, SHORT_FIELDS]))],
         "corrupt\npair 2 3, superblock: another one than in pair 0 1\n",
     ),
     (
@@ -210,72 +186,51 @@ const REFUSED: [Row<'static>; 14] = [
 const BROKEN_ENTRIES: [Row<'static>; 8] = [
     // entries
     (
-        &[(0x0ff0_0408, b"littlefs"), (0x2010_0400, b"")],
+        &[(0x0ff0_0408, b"littlefs"), EMPTY1],
         &[],
         "corrupt\npair 0 1, slot 1: \"littlefs\" is a second superblock\n",
     ),
     (
-        &[(0x0010_0401, b"a"), (0x2000_0408, PAIR)],
+        &[A1, TO_PAIR1],
         &[],
         "corrupt\npair 0 1, slot 1: \"a\" has another kind's struct\n",
     ),
     (
-        &[(0x0010_0403, b"a/\n"), (0x2010_0400, b"")],
+        &[(0x0010_0403, b"a/\n"), EMPTY1],
         &[],
         "corrupt\npair 0 1, slot 1: \"a/\\x0a\" is no name\n",
     ),
     // a name behind a later one, a name twice, and a name in the next pair
     (
-        &[
-            (0x0010_0401, b"b"),
-            (0x2010_0400, b""),
-            (0x0010_0801, b"a"),
-            (0x2010_0800, b""),
-        ],
+        &[B1, EMPTY1, A2, EMPTY2],
         &[],
         "corrupt\npair 0 1, slot 2: \"a\" stands behind \"b\"\n",
     ),
     (
-        &[
-            (0x0010_0401, b"a"),
-            (0x2010_0400, b""),
-            (0x0010_0801, b"a"),
-            (0x2010_0800, b""),
-        ],
+        &[A1, EMPTY1, A2, EMPTY2],
         &[],
         "corrupt\npair 0 1, slot 2: \"a\" stands behind \"a\"\n",
     ),
     (
-        &[(0x0010_0401, b"b"), (0x2010_0400, b""), (HARD_TAIL, PAIR)],
-        &[(
-            2,
-            BlockFilling::Commit(&[(0x0010_0001, b"a"), (0x2010_0000, b"")]),
-        )],
+        &[B1, EMPTY1, GOES_ON],
+        &[(2, Commit(&[A0, EMPTY0]))],
         "corrupt\npair 2 3, slot 0: \"a\" stands behind \"b\"\n",
     ),
     // in a directory beneath the root
     (
-        &[(0x0020_0401, b"d"), (0x2000_0408, PAIR), (SOFT_TAIL, PAIR)],
-        &[(
-            2,
-            BlockFilling::Commit(&[
-                (0x0010_0001, b"b"),
-                (0x2010_0000, b""),
-                (0x0010_0401, b"a"),
-                (0x2010_0400, b""),
-            ]),
-        )],
+        &[D1, TO_PAIR1, NEXT_PAIR],
+        &[(2, Commit(&[B0, EMPTY0, A1, EMPTY1]))],
         "corrupt\npair 2 3, slot 1: \"a\" stands behind \"b\"\n",
     ),
     // without a slot that is moved away
     (
         &[
-            (0x0010_0401, b"b"),
-            (0x2010_0400, b""),
-            (0x0010_0801, b"a"),
-            (0x2010_0800, b""),
+            B1,
+            EMPTY1,
+            A2,
+            EMPTY2,
             (0x0010_0c01, b"b"),
-            (0x2010_0c00, b""),
+            EMPTY3,
             (MOVE_STATE, &[0, 8, 0xf0, 0x4f, 0, 0, 0, 0, 1, 0, 0, 0]),
         ],
         &[],
@@ -295,110 +250,63 @@ const BROKEN_DIRECTORIES: [Row<'static>; 13] = [
     // an entry for a pair that isn't in the thread, for one with which the root directory goes on, and for
     // one in front of the root directory
     (
-        &[(0x0020_0401, b"d"), (0x2000_0408, PAIR)],
+        &[D1, TO_PAIR1],
         &[],
         "corrupt\npair 0 1, slot 1: \"d\" leads to pair 2 3, where no directory begins\n",
     ),
     (
-        &[
-            (0x0020_0401, b"d"),
-            (0x2000_0408, TURNED),
-            (HARD_TAIL, PAIR),
-        ],
+        &[D1, (0x2000_0408, TURNED), GOES_ON],
         &[(2, BELOW)],
         "corrupt\npair 0 1, slot 1: \"d\" leads to pair 3 2, where no directory begins\n",
     ),
     (
         &[],
         &[
-            (0, BlockFilling::Commit(&[(HARD_TAIL, PAIR)])),
-            (
-                2,
-                BlockFilling::Commit(&[
-                    (0x0ff0_0008, b"littlefs"),
-                    (0x2010_0018, FIELDS),
-                    (0x0020_0401, b"d"),
-                    (0x2000_0408, FIRST),
-                ]),
-            ),
+            (0, Commit(&[GOES_ON])),
+            (2, Commit(&[SUPERBLOCK, PLAIN_FIELDS, D1, TO_ROOT1])),
         ],
         "corrupt\npair 2 3, slot 1: \"d\" leads to pair 0 1, where no directory begins\n",
     ),
     // for the root directory, for the directory of another entry, and for its own directory
     (
-        &[(0x0020_0401, b"d"), (0x2000_0408, FIRST)],
+        &[D1, TO_ROOT1],
         &[],
         "corrupt\npair 0 1, slot 1: \"d\" leads to the root directory\n",
     ),
     (
-        &[
-            (0x0020_0401, b"d"),
-            (0x2000_0408, PAIR),
-            (0x0020_0801, b"e"),
-            (0x2000_0808, TURNED),
-            (SOFT_TAIL, PAIR),
-        ],
+        &[D1, TO_PAIR1, E2, (0x2000_0808, TURNED), NEXT_PAIR],
         &[(2, BELOW)],
         "corrupt\npair 0 1, slot 2: \"e\" leads to the same directory as pair 0 1, slot 1: \"d\"\n",
     ),
     (
-        &[(0x0020_0401, b"d"), (0x2000_0408, PAIR), (SOFT_TAIL, PAIR)],
-        &[(
-            2,
-            BlockFilling::Commit(&[(0x0020_0001, b"b"), (0x2000_0008, PAIR)]),
-        )],
+        &[D1, TO_PAIR1, NEXT_PAIR],
+        &[(2, Commit(&[(0x0020_0001, b"b"), (0x2000_0008, PAIR)]))],
         "corrupt\npair 2 3, slot 0: \"b\" leads to the same directory as pair 0 1, slot 1: \"d\"\n",
     ),
     // for the root directory, with a name out of order behind it, and with one beneath the entry before it
     (
-        &[
-            (0x0020_0401, b"d"),
-            (0x2000_0408, FIRST),
-            (0x0010_0801, b"a"),
-            (0x2010_0800, b""),
-        ],
+        &[D1, TO_ROOT1, A2, EMPTY2],
         &[],
         "corrupt\npair 0 1, slot 2: \"a\" stands behind \"d\"\n",
     ),
     (
-        &[
-            (0x0020_0401, b"d"),
-            (0x2000_0408, PAIR),
-            (0x0020_0801, b"e"),
-            (0x2000_0808, FIRST),
-            (SOFT_TAIL, PAIR),
-        ],
-        &[(
-            2,
-            BlockFilling::Commit(&[
-                (0x0010_0001, b"b"),
-                (0x2010_0000, b""),
-                (0x0010_0401, b"a"),
-                (0x2010_0400, b""),
-            ]),
-        )],
+        &[D1, TO_PAIR1, E2, (0x2000_0808, FIRST), NEXT_PAIR],
+        &[(2, Commit(&[B0, EMPTY0, A1, EMPTY1]))],
         "corrupt\npair 0 1, slot 2: \"e\" leads to the root directory\n",
     ),
     // one name is a beginning of the other, in both orders: of files, of files and an entry for the root
     // directory that no path follows, and in two directories
     (
-        &[
-            (0x0010_0401, b"a"),
-            (0x2010_0400, b""),
-            (0x0010_0802, b"ab"),
-            (0x2010_0800, b""),
-            (0x0010_0c01, b"a"),
-            (0x2010_0c00, b""),
-        ],
+        &[A1, EMPTY1, AB2, EMPTY2, (0x0010_0c01, b"a"), EMPTY3],
         &[],
         TWO_ORDERS,
     ),
     (
         &[
-            (0x0010_0401, b"a"),
-            (0x2010_0400, b""),
-            (0x0010_0802, b"ab"),
-            (0x2010_0800, b""),
+            A1,
+            EMPTY1,
+            AB2,
+            EMPTY2,
             (0x0020_0c01, b"a"),
             (0x2000_0c08, FIRST),
         ],
@@ -412,23 +320,15 @@ const BROKEN_DIRECTORIES: [Row<'static>; 13] = [
     ),
     // where no path leads: names out of order that no entry names, and a pair whose entry is moved away
     (
-        &[(SOFT_TAIL, PAIR)],
-        &[(
-            2,
-            BlockFilling::Commit(&[
-                (0x0010_0001, b"b"),
-                (0x2010_0000, b""),
-                (0x0010_0401, b"a"),
-                (0x2010_0400, b""),
-            ]),
-        )],
+        &[NEXT_PAIR],
+        &[(2, Commit(&[B0, EMPTY0, A1, EMPTY1]))],
         NOT_REACHED,
     ),
     (
         &[
-            (0x0020_0401, b"d"),
-            (0x2000_0408, PAIR),
-            (SOFT_TAIL, PAIR),
+            D1,
+            TO_PAIR1,
+            NEXT_PAIR,
             (MOVE_STATE, &[0, 4, 0xf0, 0x4f, 0, 0, 0, 0, 1, 0, 0, 0]),
         ],
         &[(2, EMPTY)],
@@ -456,72 +356,41 @@ const BROKEN_MOVES_AND_LISTS: [Row<'static>; 9] = [
     // a superblock's slot that was a file's, and one that was made behind a pair without slots
     (
         &[],
-        &[(
-            0,
-            BlockFilling::Commit(&[
-                (0x0010_0001, b"f"),
-                (0x0ff0_0008, b"littlefs"),
-                (0x2010_0018, FIELDS),
-            ]),
-        )],
+        &[(0, Commit(&[(0x0010_0001, b"f"), SUPERBLOCK, PLAIN_FIELDS]))],
         "corrupt\npair 0 1: its log doesn't begin with the superblock's name\n",
     ),
     (
         &[],
         &[
-            (0, BlockFilling::Commit(&[(HARD_TAIL, PAIR)])),
-            (
-                2,
-                BlockFilling::Commit(&[
-                    (0x4010_0000, b""),
-                    (0x0ff0_0008, b"littlefs"),
-                    (0x2010_0018, FIELDS),
-                ]),
-            ),
+            (0, Commit(&[GOES_ON])),
+            (2, Commit(&[(0x4010_0000, b""), SUPERBLOCK, PLAIN_FIELDS])),
         ],
         "corrupt\npair 2 3: its log doesn't begin with the superblock's name\n",
     ),
     // a list whose head isn't in the image, one without bytes, one with a block twice, one on a block of a
     // pair, and two of one block
     (
-        &[
-            (0x0010_0401, b"a"),
-            (0x2020_0408, &[16, 0, 0, 0, 3, 0, 0, 0]),
-        ],
+        &[A1, (0x2020_0408, &[16, 0, 0, 0, 3, 0, 0, 0])],
         &[],
         BAD_LIST,
     ),
     (
-        &[
-            (0x0010_0401, b"a"),
-            (0x2020_0408, &[2, 0, 0, 0, 0, 0, 0, 0]),
-        ],
+        &[A1, (0x2020_0408, &[2, 0, 0, 0, 0, 0, 0, 0])],
         &[],
         BAD_LIST,
     ),
     (
-        &[
-            (0x0010_0401, b"a"),
-            (0x2020_0408, &[2, 0, 0, 0, 0x88, 0x13, 0, 0]),
-        ],
-        &[(2, BlockFilling::Bytes(&[2, 0, 0, 0]))],
+        &[A1, (0x2020_0408, &[2, 0, 0, 0, 0x88, 0x13, 0, 0])],
+        &[(2, Bytes(&[2, 0, 0, 0]))],
         BAD_LIST,
     ),
     (
-        &[
-            (0x0010_0401, b"a"),
-            (0x2020_0408, &[1, 0, 0, 0, 3, 0, 0, 0]),
-        ],
+        &[A1, (0x2020_0408, &[1, 0, 0, 0, 3, 0, 0, 0])],
         &[],
         "corrupt\nblock 1: in pair 0 1 and in a file, pair 0 1, slot 1: \"a\"\n",
     ),
     (
-        &[
-            (0x0010_0401, b"a"),
-            (0x2020_0408, &[2, 0, 0, 0, 3, 0, 0, 0]),
-            (0x0010_0801, b"b"),
-            (0x2020_0808, &[2, 0, 0, 0, 3, 0, 0, 0]),
-        ],
+        &[A1, LIST1, B2, LIST2],
         &[],
         "corrupt\nblock 2: in two files, pair 0 1, slot 1: \"a\" and pair 0 1, slot 2: \"b\"\n",
     ),

@@ -1,6 +1,12 @@
 // Images, what is listed of them, and what unpacking them does.
 
+use crate::log_entries::{
+    A0, A1, A2, AB1, AB2, B1, B2, D1, D3, E2, EMPTY, EMPTY0, EMPTY1, EMPTY2, FIRST, GOES_ON,
+    LARGER, LATER_FIELDS, LIST1, LIST2, MOVE_STATE, NEXT_PAIR, PAIR, PLAIN_FIELDS, SAME,
+    SHORT_FIELDS, SOFT_TAIL, SUPERBLOCK, TO_PAIR1, TO_PAIR2, TO_PAIR3, TO_ROOT1, TURNED,
+};
 use crate::texts::{list_text, unpack_text};
+use lfs_fixtures::BlockFilling::{Bytes, Commit};
 use lfs_fixtures::{
     BlockFilling, FixtureEntries, block_with_entries, commits_beginning, image_with_commit,
     image_with_pair,
@@ -14,49 +20,14 @@ const CORRUPT: &str = "error: Corrupt (84)\n";
 const INVALID: &str = "error: Invalid (22)\n";
 
 // Addresses of pairs.
-pub(crate) const FIRST: &[u8] = &[0, 0, 0, 0, 1, 0, 0, 0];
-
-pub(crate) const PAIR: &[u8] = &[2, 0, 0, 0, 3, 0, 0, 0];
-
-pub(crate) const TURNED: &[u8] = &[3, 0, 0, 0, 2, 0, 0, 0];
-
-pub(crate) const SAME: &[u8] = &[2, 0, 0, 0, 2, 0, 0, 0];
-
 const HALF: &[u8] = &[2, 0, 0, 0, 0xff, 0xff, 0xff, 0xff];
 
 const NO_PAIR: &[u8] = &[0xff; 8];
 
-pub(crate) const SOFT_TAIL: u32 = 0x600f_fc08;
+// Blocks of a pair, with a file `f` and with a file `a`.
+const WITH_F: BlockFilling<'static> = Commit(&[(0x0010_0001, b"f"), (0x2010_0002, b"hi")]);
 
-pub(crate) const HARD_TAIL: u32 = 0x601f_fc08;
-
-pub(crate) const MOVE_STATE: u32 = 0x7fff_fc0c;
-
-// Superblocks: as the first one, with a block more, and with names of at most 32 bytes.
-pub(crate) const FIELDS: &[u8] = &[
-    0, 0, 2, 0, 0, 16, 0, 0, 16, 0, 0, 0, 255, 0, 0, 0, 255, 255, 255, 127, 254, 3, 0, 0,
-];
-
-pub(crate) const LARGER: &[u8] = &[
-    0, 0, 2, 0, 0, 16, 0, 0, 17, 0, 0, 0, 255, 0, 0, 0, 255, 255, 255, 127, 254, 3, 0, 0,
-];
-
-pub(crate) const SHORT_NAMES: &[u8] = &[
-    0, 0, 2, 0, 0, 16, 0, 0, 16, 0, 0, 0, 32, 0, 0, 0, 255, 255, 255, 127, 254, 3, 0, 0,
-];
-
-// Blocks of a pair: without slots, with a file `f`, with a file `a`.
-pub(crate) const EMPTY: BlockFilling<'static> = BlockFilling::Commit(&[]);
-
-const WITH_F: BlockFilling<'static> = BlockFilling::Commit(&[
-    (0x0010_0001, b"f"),
-    (0x2010_0002, b"hi"),
-]);
-
-const WITH_A: BlockFilling<'static> = BlockFilling::Commit(&[
-    (0x0010_0001, b"a"),
-    (0x2010_0002, b"hi"),
-]);
+const WITH_A: BlockFilling<'static> = Commit(&[A0, (0x2010_0002, b"hi")]);
 
 // An image: a second commit of its first block, its other blocks, and what is shown of it.
 type Row<'a> = (FixtureEntries<'a>, &'a [(usize, BlockFilling<'a>)], &'a str);
@@ -65,7 +36,7 @@ type Row<'a> = (FixtureEntries<'a>, &'a [(usize, BlockFilling<'a>)], &'a str);
 const COMMITS: [(FixtureEntries<'static>, &str); 19] = [
     // bytes that are shown as numbers, of an empty file and of one of five bytes
     (
-        &[(0x0010_0405, b"a\n\\\xc3\xa9"), (0x2010_0400, b"")],
+        &[(0x0010_0405, b"a\n\\\xc3\xa9"), EMPTY1],
         "f 0 /a\\x0a\\x5c\\xc3\\xa9\n",
     ),
     (
@@ -74,9 +45,9 @@ const COMMITS: [(FixtureEntries<'static>, &str); 19] = [
     ),
     // a directory that isn't in the thread, a list of one block, a directory with a file's struct, a
     // tail to a pair without a commit
-    (&[(0x0020_0401, b"d"), (0x2000_0408, PAIR)], CORRUPT),
-    (&[(0x0010_0401, b"a"), (0x2020_0408, PAIR)], "f 3 /a\n"),
-    (&[(0x0020_0401, b"d"), (0x2010_0400, b"")], CORRUPT),
+    (&[D1, TO_PAIR1], CORRUPT),
+    (&[A1, (0x2020_0408, PAIR)], "f 3 /a\n"),
+    (&[D1, EMPTY1], CORRUPT),
     (&[(0x600f_fc08, PAIR), (0x7fff_fc0c, &[0; 12])], CORRUPT),
     // a sync bit, an id without a move, and a move state that says nothing
     (
@@ -101,41 +72,19 @@ const COMMITS: [(FixtureEntries<'static>, &str); 19] = [
         "",
     ),
     // a superblock that isn't the first, a name twice, a name out of order
-    (&[(0x0ff0_0408, b"littlefs"), (0x2010_0400, b"")], CORRUPT),
-    (
-        &[
-            (0x0010_0401, b"a"),
-            (0x2010_0400, b""),
-            (0x0010_0801, b"a"),
-            (0x2010_0800, b""),
-        ],
-        CORRUPT,
-    ),
-    (
-        &[
-            (0x0010_0801, b"a"),
-            (0x2010_0800, b""),
-            (0x0010_0401, b"b"),
-            (0x2010_0400, b""),
-        ],
-        CORRUPT,
-    ),
+    (&[(0x0ff0_0408, b"littlefs"), EMPTY1], CORRUPT),
+    (&[A1, EMPTY1, A2, EMPTY2], CORRUPT),
+    (&[A2, EMPTY2, B1, EMPTY1], CORRUPT),
     // names that no entry may have
-    (&[(0x0010_0400, b""), (0x2010_0400, b"")], CORRUPT),
-    (&[(0x0010_0402, b".."), (0x2010_0400, b"")], CORRUPT),
-    (&[(0x0010_0403, b"a/b"), (0x2010_0400, b"")], CORRUPT),
+    (&[(0x0010_0400, b""), EMPTY1], CORRUPT),
+    (&[(0x0010_0402, b".."), EMPTY1], CORRUPT),
+    (&[(0x0010_0403, b"a/b"), EMPTY1], CORRUPT),
     // a file with a directory's struct, and one without a struct
-    (&[(0x0010_0401, b"a"), (0x2000_0408, PAIR)], CORRUPT),
-    (&[(0x0010_0401, b"a"), (0x3410_0400, b"")], CORRUPT),
+    (&[A1, TO_PAIR1], CORRUPT),
+    (&[A1, (0x3410_0400, b"")], CORRUPT),
     // a slot in front of the superblock's, and a struct for a slot that isn't there
-    (
-        &[(0x4010_0000, b""), (0x0010_0001, b"a"), (0x2010_0000, b"")],
-        CORRUPT,
-    ),
-    (
-        &[(0x0010_0401, b"a"), (0x2010_0400, b""), (0x2010_0800, b"")],
-        CORRUPT,
-    ),
+    (&[(0x4010_0000, b""), A0, EMPTY0], CORRUPT),
+    (&[A1, EMPTY1, EMPTY2], CORRUPT),
 ];
 
 const TAILS: [Row<'static>; 8] = [
@@ -147,7 +96,7 @@ const TAILS: [Row<'static>; 8] = [
     // a pair that isn't reached, with the sync bit and without
     (
         &[
-            (SOFT_TAIL, PAIR),
+            NEXT_PAIR,
             (MOVE_STATE, &[0, 0, 0, 0x80, 0, 0, 0, 0, 0, 0, 0, 0]),
         ],
         &[(2, EMPTY)],
@@ -155,145 +104,95 @@ const TAILS: [Row<'static>; 8] = [
     ),
     (
         &[
-            (SOFT_TAIL, PAIR),
+            NEXT_PAIR,
             (MOVE_STATE, &[0, 0, 0, 0, 0, 0, 0, 0, 0, 0, 0, 0]),
         ],
         &[(2, EMPTY)],
         CORRUPT,
     ),
     // a file of 600 bytes in its slot, and a limit that isn't written here
-    (
-        &[(0x0010_0401, b"a"), (0x2010_0658, &[7; 600])],
-        &[],
-        "f 600 /a\n",
-    ),
-    (&[(0x2010_0018, SHORT_NAMES)], &[], ""),
+    (&[A1, (0x2010_0658, &[7; 600])], &[], "f 600 /a\n"),
+    (&[SHORT_FIELDS], &[], ""),
 ];
 
 const DIRECTORIES: [Row<'static>; 5] = [
     // the root itself
-    (&[(0x0020_0401, b"d"), (0x2000_0408, FIRST)], &[], CORRUPT),
+    (&[D1, TO_ROOT1], &[], CORRUPT),
     // an address in the other order, a pair that two entries name
     (
-        &[
-            (0x0020_0401, b"d"),
-            (0x2000_0408, TURNED),
-            (SOFT_TAIL, PAIR),
-        ],
+        &[D1, (0x2000_0408, TURNED), NEXT_PAIR],
         &[(2, WITH_F)],
         "d 0 /d\nf 2 /d/f\n",
     ),
     (
-        &[
-            (0x0020_0401, b"d"),
-            (0x2000_0408, PAIR),
-            (0x0020_0801, b"e"),
-            (0x2000_0808, PAIR),
-            (SOFT_TAIL, PAIR),
-        ],
+        &[D1, TO_PAIR1, E2, TO_PAIR2, NEXT_PAIR],
         &[(2, WITH_F)],
         CORRUPT,
     ),
     // a directory whose only file is moved away
     (
         &[
-            (0x0020_0401, b"d"),
-            (0x2000_0408, PAIR),
+            D1,
+            TO_PAIR1,
             (0x0010_0801, b"g"),
             (0x2010_0802, b"hi"),
-            (SOFT_TAIL, PAIR),
+            NEXT_PAIR,
             (MOVE_STATE, &[0, 0, 0xf0, 0x4f, 2, 0, 0, 0, 3, 0, 0, 0]),
         ],
         &[(2, WITH_F)],
         "d 0 /d\nf 2 /g\n",
     ),
     // a directory that goes on in a second pair
-    (
-        &[(0x0010_0401, b"a"), (0x2010_0400, b""), (HARD_TAIL, PAIR)],
-        &[(2, WITH_F)],
-        "f 0 /a\nf 2 /f\n",
-    ),
+    (&[A1, EMPTY1, GOES_ON], &[(2, WITH_F)], "f 0 /a\nf 2 /f\n"),
 ];
 
 const SUPERBLOCKS: [Row<'static>; 4] = [
     (
-        &[(HARD_TAIL, PAIR)],
+        &[GOES_ON],
         &[(
             2,
-            BlockFilling::Commit(&[
-                (0x0ff0_0008, b"littlefs"),
-                (0x2010_0018, FIELDS),
-                (0x0010_0401, b"a"),
-                (0x2010_0402, b"hi"),
-            ]),
+            Commit(&[SUPERBLOCK, PLAIN_FIELDS, A1, (0x2010_0402, b"hi")]),
         )],
         "f 2 /a\n",
     ),
     (
-        &[(HARD_TAIL, PAIR)],
+        &[GOES_ON],
         &[(
             2,
-            BlockFilling::Commit(&[
-                (0x0ff0_0008, b"littlefs"),
-                (0x2010_0018, LARGER),
-                (0x0010_0401, b"a"),
-                (0x2010_0402, b"hi"),
-            ]),
+            Commit(&[SUPERBLOCK, (0x2010_0018, LARGER), A1, (0x2010_0402, b"hi")]),
         )],
         CORRUPT,
     ),
     (
-        &[(0x0010_0401, b"z"), (0x2010_0400, b""), (HARD_TAIL, PAIR)],
-        &[(
-            2,
-            BlockFilling::Commit(&[(0x0ff0_0008, b"littlefs"), (0x2010_0018, FIELDS)]),
-        )],
+        &[(0x0010_0401, b"z"), EMPTY1, GOES_ON],
+        &[(2, Commit(&[SUPERBLOCK, PLAIN_FIELDS]))],
         CORRUPT,
     ),
-    (&[(HARD_TAIL, PAIR)], &[(2, WITH_A)], "f 2 /a\n"),
-];
-
-// A superblock of version 2.1.
-const LATER_VERSION: &[u8] = &[
-    1, 0, 2, 0, 0, 16, 0, 0, 16, 0, 0, 0, 255, 0, 0, 0, 255, 255, 255, 127, 254, 3, 0, 0,
+    (&[GOES_ON], &[(2, WITH_A)], "f 2 /a\n"),
 ];
 
 const FORWARD_CHECKSUM: (u32, &[u8]) = (0x5fff_fc08, &[0x10, 0, 0, 0, 0x12, 0x34, 0x56, 0x78]);
 
 // Files of which one name begins the other, in this order: the longer first, or the shorter.
-const LONGER: BlockFilling<'static> = BlockFilling::Commit(&[
+const LONGER: BlockFilling<'static> = Commit(&[
     (0x0010_0002, b"xy"),
-    (0x2010_0000, b""),
+    EMPTY0,
     (0x0010_0401, b"x"),
-    (0x2010_0400, b""),
+    EMPTY1,
 ]);
 
-pub(crate) const SHORTER: BlockFilling<'static> = BlockFilling::Commit(&[
+pub(crate) const SHORTER: BlockFilling<'static> = Commit(&[
     (0x0010_0001, b"x"),
-    (0x2010_0000, b""),
+    EMPTY0,
     (0x0010_0402, b"xy"),
-    (0x2010_0400, b""),
+    EMPTY1,
 ]);
 
 pub(crate) const LONGER_FIRST: FixtureEntries<'static> = &[
-    (0x0010_0402, b"ab"),
-    (0x2010_0400, b""),
-    (0x0010_0801, b"a"),
-    (0x2010_0800, b""),
-    (0x0020_0c01, b"d"),
-    (0x2000_0c08, PAIR),
-    (SOFT_TAIL, PAIR),
+    AB1, EMPTY1, A2, EMPTY2, D3, TO_PAIR3, NEXT_PAIR,
 ];
 
-const SHORTER_FIRST: FixtureEntries<'static> = &[
-    (0x0010_0401, b"a"),
-    (0x2010_0400, b""),
-    (0x0010_0802, b"ab"),
-    (0x2010_0800, b""),
-    (0x0020_0c01, b"d"),
-    (0x2000_0c08, PAIR),
-    (SOFT_TAIL, PAIR),
-];
+const SHORTER_FIRST: FixtureEntries<'static> = &[A1, EMPTY1, AB2, EMPTY2, D3, TO_PAIR3, NEXT_PAIR];
 
 const BOTH: &str = "f 0 /a\nf 0 /ab\nd 0 /d\nf 0 /d/x\nf 0 /d/xy\n";
 
@@ -305,15 +204,11 @@ const ORDERS: [Row<'static>; 6] = [
     (LONGER_FIRST, &[(2, SHORTER)], CORRUPT),
     (SHORTER_FIRST, &[(2, LONGER)], CORRUPT),
     (
-        &[FORWARD_CHECKSUM, (0x0010_0401, b"a"), (0x2010_0402, b"hi")],
+        &[FORWARD_CHECKSUM, A1, (0x2010_0402, b"hi")],
         &[],
         "f 2 /a\n",
     ),
-    (
-        &[(0x2010_0018, LATER_VERSION), FORWARD_CHECKSUM],
-        &[],
-        CORRUPT,
-    ),
+    (&[LATER_FIELDS, FORWARD_CHECKSUM], &[], CORRUPT),
 ];
 
 // The superblock's slot named by a move, and one of two files of one name.
@@ -337,84 +232,46 @@ const MOVES: [Row<'static>; 2] = [
 ];
 
 // A list of three blocks, and one whose last block has a wrong pointer.
-const SECOND: BlockFilling<'static> = BlockFilling::Bytes(&[4, 0, 0, 0]);
+const SECOND: BlockFilling<'static> = Bytes(&[4, 0, 0, 0]);
 
 const LISTS: [Row<'static>; 8] = [
     // a block of two files, the superblock's, one that isn't there
+    (&[A1, LIST1, B2, LIST2], &[], CORRUPT),
     (
-        &[
-            (0x0010_0401, b"a"),
-            (0x2020_0408, &[2, 0, 0, 0, 3, 0, 0, 0]),
-            (0x0010_0801, b"b"),
-            (0x2020_0808, &[2, 0, 0, 0, 3, 0, 0, 0]),
-        ],
+        &[A1, (0x2020_0408, &[1, 0, 0, 0, 3, 0, 0, 0])],
         &[],
         CORRUPT,
     ),
     (
-        &[
-            (0x0010_0401, b"a"),
-            (0x2020_0408, &[1, 0, 0, 0, 3, 0, 0, 0]),
-        ],
-        &[],
-        CORRUPT,
-    ),
-    (
-        &[
-            (0x0010_0401, b"a"),
-            (0x2020_0408, &[16, 0, 0, 0, 3, 0, 0, 0]),
-        ],
+        &[A1, (0x2020_0408, &[16, 0, 0, 0, 3, 0, 0, 0])],
         &[],
         CORRUPT,
     ),
     // no byte, and one more than a file may have
     (
-        &[
-            (0x0010_0401, b"a"),
-            (0x2020_0408, &[2, 0, 0, 0, 0, 0, 0, 0]),
-        ],
+        &[A1, (0x2020_0408, &[2, 0, 0, 0, 0, 0, 0, 0])],
         &[],
         CORRUPT,
     ),
     (
-        &[
-            (0x0010_0401, b"a"),
-            (0x2020_0408, &[2, 0, 0, 0, 0, 0, 0, 0x80]),
-        ],
+        &[A1, (0x2020_0408, &[2, 0, 0, 0, 0, 0, 0, 0x80])],
         &[],
         CORRUPT,
     ),
     // three blocks, with a right pointer 1 and with a wrong one
     (
-        &[
-            (0x0010_0401, b"a"),
-            (0x2020_0408, &[6, 0, 0, 0, 0x08, 0x20, 0, 0]),
-        ],
-        &[
-            (5, SECOND),
-            (6, BlockFilling::Bytes(&[5, 0, 0, 0, 4, 0, 0, 0])),
-        ],
+        &[A1, (0x2020_0408, &[6, 0, 0, 0, 0x08, 0x20, 0, 0])],
+        &[(5, SECOND), (6, Bytes(&[5, 0, 0, 0, 4, 0, 0, 0]))],
         "f 8200 /a\n",
     ),
     (
-        &[
-            (0x0010_0401, b"a"),
-            (0x2020_0408, &[6, 0, 0, 0, 0x08, 0x20, 0, 0]),
-        ],
-        &[
-            (5, SECOND),
-            (6, BlockFilling::Bytes(&[5, 0, 0, 0, 5, 0, 0, 0])),
-        ],
+        &[A1, (0x2020_0408, &[6, 0, 0, 0, 0x08, 0x20, 0, 0])],
+        &[(5, SECOND), (6, Bytes(&[5, 0, 0, 0, 5, 0, 0, 0]))],
         CORRUPT,
     ),
     // two files with a block each
     (
-        &[
-            (0x0010_0401, b"a"),
-            (0x2020_0408, &[2, 0, 0, 0, 3, 0, 0, 0]),
-            (0x0010_0801, b"b"),
-            (0x2020_0808, &[3, 0, 0, 0, 4, 0, 0, 0]),
-        ],
+        &[A1, LIST1, B2, (0x2020_0808, &[3, 0, 0, 0, 4, 0, 0, 0])],
         &[],
         "f 3 /a\nf 4 /b\n",
     ),
@@ -422,37 +279,23 @@ const LISTS: [Row<'static>; 8] = [
 
 // A file with bytes, a directory, and an empty file in it.
 pub(crate) const ENTRIES: FixtureEntries<'static> = &[
-    (0x0010_0401, b"a"),
+    A1,
     (0x2010_0405, b"hello"),
     (0x0020_0801, b"d"),
-    (0x2000_0808, PAIR),
-    (SOFT_TAIL, PAIR),
+    TO_PAIR2,
+    NEXT_PAIR,
 ];
 
-pub(crate) const BELOW: BlockFilling<'static> = BlockFilling::Commit(&[
-    (0x0010_0001, b"x"),
-    (0x2010_0000, b""),
-]);
+pub(crate) const BELOW: BlockFilling<'static> = Commit(&[(0x0010_0001, b"x"), EMPTY0]);
 
 // Images, and what unpacking them does.
 const UNPACKED: [Row<'static>; 4] = [
     (ENTRIES, &[(2, BELOW)], "f /a hello\nd /d\nf /d/x \n"),
     (&[], &[], ""),
     // a list of one block
-    (
-        &[
-            (0x0010_0401, b"a"),
-            (0x2020_0408, &[2, 0, 0, 0, 3, 0, 0, 0]),
-        ],
-        &[(2, BlockFilling::Bytes(b"abcd"))],
-        "f /a abc\n",
-    ),
+    (&[A1, LIST1], &[(2, Bytes(b"abcd"))], "f /a abc\n"),
     // a directory that isn't in the thread
-    (
-        &[(0x0020_0401, b"d"), (0x2000_0408, PAIR)],
-        &[],
-        "error: Corrupt (84)\n",
-    ),
+    (&[D1, TO_PAIR1], &[], "error: Corrupt (84)\n"),
 ];
 
 // Whether an image is listed so, or does this where it is unpacked.
@@ -505,8 +348,8 @@ fn images_are_shown(rt: HostRuntime) -> Result<(), Fail> {
 
 // The commits of a block in which a file moves from slot to slot.
 const SHIFTING: [FixtureEntries<'static>; 4] = [
-    &[(0x4010_0400, b""), (0x0010_0401, b"b"), (0x2010_0400, b"")],
-    &[(0x4010_0400, b""), (0x0010_0401, b"a"), (0x2010_0400, b"")],
+    &[(0x4010_0400, b""), B1, EMPTY1],
+    &[(0x4010_0400, b""), A1, EMPTY1],
     &[(0x4ff0_0400, b"")],
     &[(0x3410_0401, b"x")],
 ];
@@ -543,11 +386,11 @@ enum UnusualImage {
 const ODD: [(UnusualImage, &str); 15] = [
     (UnusualImage::Second(0xffff_ffff, &[]), "f 0 /b\n"),
     (
-        UnusualImage::Second(2, &[(0x0010_0401, b"c"), (0x2010_0400, b"")]),
+        UnusualImage::Second(2, &[(0x0010_0401, b"c"), EMPTY1]),
         "f 0 /c\n",
     ),
     (
-        UnusualImage::Uncommitted(2, &[(0x0010_0401, b"c"), (0x2010_0400, b"")]),
+        UnusualImage::Uncommitted(2, &[(0x0010_0401, b"c"), EMPTY1]),
         "f 0 /c\n",
     ),
     (UnusualImage::Nearly(0xff), "f 71 /x\n"),

@@ -17,6 +17,8 @@ mod images;
 #[cfg(test)]
 mod lines;
 #[cfg(test)]
+mod log_entries;
+#[cfg(test)]
 mod profiles;
 #[cfg(test)]
 mod program_runs;

@@ -1,10 +1,11 @@
 // Images with other versions and limits, and what is made with other limits.
 
-use crate::checks::{FRESH, LATER_VERSION};
-use crate::images::{FIELDS, HARD_TAIL, PAIR, SHORT_NAMES};
+use crate::checks::FRESH;
+use crate::log_entries::{A1, GOES_ON, LATER_FIELDS, PLAIN_FIELDS, SHORT_FIELDS, SUPERBLOCK};
 use crate::sources::{Items, memory_source_of_items};
 use crate::texts::{check_text, create_of_source, list_text, unpack_text, with_error_line};
 use lfs_device::{AcceptedVersions, Error, Geometry, Profile};
+use lfs_fixtures::BlockFilling::{Bytes, Commit};
 use lfs_fixtures::{BlockFilling, FixtureEntries, image_with_commit};
 use lfs_tool::{ImageLayout, WatchedStream};
 use std::alloc::{AllocError, Global};
@@ -51,11 +52,11 @@ const SHORT_ATTRIBUTES: &[u8] = &[
 ];
 
 // A first block that littlefs has compacted: a file stands between the superblock's name and its struct.
-const COMPACTED: BlockFilling<'static> = BlockFilling::Commit(&[
-    (0x0ff0_0008, b"littlefs"),
-    (0x0010_0401, b"a"),
+const COMPACTED: BlockFilling<'static> = Commit(&[
+    SUPERBLOCK,
+    A1,
     (0x2010_041c, b"twenty-eight bytes are in it"),
-    (0x2010_0018, LATER_VERSION),
+    LATER_FIELDS,
 ]);
 
 // A superblock of version 2.1 with three other limits.
@@ -85,30 +86,21 @@ const FORMATTED_SECOND: &[u8] =
     \x7f\xef\xfc\x10\0\x01\0\0\xdeWW\x01\x0f\xf0\0\xcc\x06\x90\x17H";
 
 const FIRMWARE_BLOCKS: &[(usize, BlockFilling<'static>)] = &[
-    (0, BlockFilling::Bytes(FIRMWARE_FIRST)),
-    (1, BlockFilling::Bytes(FIRMWARE_SECOND)),
+    (0, Bytes(FIRMWARE_FIRST)),
+    (1, Bytes(FIRMWARE_SECOND)),
 ];
 
 const FORMATTED_BLOCKS: &[(usize, BlockFilling<'static>)] = &[
-    (0, BlockFilling::Bytes(FORMATTED_FIRST)),
-    (1, BlockFilling::Bytes(FORMATTED_SECOND)),
+    (0, Bytes(FORMATTED_FIRST)),
+    (1, Bytes(FORMATTED_SECOND)),
 ];
 
 // The second pair of a superblock's chain, with a superblock of version 2.1, one of 2.0, and one with another limit.
-const LATER_ROOT: &[(usize, BlockFilling<'static>)] = &[(
-    2,
-    BlockFilling::Commit(&[(0x0ff0_0008, b"littlefs"), (0x2010_0018, LATER_VERSION)]),
-)];
+const LATER_ROOT: &[(usize, BlockFilling<'static>)] = &[(2, Commit(&[SUPERBLOCK, LATER_FIELDS]))];
 
-const PLAIN_ROOT: &[(usize, BlockFilling<'static>)] = &[(
-    2,
-    BlockFilling::Commit(&[(0x0ff0_0008, b"littlefs"), (0x2010_0018, FIELDS)]),
-)];
+const PLAIN_ROOT: &[(usize, BlockFilling<'static>)] = &[(2, Commit(&[SUPERBLOCK, PLAIN_FIELDS]))];
 
-const OTHER_ROOT: &[(usize, BlockFilling<'static>)] = &[(
-    2,
-    BlockFilling::Commit(&[(0x0ff0_0008, b"littlefs"), (0x2010_0018, SHORT_NAMES)]),
-)];
+const OTHER_ROOT: &[(usize, BlockFilling<'static>)] = &[(2, Commit(&[SUPERBLOCK, SHORT_FIELDS]))];
 
 // An image, by its second commit and its other blocks; a profile; and the lines of its check.
 type Row<'a> = (
@@ -126,13 +118,13 @@ const CHECKED: [Row<'static>; 23] = [
     // versions
     (&[], &[], ALSO, FRESH),
     (
-        &[(0x2010_0018, LATER_VERSION)],
+        &[LATER_FIELDS],
         &[],
         ALSO,
         "ok\nfiles 0\ndirectories 0\nused 2 of 16 blocks\nfree 14\norder either\nversion 2.1\nrecover no\nwritable yes\n",
     ),
     (
-        &[(0x2010_0018, LATER_VERSION)],
+        &[LATER_FIELDS],
         &[],
         DEFAULT,
         "corrupt\npair 0 1, superblock: version 2.1\n",
@@ -145,25 +137,25 @@ const CHECKED: [Row<'static>; 23] = [
     ),
     // superblocks that differ in the version, and in something else
     (
-        &[(HARD_TAIL, PAIR)],
+        &[GOES_ON],
         LATER_ROOT,
         ALSO,
         "ok\nfiles 0\ndirectories 0\nused 4 of 16 blocks\nfree 12\norder either\nversion 2.1\nrecover no\nwritable yes\n",
     ),
     (
-        &[(0x2010_0018, LATER_VERSION), (HARD_TAIL, PAIR)],
+        &[LATER_FIELDS, GOES_ON],
         PLAIN_ROOT,
         ALSO,
         "ok\nfiles 0\ndirectories 0\nused 4 of 16 blocks\nfree 12\norder either\nrecover no\nwritable yes\n",
     ),
     (
-        &[(HARD_TAIL, PAIR)],
+        &[GOES_ON],
         LATER_ROOT,
         DEFAULT,
         "corrupt\npair 2 3, superblock: version 2.1\n",
     ),
     (
-        &[(HARD_TAIL, PAIR)],
+        &[GOES_ON],
         OTHER_ROOT,
         ALSO,
         "corrupt\npair 2 3, superblock: another one than in pair 0 1\n",
@@ -197,7 +189,7 @@ const CHECKED: [Row<'static>; 23] = [
     ),
     // limits
     (
-        &[(0x2010_0018, SHORT_NAMES)],
+        &[SHORT_FIELDS],
         &[],
         SHORT,
         "ok\nfiles 0\ndirectories 0\nused 2 of 16 blocks\nfree 14\norder either\nname_max 32\nrecover no\nwritable yes\n",
@@ -239,20 +231,20 @@ const CHECKED: [Row<'static>; 23] = [
         writable no: pair 0 1, slot 0: a superblock with other limits than this library writes, attr_max 100\n",
     ),
     (
-        &[(0x0010_0401, b"a"), (0x2010_0440, &[7; 64])],
+        &[A1, (0x2010_0440, &[7; 64])],
         &[],
         SMALL,
         "ok\nfiles 1\ndirectories 0\nused 2 of 16 blocks\nfree 14\norder either\nrecover no\nwritable yes\n",
     ),
     (
-        &[(0x0010_0401, b"a"), (0x2010_0441, &[7; 65])],
+        &[A1, (0x2010_0441, &[7; 65])],
         &[],
         SMALL,
         "ok\nfiles 1\ndirectories 0\nused 2 of 16 blocks\nfree 14\norder either\nrecover no\n\
         writable no: pair 0 1, slot 1: more bytes inline than inline_max 64\n",
     ),
     (
-        &[(0x0010_0401, b"a"), (0x2010_0601, &[7; 513])],
+        &[A1, (0x2010_0601, &[7; 513])],
         &[],
         ALSO,
         "ok\nfiles 1\ndirectories 0\nused 2 of 16 blocks\nfree 14\norder either\nrecover no\n\

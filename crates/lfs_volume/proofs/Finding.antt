@@ -1,6 +1,6 @@
 -- The calls of a session that find a file, and make it where it is to be made.
-use Rattle.std.proofs.Common.{inl, inr, ℕ, ◌≡◌, ◌&&◌, nat_lt, Bool, true, false, cond, List, [], ◌∷◌, ◌++◌, length, Option, Some, None, Result, Ok, Err, not, is_none, unwrap_or, refl, sym, ap, ap₂, subst, ◌∙◌}
-use Rattle.std.specs.Prelude.{◌⊎◌, is_err}
+use Rattle.std.proofs.Common.{inl, inr, ℕ, ◌≡◌, ◌&&◌, nat_lt, Bool, true, false, cond, List, [], length, Option, Some, None, Ok, Err, not, is_none, unwrap_or, refl, sym, ap, ap₂, subst, ◌∙◌}
+use Rattle.std.specs.Prelude.{is_err}
 use Rattle.std.specs.Option.{option_map}
 use Rattle.lfs_device.specs.declared.error.Error.{Error}
 use Rattle.lfs_lookup.specs.RefusalErrors as refusals
@@ -10,9 +10,9 @@ use Rattle.lfs_model.specs.session.Operations as ops
 use Rattle.lfs_model.specs.session.Operations.{FlagsOfOpen, Operation, Refusal, Reply}
 use Rattle.lfs_model.specs.session.Session.{DiskSummary, FileReader, FileWriter, OpenFile, OpenFilesByNumber, Reading, Session, Writing}
 use Rattle.lfs_model.specs.session.Session as model
-use Rattle.lfs_model.specs.session.Refusals.{operation_refusal, path_or_root}
-use Rattle.lfs_model.specs.session.Effects.{node_with_bytes, operation_effect, tree_after_storing}
-use Rattle.lfs_model.specs.session.TreeEdits.{file_bytes, last_name, names_with, node_with_names, parent_path, same_path, tree_creating, tree_with_change}
+use Rattle.lfs_model.specs.session.Refusals.{path_or_root}
+use Rattle.lfs_model.specs.session.Effects.{node_with_bytes, tree_after_storing}
+use Rattle.lfs_model.specs.session.TreeEdits.{file_bytes, last_name, names_with, node_with_names, parent_path, tree_creating, tree_with_change}
 use Rattle.lfs_model.specs.session.Writers.{opened_writer}
 use Rattle.lfs_model.proofs.Paths.{path_itself}
 use Rattle.lfs_tree.specs.TreeState.{shown_tree}
@@ -21,10 +21,9 @@ use Rattle.lfs_fs.specs.FileAnswers.{FileAnswersOf, file_size}
 use Rattle.lfs_fs.specs.SessionView.{SessionView, viewed_session}
 use Rattle.lfs_volume.specs.Opened.{HasOneFile, IsIdle, one_file}
 use Rattle.lfs_volume.specs.Saves.{IsFileFound, found_tree}
-use Rattle.lfs_volume.specs.SessionCalls.{AreQuietCalls, IsAcceptedCall, error_result}
-use Rattle.lfs_volume.specs.Volume.{idle_session}
+use Rattle.lfs_volume.specs.SessionCalls.{error_result}
 use Rattle.lfs_volume.proofs.NodeCalls.{open_when_idle}
-use Rattle.lfs_volume.proofs.Saving.{after_call, close_not_refused, one_quiet, opened_first, reply_of}
+use Rattle.lfs_volume.proofs.Saving.{after_call, close_not_refused, opened_first, reply_of}
 use Rattle.lfs_volume.proofs.Steps.{done, healthy_view}
 
 abbrev number_of : Reply → ℕ

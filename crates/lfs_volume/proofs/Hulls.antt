@@ -1,12 +1,12 @@
 -- Contents that differ from the stored ones in a hull, while they are written and cut.
-use Rattle.std.proofs.Common.{ℕ, ◌≡◌, ◌+◌, ◌-◌, ◌<◌, ◌≤◌, min, max, Bool, true, false, cond, nat_lt, List, [], ◌∷◌, ◌++◌, length, take, drop, replicate, Option, Some, None, refl, sym, ap, ap₂, subst, ◌∙◌, append_assoc, arith}
+use Rattle.std.proofs.Common.{ℕ, ◌≡◌, ◌+◌, ◌-◌, ◌<◌, ◌≤◌, min, max, true, false, cond, nat_lt, List, [], ◌++◌, length, take, drop, replicate, Option, Some, None, sym, ap, ap₂, subst, ◌∙◌, arith}
 use Rattle.std.specs.Prelude.{◌⊎◌}
 use Rattle.std.proofs.Common.{inl, inr}
-use Rattle.std.proofs.lemmas.List.{append-nil, length-take, length-drop, length-append, length-replicate, take-append-drop, take_all, take-take, take_at, take-append-le, drop-drop, drop_at, drop-append-le, drop_all, drop-take, length-take-le}
+use Rattle.std.proofs.lemmas.List.{length-take, length-drop, length-append, length-replicate, take-append-drop, take_all, take-take, take-append-le, drop-drop, drop_at, drop_all, drop-take, length-take-le}
 use Rattle.std.proofs.lemmas.Bool.{cases_lt, le-ltb, lt-ltb}
 use Rattle.lfs_model.specs.session.Writers.{written_contents, zero_padded}
 use Rattle.lfs_volume.specs.declared.hull.Hull.{Hull}
-use Rattle.lfs_volume.specs.Hulls.{DiffersInHull, DiffersWithin, cut_hull, hull_with, resized_hull}
+use Rattle.lfs_volume.specs.Hulls.{DiffersInHull, DiffersWithin, cut_hull, hull_with}
 
 -- ---- a larger hull
 

@@ -1,5 +1,5 @@
 -- The calls of a session that load a file.
-use Rattle.std.proofs.Common.{inl, inr, ℕ, ◌≡◌, ◌+◌, ◌≤◌, Bool, true, false, cond, List, [], ◌∷◌, length, take, drop, Option, Some, None, Result, Ok, Err, unwrap_or, refl, sym, ap, ap₂, subst, ◌∙◌, arith}
+use Rattle.std.proofs.Common.{inl, inr, ℕ, ◌≡◌, ◌+◌, Bool, true, false, cond, List, [], ◌∷◌, length, take, Option, Some, None, Ok, Err, unwrap_or, refl, sym, ap, ap₂, subst, ◌∙◌, arith}
 use Rattle.std.specs.Prelude.{◌&&◌, ◌||◌, not, nat_le, nat_lt, if◌then◌else◌, is_none, is_some}
 use Rattle.std.specs.List.{list_any}
 use Rattle.std.specs.Option.{option_map}
@@ -22,8 +22,8 @@ use Rattle.lfs_fs.specs.FileAnswers.{FileAnswersOf, file_size}
 use Rattle.lfs_fs.specs.SessionView.{SessionView, viewed_session}
 use Rattle.lfs_volume.specs.Opened.{AreNoFiles, HasOneFile, IsIdle, LeadsToFile, one_file, reading_flags}
 use Rattle.lfs_volume.specs.Saves.{IsIdleIfRefused, IsLoaded, path_bytes_of}
-use Rattle.lfs_volume.specs.SessionCalls.{AreQuietCalls, FailsInCalls, IsAcceptedCall, error_result}
-use Rattle.lfs_volume.proofs.Steps.{IsDone, done, fails_at, refused, refusal_step, never_refused, there_already}
+use Rattle.lfs_volume.specs.SessionCalls.{AreQuietCalls, FailsInCalls, error_result}
+use Rattle.lfs_volume.proofs.Steps.{done, fails_at, refused, refusal_step, never_refused, there_already}
 use Rattle.lfs_volume.proofs.Saving.{after_call, reply_of, same_shown, one_quiet, opened_first, idle_stays, quiet_joined}
 
 pub opened_to_read : (old new : SessionView) (path : List ℕ) (fd : ℕ) → IsIdle old (shown_tree old.tree) → IsCall old (ops.Open path reading_flags) (Ok (ops.Opened fd)) new →

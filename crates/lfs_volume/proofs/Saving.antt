@@ -1,9 +1,9 @@
 -- The calls of a session that store a file.
-use Rattle.std.proofs.Common.{inl, inr, ℕ, ◌≡◌, ◌+◌, ◌-◌, ◌*◌, ◌<◌, ◌≤◌, ◌&&◌, min, max, nat_lt, eqb, Bool, true, false, not, cond, List, [], ◌∷◌, ◌++◌, length, take, drop, replicate, Option, Some, None, Result, Ok, Err, refl, sym, ap, ap₂, subst, ◌∙◌, append_assoc, arith, unwrap_or}
-use Rattle.std.specs.Prelude.{◌⊎◌, nat_le, is_none, is_err, IfErr, IfOk, IsErrAnd}
+use Rattle.std.proofs.Common.{inl, inr, ℕ, ◌≡◌, ◌+◌, ◌-◌, ◌*◌, ◌<◌, ◌≤◌, ◌&&◌, nat_lt, eqb, Bool, true, false, not, cond, List, [], ◌∷◌, ◌++◌, length, take, drop, replicate, Option, Some, None, Result, Ok, Err, refl, sym, ap, ap₂, subst, ◌∙◌, append_assoc, arith, unwrap_or}
+use Rattle.std.specs.Prelude.{◌⊎◌, nat_le, is_err, IfErr, IfOk, IsErrAnd}
 use Rattle.std.specs.Option.{option_map}
-use Rattle.std.proofs.lemmas.List.{append-nil, length-take, length-drop, take_all, take-append-le, length-take-le}
-use Rattle.std.proofs.lemmas.Bool.{cases_lt, le-ltb, leb-false, leb-true, lt-ltb, ne_eqb}
+use Rattle.std.proofs.lemmas.List.{length-take, length-drop, take_all, take-append-le, length-take-le}
+use Rattle.std.proofs.lemmas.Bool.{le-ltb, leb-false, leb-true, lt-ltb, ne_eqb}
 use Rattle.lfs_device.specs.declared.error.Error.{Error}
 use Rattle.lfs_lookup.specs.RefusalErrors as refusals
 use Rattle.lfs_model.specs.format.Disk.{Disk, SameGeometry, block_count, ordered_disk, profile_file_max}
@@ -13,7 +13,7 @@ use Rattle.lfs_model.specs.tree.View.{DiskView, IsAccepted, disk_view}
 use Rattle.lfs_model.specs.tree.Shown.{used_blocks}
 use Rattle.lfs_model.specs.session.Operations as ops
 use Rattle.lfs_model.specs.session.Operations.{FlagsOfOpen, Operation, Refusal, Reply, BadFile, Exist, Invalid, IsDir, NoEnt, NoSpace, NameTooLong, ReadOnly, TooBig, parse_path}
-use Rattle.lfs_model.specs.session.Session.{DiskSummary, FileWriter, OpenFile, OpenFilesByNumber, Session, Reading, Writing, file_numbered, files_with_file, first_refusal, free_number_of, list_block_count, overfills_disk, refuse_if, reserved_for_writer}
+use Rattle.lfs_model.specs.session.Session.{DiskSummary, FileWriter, OpenFile, OpenFilesByNumber, Session, Writing, file_numbered, files_with_file, first_refusal, free_number_of, list_block_count, overfills_disk, refuse_if, reserved_for_writer}
 use Rattle.lfs_model.specs.crash.Frame.{needs_session_alone}
 use Rattle.lfs_model.specs.session.State.{IsSummary, is_remount}
 use Rattle.lfs_model.specs.session.Refusals.{operation_refusal, path_or_root}
@@ -27,14 +27,14 @@ use Rattle.lfs_tree.specs.TreeState.{shown_tree}
 use Rattle.lfs_fs.specs.CallEffects.{IsCall}
 use Rattle.lfs_fs.specs.FileAnswers.{FileAnswersOf, file_size}
 use Rattle.lfs_fs.specs.Replies.{reply_from}
-use Rattle.lfs_fs.specs.SessionView.{SessionView, StepsOrFails, system_state, viewed_session}
+use Rattle.lfs_fs.specs.SessionView.{SessionView, system_state, viewed_session}
 use Rattle.lfs_volume.specs.declared.hull.Hull.{Hull}
 use Rattle.lfs_volume.specs.Hulls.{DiffersWithin}
 use Rattle.lfs_volume.specs.Opened.{AreNoFiles, HasOneFile, HasRoom, IsIdle, LacksRoom, one_file, saving_need, writing_flags}
 use Rattle.lfs_volume.specs.Saves.{CanSave, CanWriteHull, EndsSave, IsIdleIfRefused, IsOpenedAt, IsRoomAnswer, IsSaveRefused, IsSaved, IsWritten, LacksSavingRoom, asking_operations, hull_bytes, opening_operations, path_bytes_of, saving_operations, writer_at, writing_operations}
 use Rattle.lfs_volume.specs.SessionCalls.{AreQuietCalls, EndsInCall, IsAcceptedCall, error_result}
-use Rattle.lfs_volume.proofs.Hulls.{cut_stored, hull_written, nothing_written}
-use Rattle.lfs_volume.proofs.Steps.{IsDone, IsRefused, done, refused, refusal_step, never_refused, healthy_view, there_already}
+use Rattle.lfs_volume.proofs.Hulls.{hull_written, nothing_written}
+use Rattle.lfs_volume.proofs.Steps.{IsDone, done, refused, refusal_step, never_refused, healthy_view, there_already}
 
 -- ---- tests on numbers
 

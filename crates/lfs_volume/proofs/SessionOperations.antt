@@ -1,12 +1,11 @@
 -- Calls of a volume that are one operation of its session.
-use Rattle.std.proofs.Common.{inl, inr, ℕ, ◌≡◌, Bool, true, false, cond, List, [], ◌∷◌, ◌++◌, Option, Some, None, Result, Ok, Err, refl, sym, ap, ap₂, subst, ◌∙◌}
+use Rattle.std.proofs.Common.{inl, inr, ◌≡◌, Bool, true, false, cond, List, [], ◌∷◌, Option, Some, None, Result, Ok, Err, refl, sym, ap, subst, ◌∙◌}
 use Rattle.std.specs.Prelude.{◌⊎◌}
 use Rattle.lfs_device.specs.declared.error.Error.{Error}
 use Rattle.lfs_device.specs.declared.error.Error.TheVariants.{Corrupt, Io, NoMemory}
 use Rattle.lfs_lookup.specs.RefusalErrors as refusals
 use Rattle.lfs_lookup.specs.RefusalErrors.{refusal_error}
 use Rattle.lfs_model.specs.tree.Tree.{Tree}
-use Rattle.lfs_model.specs.tree.View.{IsAccepted}
 use Rattle.lfs_model.specs.session.Operations as ops
 use Rattle.lfs_model.specs.session.Operations.{Operation, Refusal, Reply}
 use Rattle.lfs_model.specs.session.Session.{DiskSummary, OpenFilesByNumber, Session}
@@ -17,14 +16,14 @@ use Rattle.lfs_model.specs.session.Effects as effects
 use Rattle.lfs_model.specs.session.Run.{ShowsTree, is_refusal}
 use Rattle.lfs_tree.specs.TreeState.{shown_tree}
 use Rattle.lfs_fs.specs.CallEffects.{IsCall}
-use Rattle.lfs_fs.specs.SessionView.{SessionFails, SessionView, StepsOrFails, system_state, viewed_session}
+use Rattle.lfs_fs.specs.SessionView.{SessionFails, SessionView, system_state, viewed_session}
 use Rattle.lfs_volume.specs.declared.handles.Handle.{Handle}
-use Rattle.lfs_volume.specs.Calls.{Call, Perform, call_result, handles_after, nodes_after, unless_refused}
+use Rattle.lfs_volume.specs.Calls.{Perform, call_result, handles_after, nodes_after, unless_refused}
 use Rattle.lfs_volume.specs.Opened.{AreNoFiles}
-use Rattle.lfs_volume.specs.SessionCalls.{AreQuietCalls, AreVolumeSteps, EndsInCall, FailsInCalls, IsAcceptedCall, error_result}
+use Rattle.lfs_volume.specs.SessionCalls.{error_result}
 use Rattle.lfs_volume.specs.Volume.{NodeView, Volume, VolumeView, idle_session, volume_of}
-use Rattle.lfs_volume.specs.VolumeCalls.{IsReplied, IsSameVolume, IsSessionPart, IsSoundVolume, IsVolumeCall}
-use Rattle.lfs_volume.proofs.Steps.{IsAnswered, answered}
+use Rattle.lfs_volume.specs.VolumeCalls.{IsSessionPart, IsSoundVolume, IsVolumeCall}
+use Rattle.lfs_volume.proofs.Steps.{answered}
 use Rattle.lfs_volume.proofs.VolumeSteps.{same_as}
 
 -- ---- operations that leave the open files alone

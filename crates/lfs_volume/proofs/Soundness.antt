@@ -1,5 +1,5 @@
 -- What a volume keeps from call to call.
-use Rattle.std.proofs.Common.{inl, inr, ℕ, zero, suc, ◌≡◌, ◌+◌, ◌==◌, ◌<◌, ◌≤◌, ◌≢◌, ◌-◌, ◌&&◌, ◌||◌, eqb, min, max, nat_lt, Bool, true, false, cond, List, [], ◌∷◌, ◌++◌, length, take, drop, replicate, Option, Some, None, Ok, Err, Result, is_some, unwrap_or, refl, sym, ap, ap₂, subst, ◌∙◌, arith}
+use Rattle.std.proofs.Common.{inl, inr, ℕ, zero, suc, ◌≡◌, ◌+◌, ◌==◌, ◌<◌, ◌≤◌, ◌≢◌, ◌-◌, ◌&&◌, ◌||◌, eqb, min, max, Bool, true, false, cond, List, [], ◌∷◌, ◌++◌, length, take, replicate, Option, Some, None, Ok, Err, Result, is_some, unwrap_or, refl, sym, ap, ap₂, subst, ◌∙◌, arith}
 use Rattle.std.specs.Prelude.{◌⊎◌, IsSome, IfSome, slice_set}
 use Rattle.std.specs.List.{list_any}
 use Rattle.std.specs.Option.{option_map, option_or}
@@ -25,10 +25,10 @@ use Rattle.lfs_fs.specs.CallEffects.{IsCall}
 use Rattle.lfs_fs.specs.SessionView.{SessionView, system_state, viewed_session}
 use Rattle.lfs_volume.specs.declared.hull.Hull.{Hull}
 use Rattle.lfs_volume.specs.declared.handles.Handle.{Handle}
-use Rattle.lfs_volume.specs.Calls.{named, names_node, needs_sync, stored_node, sync_tree}
+use Rattle.lfs_volume.specs.Calls.{named, names_node, needs_sync, stored_node}
 use Rattle.lfs_volume.specs.Hulls.{DiffersInHull, cut_hull, hull_with, resized_hull}
 use Rattle.lfs_volume.specs.Opened.{IsIdle, LeadsToFile}
-use Rattle.lfs_volume.specs.SessionCalls.{AreQuietCalls, AreVolumeSteps, FailsInCalls, IsAcceptedCall, error_result}
+use Rattle.lfs_volume.specs.SessionCalls.{AreVolumeSteps, FailsInCalls, IsAcceptedCall}
 use Rattle.lfs_volume.specs.Volume.{NodeView, VolumeView, entry_at, loaded_node, node_bytes, resized_node, stored_bytes, synced_node, with_position, write_place, written_node}
 use Rattle.lfs_volume.specs.VolumeCalls.{EndsSyncAt, FitsAt, IsDropped, IsLoadedAt, IsNodeRefused, IsNodeSynced, IsRemount, IsSessionPart, IsSound, IsSoundNode, IsSoundVolume, IsSyncedAt}
 use Rattle.lfs_volume.proofs.Entries.{changed_entry, changed_entry_to, entry_inside, entry_other, entry_set, set_twice}

@@ -1,5 +1,5 @@
 -- Operations that leave the files of a tree as they are.
-use Rattle.std.proofs.Common.{ℕ, ◌≡◌, Bool, true, false, cond, not, is_none, is_some, List, [], ◌∷◌, ◌++◌, length, Option, Some, None, Result, Ok, Err, refl, sym, ap, ap₂, subst, ◌∙◌}
+use Rattle.std.proofs.Common.{ℕ, ◌≡◌, Bool, true, false, cond, not, is_none, is_some, List, [], ◌∷◌, ◌++◌, Option, Some, None, Result, Ok, Err, refl, sym, ap, ap₂, subst, ◌∙◌}
 use Rattle.std.specs.Prelude.{IsSome}
 use Rattle.std.specs.Option.{option_map, option_or}
 use Rattle.lfs_device.specs.declared.error.Error.{Error}
@@ -7,7 +7,7 @@ use Rattle.lfs_lookup.specs.RefusalErrors as refusals
 use Rattle.lfs_model.specs.format.Names.{Name}
 use Rattle.lfs_model.specs.format.Slots.{Attributes}
 use Rattle.lfs_model.specs.format.Content.{attributes_with, attributes_without}
-use Rattle.lfs_model.specs.format.Disk.{Disk, ordered_disk}
+use Rattle.lfs_model.specs.format.Disk.{ordered_disk}
 use Rattle.lfs_model.specs.tree.Tree.{DirectoryNode, FileNode, Node, Path, Tree}
 use Rattle.lfs_model.specs.session.Operations as ops
 use Rattle.lfs_model.specs.session.Operations.{EntryFull, Exist, Invalid, NameTooLong, NoSpace, ReadOnly, Operation, Refusal, Reply, parse_path}
@@ -16,16 +16,14 @@ use Rattle.lfs_model.specs.session.Refusals.{operation_refusal, path_or_root}
 use Rattle.lfs_model.specs.session.TreeEdits.{file_bytes, is_file, last_name, names_with, node_attributes_of, node_with_names, parent_path, same_path, tree_with, tree_with_change, with_attributes}
 use Rattle.lfs_model.specs.session.Effects as effects
 use Rattle.lfs_model.specs.session.Effects.{operation_effect}
-use Rattle.lfs_model.specs.session.State.{is_remount}
 use Rattle.lfs_model.proofs.Paths.{path_from_same}
 use Rattle.lfs_tree.specs.TreeState.{shown_tree}
 use Rattle.lfs_fs.specs.CallEffects.{IsCall}
-use Rattle.lfs_fs.specs.SessionView.{SessionView, viewed_session}
+use Rattle.lfs_fs.specs.SessionView.{viewed_session}
 use Rattle.lfs_volume.specs.declared.handles.Handle.{Handle}
 use Rattle.lfs_volume.specs.Opened.{AreNoFiles, LeadsToFile}
-use Rattle.lfs_volume.specs.SessionCalls.{error_result}
 use Rattle.lfs_volume.specs.Volume.{NodeView, VolumeView, entry_at, stored_bytes}
-use Rattle.lfs_volume.specs.VolumeCalls.{IsSound, IsSoundNode, IsSoundVolume}
+use Rattle.lfs_volume.specs.VolumeCalls.{IsSound, IsSoundVolume}
 use Rattle.lfs_volume.proofs.SessionOperations.{is_alone, no_refusal, not_remount, with_files}
 use Rattle.lfs_volume.proofs.Soundness.{failed_not_working, node_carried}
 use Rattle.lfs_volume.proofs.Steps.{answered, none_at, not_refused_if}

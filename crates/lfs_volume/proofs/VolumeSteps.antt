@@ -1,5 +1,5 @@
 -- Calls of a volume, from what its parts ensure.
-use Rattle.std.proofs.Common.{inl, inr, ℕ, zero, suc, ◌≡◌, ◌+◌, ◌==◌, ◌<◌, ◌≤◌, ◌&&◌, max, nat_lt, not, Bool, true, false, cond, List, [], ◌∷◌, ◌++◌, length, take, drop, Option, Some, None, Result, Ok, Err, is_none, is_some, unwrap_or, refl, sym, ap, ap₂, subst, ◌∙◌, arith}
+use Rattle.std.proofs.Common.{inl, inr, ℕ, ◌≡◌, ◌+◌, ◌==◌, ◌<◌, ◌≤◌, ◌&&◌, max, nat_lt, not, Bool, true, false, cond, List, [], ◌∷◌, length, take, drop, Option, Some, None, Result, Ok, Err, is_none, unwrap_or, refl, sym, ap, ap₂, subst, ◌∙◌, arith}
 use Rattle.std.specs.Prelude.{◌⊎◌, IsErrAnd, IsSome, IfSome, slice_set}
 use Rattle.std.specs.Option.{option_and_then, option_map}
 use Rattle.std.proofs.lemmas.Bool.{le-ltb, lt-ltb}
@@ -18,15 +18,15 @@ use Rattle.lfs_tree.specs.TreeState.{shown_tree}
 use Rattle.lfs_fs.specs.Replies.{reply_from}
 use Rattle.lfs_fs.specs.SessionView.{SessionView}
 use Rattle.lfs_volume.specs.declared.handles.Handle.{Handle}
-use Rattle.lfs_volume.specs.Calls.{Call, Close, Read, Seek, Size, Sync, Tell, Truncate, Write, call_effect, call_refusal, call_result, close_effect, closed_nodes, closed_volume, handle_node, may_read, may_write, moved_handle, named, needs_sync, node_number, read_effect, stored_node, sync_node, sync_refusal, sync_tree, unless_refused, write_effect, write_too_big, written_size}
+use Rattle.lfs_volume.specs.Calls.{Call, Close, Read, Seek, Size, Sync, Truncate, Write, call_effect, call_refusal, call_result, close_effect, closed_nodes, closed_volume, handle_node, moved_handle, named, needs_sync, node_number, read_effect, stored_node, sync_node, sync_refusal, sync_tree, unless_refused, write_effect, write_too_big, written_size}
 use Rattle.lfs_volume.specs.Hulls.{resized_hull}
 use Rattle.lfs_volume.specs.Opened.{IsIdle, writing_flags}
-use Rattle.lfs_volume.specs.SessionCalls.{AreQuietCalls, AreVolumeSteps, EndsInCall, FailsInCalls, error_result}
-use Rattle.lfs_volume.specs.Volume.{NodeView, Volume, VolumeView, entry_at, idle_session, loaded_node, node_bytes, resized_node, stored_bytes, volume_of, with_position, write_place, written_node}
+use Rattle.lfs_volume.specs.SessionCalls.{AreQuietCalls, AreVolumeSteps, FailsInCalls, error_result}
+use Rattle.lfs_volume.specs.Volume.{NodeView, Volume, VolumeView, entry_at, idle_session, loaded_node, node_bytes, resized_node, volume_of, with_position, write_place, written_node}
 use Rattle.lfs_volume.specs.VolumeCalls.{EndsSyncAt, FitsAt, IsDropped, IsTooLong, IsFoundHandle, IsLoadedAt, IsNodeRefused, IsNodeSynced, IsReadyToRead, IsReplied, IsSameNode, IsSameVolume, IsSessionPart, IsSoundNode, IsSoundVolume, IsSyncRefusal, IsSyncedAt, IsVolumeCall, IsWorking, WantsMemory}
 use Rattle.lfs_volume.proofs.Asking.{same_volume}
-use Rattle.lfs_volume.proofs.Entries.{changed_entry, entry_inside, entry_other, entry_set, set_length, set_same, set_twice}
-use Rattle.lfs_volume.proofs.Steps.{IsDone, done}
+use Rattle.lfs_volume.proofs.Entries.{changed_entry, entry_inside, entry_set, set_length, set_same, set_twice}
+use Rattle.lfs_volume.proofs.Steps.{done}
 
 -- ---- the relation of a call
 

@@ -1,6 +1,5 @@
 -- A session works after calls that were answered.
 use Rattle.std.proofs.Common.{inl, inr, ◌≡◌, Bool, true, false, cond, List, [], ◌∷◌, Option, Some, None, refl, sym, ap, subst, ◌∙◌}
-use Rattle.std.specs.Prelude.{◌⊎◌}
 use Rattle.lfs_lookup.specs.RefusalErrors as refusals
 use Rattle.lfs_model.specs.tree.Tree.{Tree}
 use Rattle.lfs_model.specs.session.Operations as ops

@@ -1,4 +1,4 @@
-use Rattle.std.proofs.Common.{◌<◌, length, arith}
+use Rattle.std.proofs.Common.{arith}
 use Rattle.lfs_volume.proofs.Steps.{passed_err}
 use Rattle.lfs_volume.proofs.NodesByNumber.{loaded_at, failed_at, none_loaded}
 use Rattle.lfs_volume.proofs.nodes.load_at.Goals as goal

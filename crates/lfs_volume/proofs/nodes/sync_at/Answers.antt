@@ -1,4 +1,4 @@
-use Rattle.std.proofs.Common.{◌<◌, ◌≤◌, length, arith}
+use Rattle.std.proofs.Common.{◌≤◌, length, arith}
 use Rattle.lfs_volume.proofs.Steps.{passed_err}
 use Rattle.lfs_volume.proofs.NodesByNumber.{ended_at, no_node_synced, none_synced, synced_at}
 use Rattle.lfs_volume.proofs.nodes.sync_at.Goals as goal

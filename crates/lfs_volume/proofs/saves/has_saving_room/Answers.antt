@@ -1,4 +1,4 @@
-use Rattle.std.proofs.Common.{ap, ap₂, sym, ◌∙◌, ◌+◌, ◌≡◌, ◌≤◌, nat_le}
+use Rattle.std.proofs.Common.{ap, ap₂, sym, ◌∙◌, ◌+◌, nat_le}
 use Rattle.lfs_device.specs.declared.geometry.Geometry.{Geometry}
 use Rattle.lfs_model.specs.format.Disk.{Disk, block_count}
 use Rattle.lfs_model.specs.session.Session.{list_block_count}

@@ -1,4 +1,3 @@
-use Rattle.lfs_tree.specs.TreeState.{shown_tree}
 use Rattle.lfs_volume.proofs.Steps.{passed_err}
 use Rattle.lfs_volume.proofs.Saving.{ends_at_open, ends_at_seek, opened_at, seek_not_refused}
 use Rattle.lfs_volume.proofs.saves.open_at.Goals as goal

@@ -1,4 +1,4 @@
-use Rattle.std.proofs.Common.{refl, inl, inr, length, subst, arith}
+use Rattle.std.proofs.Common.{refl, inl, inr, length, arith}
 use Rattle.lfs_volume.proofs.Steps.{passed_err}
 use Rattle.lfs_volume.proofs.Saving.{begun, clean_close_works, closed_ends, closed_refused, closed_saved, count_not_refused, lacking, lacks_room, save_ends_at_open, save_ends_at_room, save_ends_at_write}
 use Rattle.lfs_model.specs.session.Refusals.{path_or_root}

@@ -1,4 +1,4 @@
-use Rattle.std.proofs.Common.{refl, sym, subst}
+use Rattle.std.proofs.Common.{sym, subst}
 use Rattle.lfs_volume.specs.VolumeCalls.{IsSoundVolume}
 use Rattle.lfs_volume.proofs.Soundness.{empty_sound}
 use Rattle.lfs_volume.proofs.volume.mount.Goals as goal

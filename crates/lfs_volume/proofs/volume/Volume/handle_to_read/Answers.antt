@@ -1,12 +1,7 @@
-use Rattle.std.proofs.Common.{refl, sym, ap, subst, ◌∙◌, ◌≤◌, ◌<◌, ◌≡◌, ◌+◌, arith, length, List, Option, None, Some, ℕ, Ok, Err}
-use Rattle.lfs_fs.specs.Replies.{reply_from}
-use Rattle.lfs_fs.specs.SessionView.{SessionView}
-use Rattle.lfs_model.specs.format.Disk.{profile_file_max}
-use Rattle.lfs_model.specs.session.Operations as ops
+use Rattle.std.proofs.Common.{refl, sym, subst, Ok}
 use Rattle.lfs_volume.specs.Calls.{Read}
-use Rattle.lfs_volume.specs.SessionCalls.{error_result}
-use Rattle.lfs_volume.specs.Volume.{NodeView, VolumeView, entry_at}
-use Rattle.lfs_volume.specs.VolumeCalls.{FitsAt, IsFoundHandle, IsReadyToRead, IsReplied, IsSound, IsSoundVolume, IsTooLong, IsVolumeCall}
+use Rattle.lfs_volume.specs.Volume.{VolumeView}
+use Rattle.lfs_volume.specs.VolumeCalls.{IsFoundHandle, IsReadyToRead, IsSound}
 use Rattle.lfs_volume.proofs.Soundness.{failed_not_working, handles_stay, sound_loaded}
 use Rattle.lfs_volume.proofs.Steps.{passed_err}
 use Rattle.lfs_volume.proofs.VolumeSteps.{failed_parts, no_handle, not_else, not_then, of_whole, read_forbidden, read_none}

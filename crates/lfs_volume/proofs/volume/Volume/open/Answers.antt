@@ -1,4 +1,4 @@
-use Rattle.std.proofs.Common.{◌≡◌, List, Option, true, false, refl, sym, ap, ◌∙◌}
+use Rattle.std.proofs.Common.{◌≡◌, List, Option, true, refl, sym, ap, ◌∙◌}
 use Rattle.lfs_fs.specs.FlagsView.{flags_view}
 use Rattle.lfs_fs.specs.Replies.{reply_from}
 use Rattle.lfs_model.specs.session.Operations as ops

@@ -1,16 +1,9 @@
-use Rattle.std.proofs.Common.{refl, sym, ap, subst, ◌∙◌, ◌≤◌, ◌<◌, ◌≡◌, ◌+◌, arith, length, List, Option, None, Some, ℕ, Ok, Err, false}
+use Rattle.std.proofs.Common.{refl, sym, ap, subst, ◌∙◌, ◌≡◌, ◌+◌, arith, length, List, ℕ, false}
 use Rattle.std.specs.Prelude.{◌++◌, drop, take}
 use Rattle.std.proofs.lemmas.List.{take-append-le, take_all}
-use Rattle.lfs_fs.specs.Replies.{reply_from}
-use Rattle.lfs_fs.specs.SessionView.{SessionView}
-use Rattle.lfs_model.specs.format.Disk.{profile_file_max}
-use Rattle.lfs_model.specs.session.Operations as ops
-use Rattle.lfs_volume.specs.Calls.{Read}
-use Rattle.lfs_volume.specs.SessionCalls.{error_result}
-use Rattle.lfs_volume.specs.Volume.{NodeView, VolumeView, entry_at}
-use Rattle.lfs_volume.specs.VolumeCalls.{FitsAt, IsFoundHandle, IsReadyToRead, IsReplied, IsSound, IsSoundVolume, IsTooLong, IsVolumeCall}
+use Rattle.lfs_volume.specs.Volume.{VolumeView, entry_at}
+use Rattle.lfs_volume.specs.VolumeCalls.{IsReadyToRead, IsSoundVolume}
 use Rattle.lfs_volume.proofs.Soundness.{handles_move, sound_moved}
-use Rattle.lfs_volume.proofs.Steps.{passed_err}
 use Rattle.lfs_volume.proofs.VolumeSteps.{read_done}
 use Rattle.lfs_volume.proofs.volume.Volume.read_into.Goals as goal
 

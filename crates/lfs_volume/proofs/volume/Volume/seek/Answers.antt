@@ -1,14 +1,10 @@
-use Rattle.std.proofs.Common.{refl, sym, ap, subst, ◌∙◌, ◌≤◌, ◌<◌, ◌≡◌, ◌+◌, arith, length, List, Option, None, Some, ℕ, Ok, Err}
-use Rattle.lfs_fs.specs.Replies.{reply_from}
-use Rattle.lfs_fs.specs.SessionView.{SessionView}
+use Rattle.std.proofs.Common.{refl, sym, ap, subst, ◌∙◌, ◌≤◌, ◌<◌, arith, Ok}
 use Rattle.lfs_model.specs.format.Disk.{profile_file_max}
 use Rattle.lfs_model.specs.session.Operations as ops
 use Rattle.lfs_volume.specs.Calls.{Seek}
-use Rattle.lfs_volume.specs.SessionCalls.{error_result}
-use Rattle.lfs_volume.specs.Volume.{NodeView, VolumeView, entry_at}
-use Rattle.lfs_volume.specs.VolumeCalls.{IsFoundHandle, IsReadyToRead, IsReplied, IsSound, IsSoundVolume, IsVolumeCall}
+use Rattle.lfs_volume.specs.Volume.{VolumeView}
+use Rattle.lfs_volume.specs.VolumeCalls.{IsFoundHandle, IsReplied, IsSound}
 use Rattle.lfs_volume.proofs.Soundness.{handles_move, sound_moved}
-use Rattle.lfs_volume.proofs.Steps.{passed_err}
 use Rattle.lfs_volume.proofs.VolumeSteps.{ended_call, no_handle, of_whole, seek_done, seek_none, seek_too_far}
 use Rattle.lfs_volume.proofs.volume.Volume.seek.Goals as goal
 

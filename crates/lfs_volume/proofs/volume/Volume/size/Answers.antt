@@ -1,13 +1,8 @@
-use Rattle.std.proofs.Common.{refl, sym, ap, subst, ◌∙◌, ◌≤◌, ◌<◌, ◌≡◌, ◌+◌, arith, length, List, Option, None, Some, ℕ, Ok, Err}
-use Rattle.lfs_fs.specs.Replies.{reply_from}
-use Rattle.lfs_fs.specs.SessionView.{SessionView}
-use Rattle.lfs_model.specs.format.Disk.{profile_file_max}
+use Rattle.std.proofs.Common.{sym, ap, subst, ◌∙◌, ◌≡◌, List, Option, None, Some}
 use Rattle.lfs_model.specs.session.Operations as ops
 use Rattle.lfs_volume.specs.Calls.{Size}
-use Rattle.lfs_volume.specs.SessionCalls.{error_result}
 use Rattle.lfs_volume.specs.Volume.{NodeView, VolumeView, entry_at}
-use Rattle.lfs_volume.specs.VolumeCalls.{IsFoundHandle, IsReadyToRead, IsReplied, IsSoundVolume, IsVolumeCall}
-use Rattle.lfs_volume.proofs.Steps.{passed_err}
+use Rattle.lfs_volume.specs.VolumeCalls.{IsReplied}
 use Rattle.lfs_volume.proofs.VolumeSteps.{ended_call, no_handle, node_missing, size_found, size_none}
 use Rattle.lfs_volume.proofs.volume.Volume.size.Goals as goal
 

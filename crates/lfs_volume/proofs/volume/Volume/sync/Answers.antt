@@ -1,14 +1,10 @@
-use Rattle.std.proofs.Common.{refl, sym, ap, subst, ◌∙◌, ◌≤◌, ◌<◌, ◌≡◌, ◌+◌, arith, length, List, Option, None, Some, ℕ, Ok, Err}
+use Rattle.std.proofs.Common.{refl, sym, subst, Ok}
 use Rattle.lfs_fs.specs.Replies.{reply_from}
-use Rattle.lfs_fs.specs.SessionView.{SessionView}
-use Rattle.lfs_model.specs.format.Disk.{profile_file_max}
 use Rattle.lfs_model.specs.session.Operations as ops
 use Rattle.lfs_volume.specs.Calls.{Sync}
-use Rattle.lfs_volume.specs.SessionCalls.{error_result}
-use Rattle.lfs_volume.specs.Volume.{NodeView, VolumeView, entry_at}
-use Rattle.lfs_volume.specs.VolumeCalls.{FitsAt, IsFoundHandle, IsReadyToRead, IsReplied, IsSound, IsSoundVolume, IsTooLong, IsVolumeCall}
+use Rattle.lfs_volume.specs.Volume.{VolumeView}
+use Rattle.lfs_volume.specs.VolumeCalls.{IsFoundHandle, IsReplied, IsSound, IsVolumeCall}
 use Rattle.lfs_volume.proofs.Soundness.{sound_after_sync, sound_if_working}
-use Rattle.lfs_volume.proofs.Steps.{passed_err}
 use Rattle.lfs_volume.proofs.VolumeSteps.{ended_call, no_handle, of_whole, sync_done, sync_ended, sync_none}
 use Rattle.lfs_volume.proofs.volume.Volume.sync.Goals as goal
 

@@ -1,14 +1,11 @@
-use Rattle.std.proofs.Common.{refl, sym, ap, subst, ◌∙◌, ◌≤◌, ◌<◌, ◌≡◌, ◌+◌, arith, length, List, Option, None, Some, ℕ, Ok, Err}
+use Rattle.std.proofs.Common.{refl, sym, ap, subst, ◌∙◌, ◌≤◌, ◌<◌, arith, Ok}
 use Rattle.lfs_fs.specs.Replies.{reply_from}
-use Rattle.lfs_fs.specs.SessionView.{SessionView}
 use Rattle.lfs_model.specs.format.Disk.{profile_file_max}
 use Rattle.lfs_model.specs.session.Operations as ops
 use Rattle.lfs_volume.specs.Calls.{Truncate}
-use Rattle.lfs_volume.specs.SessionCalls.{error_result}
-use Rattle.lfs_volume.specs.Volume.{NodeView, VolumeView, entry_at}
-use Rattle.lfs_volume.specs.VolumeCalls.{FitsAt, IsFoundHandle, IsReadyToRead, IsReplied, IsSound, IsSoundVolume, IsTooLong, IsVolumeCall}
+use Rattle.lfs_volume.specs.Volume.{VolumeView}
+use Rattle.lfs_volume.specs.VolumeCalls.{IsFoundHandle, IsReplied, IsSound, IsVolumeCall}
 use Rattle.lfs_volume.proofs.Soundness.{failed_not_working, handles_stay, sound_loaded, sound_resized}
-use Rattle.lfs_volume.proofs.Steps.{passed_err}
 use Rattle.lfs_volume.proofs.VolumeSteps.{ended_call, failed_parts, loaded_kept, no_handle, no_memory, not_else, not_then, of_whole, truncate_done, truncate_forbidden, truncate_none, truncate_too_long, wants_memory}
 use Rattle.lfs_volume.proofs.volume.Volume.truncate.Goals as goal
 

@@ -100,7 +100,7 @@ def beyond_profile(read, block_size, page, profile):
     slots = [("pair %d %d, slot %d" % (*pair.address, ident), slot) for pair in read.pairs for ident, slot in enumerate(pair.slots)]
     for where, slot in slots:
         if slot.kind == SUPERBLOCK and image_reader.words(slot.struct[1])[3:] != profile.limits():
-            yield where + ": a superblock with other limits than this library writes, " + other_limit(slot, profile)
+            yield where + ": a superblock with other limits than the options give, " + other_limit(slot, profile)
     for where, slot in slots:
         if slot.kind != SUPERBLOCK and slot.struct[0] == INLINE and len(slot.struct[1]) > profile.inline_limit(block_size):
             yield where + ": more bytes inline than " + inline_limit_text(profile, block_size)

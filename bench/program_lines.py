@@ -93,7 +93,7 @@ def tool_rows(tool, folder):
     os.makedirs(folder + "/links")
     os.symlink("nowhere", folder + "/links/l")
     yield "a symbolic link", run(tool, ["-c", "links", "--explain", *sizes, "x.img"], "", folder), (
-        3, "", "error: input\nlinks/l: a symbolic link; --follow-links reads what it leads to, --skip-links leaves it out\n")
+        3, "", "error: input\nlinks/l: a symbolic link; --follow-links reads its target, --skip-links leaves it out\n")
     os.makedirs(folder + "/pipes")
     os.mkfifo(folder + "/pipes/p")
     yield "a pipe", run(tool, ["-c", "pipes", "--explain", *sizes, "x.img"], "", folder), (
@@ -146,7 +146,7 @@ def limit_rows(tool, folder):
     yield "a file that is too long", run(tool, ["-c", "named", "--file-max", "1", "n.img"], "", folder), (1, "", "error: TooBig (27)\n")
     made = run(tool, ["-c", "named", "--board", "esp8266", "--attr-max", "64", "n.img"], "", folder)
     yield "limits in the image", (made, limits_in(folder + "/n.img")), ((0, "", ""), (32, 2147483647, 64))
-    other = "writable no: pair 0 1, slot 0: a superblock with other limits than this library writes, name_max 32"
+    other = "writable no: pair 0 1, slot 0: a superblock with other limits than the options give, name_max 32"
     limits = ["name_max 32", "attr_max 64"]
     of_options = ([], [], other), (["--name-max", "32", "--attr-max", "64"], limits, "writable yes"), (["--also-2.1"], limits, other)
     for words, told, line in of_options:

@@ -54,7 +54,7 @@ inline_limit_text (Some n) = codes "inline_max " ++ decimal n
 -- which rule of the writing profile an image breaks
 abbrev pub breach_text : Option ℕ → ProfileBreach → List ℕ
 breach_text inline_max (breach.OtherLimits pair slot limit) =
-    pair_text (address_view pair) ++ codes ", slot " ++ decimal slot ++ codes ": a superblock with other limits than this library writes, " ++ other_limit_text limit
+    pair_text (address_view pair) ++ codes ", slot " ++ decimal slot ++ codes ": a superblock with other limits than the options give, " ++ other_limit_text limit
 breach_text inline_max (breach.LongInline pair slot) =
     pair_text (address_view pair) ++ codes ", slot " ++ decimal slot ++ codes ": more bytes inline than " ++ inline_limit_text inline_max
 breach_text inline_max (breach.EmptyPair pair) = pair_text (address_view pair) ++ codes ": no entry, but a directory goes on in it"

@@ -85,7 +85,7 @@ fn push_profile_breach(
             let pair = PairText(pair);
             write!(
                 text,
-                "{pair}, slot {slot}: a superblock with other limits than this library writes, "
+                "{pair}, slot {slot}: a superblock with other limits than the options give, "
             )?;
             push_other_limit(text, limit)
         }

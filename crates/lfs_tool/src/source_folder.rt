@@ -46,8 +46,7 @@ fn file_type_kind(kind: FileType) -> io::Result<SourceKind> {
     } else if kind.is_file() {
         Ok(SourceKind::File)
     } else if kind.is_symlink() {
-        let words =
-            "a symbolic link; --follow-links reads what it leads to, --skip-links leaves it out";
+        let words = "a symbolic link; --follow-links reads its target, --skip-links leaves it out";
         Err(io::Error::new(ErrorKind::InvalidInput, words))
     } else {
         Err(io::Error::new(ErrorKind::InvalidInput, "neither a file nor a folder"))

@@ -62,7 +62,7 @@ const ACCEPTED: [Row<'static>; 11] = [
         &[SHORT_FIELDS],
         &[],
         "ok\nfiles 0\ndirectories 0\nused 2 of 16 blocks\nfree 14\norder either\nrecover no\n\
-        writable no: pair 0 1, slot 0: a superblock with other limits than this library writes, name_max 32\n",
+        writable no: pair 0 1, slot 0: a superblock with other limits than the options give, name_max 32\n",
     ),
     (
         &[A1, (0x2010_0658, &[7; 600])],
@@ -92,7 +92,7 @@ const ACCEPTED: [Row<'static>; 11] = [
         &[SHORT_FIELDS, A1, (0x2010_0658, &[7; 600])],
         &[],
         "ok\nfiles 1\ndirectories 0\nused 2 of 16 blocks\nfree 14\norder either\nrecover no\n\
-        writable no: pair 0 1, slot 0: a superblock with other limits than this library writes, name_max 32\n",
+        writable no: pair 0 1, slot 0: a superblock with other limits than the options give, name_max 32\n",
     ),
     // a file of 600 bytes in its slot, behind a pair without slots
     (

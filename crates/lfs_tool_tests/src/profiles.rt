@@ -199,7 +199,7 @@ const CHECKED: [Row<'static>; 23] = [
         &[],
         ALSO,
         "ok\nfiles 0\ndirectories 0\nused 2 of 16 blocks\nfree 14\norder either\nfile_max 256\nrecover no\n\
-        writable no: pair 0 1, slot 0: a superblock with other limits than this library writes, file_max 256\n",
+        writable no: pair 0 1, slot 0: a superblock with other limits than the options give, file_max 256\n",
     ),
     (
         &[(0x2010_0018, OTHER_NUMBERS)],
@@ -207,28 +207,28 @@ const CHECKED: [Row<'static>; 23] = [
         ALSO,
         "ok\nfiles 0\ndirectories 0\nused 2 of 16 blocks\nfree 14\norder either\n\
         version 2.1\nname_max 64\nfile_max 256\nattr_max 100\nrecover no\n\
-        writable no: pair 0 1, slot 0: a superblock with other limits than this library writes, name_max 64\n",
+        writable no: pair 0 1, slot 0: a superblock with other limits than the options give, name_max 64\n",
     ),
     (
         &[],
         &[],
         SHORT,
         "ok\nfiles 0\ndirectories 0\nused 2 of 16 blocks\nfree 14\norder either\nrecover no\n\
-        writable no: pair 0 1, slot 0: a superblock with other limits than this library writes, name_max 255\n",
+        writable no: pair 0 1, slot 0: a superblock with other limits than the options give, name_max 255\n",
     ),
     (
         &[(0x2010_0018, SHORT_FILES)],
         &[],
         DEFAULT,
         "ok\nfiles 0\ndirectories 0\nused 2 of 16 blocks\nfree 14\norder either\nrecover no\n\
-        writable no: pair 0 1, slot 0: a superblock with other limits than this library writes, file_max 256\n",
+        writable no: pair 0 1, slot 0: a superblock with other limits than the options give, file_max 256\n",
     ),
     (
         &[(0x2010_0018, SHORT_ATTRIBUTES)],
         &[],
         DEFAULT,
         "ok\nfiles 0\ndirectories 0\nused 2 of 16 blocks\nfree 14\norder either\nrecover no\n\
-        writable no: pair 0 1, slot 0: a superblock with other limits than this library writes, attr_max 100\n",
+        writable no: pair 0 1, slot 0: a superblock with other limits than the options give, attr_max 100\n",
     ),
     (
         &[A1, (0x2010_0440, &[7; 64])],

@@ -24,7 +24,8 @@ static void must(int is_so, const char *what, int line) {
 }
 
 static int fails(const lfs_flash_chip *chip, uint32_t block, uint32_t offset, uint64_t count) {
-    MUST(chip->number == 7 && chip->block_size == BLOCK && chip->page == PAGE && chip->block_count == BLOCKS);
+    MUST(chip->number == 7 && chip->block_size == BLOCK && chip->page == PAGE);
+    MUST(chip->block_count == BLOCKS || chip->block_count == BLOCKS - 1);
     MUST(block < BLOCKS && count <= BLOCK && offset <= BLOCK - count);
     return ++calls == fails_at;
 }
@@ -90,6 +91,21 @@ static void test_starts(void) {
     lfs_flash odd = LFS_FLASH(7, BLOCK - 1, PAGE, BLOCKS);
     calls = 0;
     MUST(lfs_flash_format(&odd, &config) == -LFS_FLASH_INVALID && lfs_flash_mount(&odd, &config) == -LFS_FLASH_INVALID && !calls);
+}
+
+/* A flash without an image that is accepted: a mount says so, and writes nothing. */
+static void test_other_bytes(void) {
+    start_anew();
+    MUST(!lfs_flash_format(&fs, &config));
+    writes = 0;
+    lfs_flash shorter = LFS_FLASH(7, BLOCK, PAGE, BLOCKS - 1);
+    MUST(lfs_flash_mount(&shorter, &config) == -LFS_FLASH_CORRUPT);
+    memcpy(flash[0] + 8, "littlefx", 8);
+    memcpy(flash[1] + 8, "littlefx", 8);
+    MUST(lfs_flash_mount(&fs, &config) == -LFS_FLASH_CORRUPT);
+    for (uint32_t at = 0; at < sizeof flash; at++) flash[at / BLOCK][at % BLOCK] = (uint8_t)(at * 2654435761u >> 13);
+    memcpy(flash[0] + 54, "FAT16   ", 8);
+    MUST(lfs_flash_mount(&fs, &config) == -LFS_FLASH_CORRUPT && !writes);
 }
 
 /* ---- each call */
@@ -209,6 +225,7 @@ static void test_failures(void) {
 
 int main(int count, char **words) {
     test_starts();
+    test_other_bytes();
     test_calls();
     test_limits();
     test_failures();

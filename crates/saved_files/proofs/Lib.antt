@@ -1,0 +1,9 @@
+pub mod Parts
+pub mod Written
+pub mod Writes
+pub mod Readers
+pub mod Saves
+pub mod Counts
+pub mod Appends
+pub mod Stopped
+pub mod FreshFiles

@@ -1,0 +1,5 @@
+pub mod Working
+pub mod Writing
+pub mod Settings
+pub mod Counter
+pub mod Log

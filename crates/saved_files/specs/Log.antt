@@ -1,0 +1,67 @@
+-- A log in a file.
+use Rattle.std.specs.Prelude.{ℕ, ◌≡◌, ◌⊎◌, List, [], ◌∷◌, ◌++◌, codes}
+use Rattle.lfs_model.specs.format.Disk.{Disk}
+use Rattle.lfs_model.specs.tree.Tree.{Path, Tree}
+use Rattle.lfs_model.specs.session.TreeEdits.{file_bytes}
+use Rattle.lfs_model.specs.session.History.{AllCallsSince}
+use Rattle.lfs_model.specs.session.Session.{Session}
+use Rattle.lfs_model.specs.session.State.{Healthy}
+use Rattle.lfs_model.specs.session.Run.{SystemState}
+use Rattle.lfs_model.specs.crash.Stops.{ErasesCleanly}
+use Rattle.lfs_model.specs.crash.RepeatedPowerLoss.{IsMounted, SameBytes, LeftBetween}
+use Rattle.lfs_fs.specs.Starts.{LivesOn}
+use Rattle.saved_files.specs.Working.{SurvivesWith, WorksOn}
+
+abbrev pub log_path : Path
+log_path = codes "log" ∷ []
+
+-- what was logged; nothing where there is no file
+abbrev pub log_in : Tree → List ℕ
+log_in tree = file_bytes (tree log_path)
+
+-- These bytes are appended between these states, or the append fails. Wherever power is lost in it, the next start finds the old
+-- log, or the one with these bytes at its end.
+pub record IsAppend (from : SystemState) (bytes : List ℕ) (to : SystemState) : Type 0 where
+  pub survives : (s : Session) → from.state ≡ Healthy s → SurvivesWith (λ tree. (log_in tree ≡ log_in s.tree) ⊎ (log_in tree ≡ log_in s.tree ++ bytes)) from to
+  pub lived : LivesOn from to
+
+-- these bytes are appended, without an error
+pub record IsDoneAppend (from : SystemState) (bytes : List ℕ) (to : SystemState) : Type 0 where
+  pub append : IsAppend from bytes to
+  pub works : WorksOn from to
+  pub has : (s : Session) → from.state ≡ Healthy s → (t : Session) × ((to.state ≡ Healthy t) × (log_in t.tree ≡ log_in s.tree ++ bytes))
+
+-- ---- one append after another
+
+-- a session appends these, one after another, at least one; an error may end the last append
+abbrev pub AreAppends : SystemState → List (List ℕ) → SystemState → Type 0
+AreAppends from [] to = ⊥
+AreAppends from (bytes ∷ []) to = IsAppend from bytes to
+AreAppends from (bytes ∷ next ∷ more) to = (middle : SystemState) × (IsDoneAppend from bytes middle × AreAppends middle (next ∷ more) to)
+
+-- the log is the old one, with the first of these at its end, none or some or all of them
+abbrev pub HasBeginning : List ℕ → List (List ℕ) → List ℕ → Type 0
+HasBeginning old [] log = log ≡ old
+HasBeginning old (bytes ∷ more) log = (log ≡ old) ⊎ HasBeginning (old ++ bytes) more log
+
+-- ---- any number of losses
+
+-- A session mounted the disk, and appended these. Power was lost then, and another disk was left.
+pub record AreCutAppends (disk : Disk) (entries : List (List ℕ)) (left : Disk) : Type 0 where
+  pub begin : SystemState
+  pub same : SameBytes disk begin.disk
+  pub mounts : IsMounted begin.disk begin
+  pub to : SystemState
+  pub appends : AreAppends begin entries to
+  pub cleanly : AllCallsSince ErasesCleanly begin.calls to.calls
+  pub stop : LeftBetween begin to left
+
+-- one such session after another, each on the disk that the one before left
+abbrev pub AreCutSessions : Disk → List (List (List ℕ)) → Disk → Type 0
+AreCutSessions disk [] left = left ≡ disk
+AreCutSessions disk (entries ∷ sessions) left = (next : Disk) × (AreCutAppends disk entries next × AreCutSessions next sessions left)
+
+-- the log has a beginning of what each session appended
+abbrev pub HasBeginnings : List ℕ → List (List (List ℕ)) → List ℕ → Type 0
+HasBeginnings old [] log = log ≡ old
+HasBeginnings old (entries ∷ sessions) log = (kept : List ℕ) × (HasBeginning old entries kept × HasBeginnings kept sessions log)

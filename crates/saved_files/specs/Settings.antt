@@ -1,0 +1,62 @@
+-- Settings in a file.
+use Rattle.std.specs.Prelude.{ℕ, ◌≡◌, ◌⊎◌, List, [], ◌∷◌, Option, Some, None, codes}
+use Rattle.lfs_model.specs.tree.Tree.{Path, Tree}
+use Rattle.lfs_model.specs.tree.Fresh.{IsFreshDisk}
+use Rattle.lfs_model.specs.format.Disk.{Disk}
+use Rattle.lfs_model.specs.session.History.{AllCallsSince}
+use Rattle.lfs_model.specs.session.Session.{Session}
+use Rattle.lfs_model.specs.session.State.{Healthy}
+use Rattle.lfs_model.specs.session.Run.{SystemState}
+use Rattle.lfs_model.specs.crash.Stops.{ErasesCleanly}
+use Rattle.lfs_model.specs.crash.RepeatedPowerLoss.{IsMounted, SameBytes, LeftBetween}
+use Rattle.lfs_model.specs.crash.LifeTrees.{MayLosePower}
+use Rattle.saved_files.specs.Working.{StartsSafely, SurvivesWith}
+use Rattle.saved_files.specs.Writing.{bytes_if_file}
+
+abbrev pub settings_path : Path
+settings_path = codes "settings" ∷ []
+
+abbrev pub settings_in : Tree → Option (List ℕ)
+settings_in tree = bytes_if_file (tree settings_path)
+
+-- the settings are the old ones or these
+abbrev pub IsEither : Option (List ℕ) → List ℕ → Option (List ℕ) → Type 0
+IsEither old bytes is = (is ≡ old) ⊎ (is ≡ Some bytes)
+
+-- Wherever power is lost between these states of a session, which saves these bytes, the next start finds the old settings or these.
+abbrev pub SurvivesSave : SystemState → List ℕ → SystemState → Type 0
+SurvivesSave from bytes to = (s : Session) → from.state ≡ Healthy s → SurvivesWith (λ tree. IsEither (settings_in s.tree) bytes (settings_in tree)) from to
+
+-- the session works on, and has these settings
+abbrev pub SavesSettings : SystemState → List ℕ → SystemState → Type 0
+SavesSettings from bytes to = (s : Session) → from.state ≡ Healthy s → (t : Session) × ((to.state ≡ Healthy t) × (settings_in t.tree ≡ Some bytes))
+
+-- The session may lose power, and saves these bytes. The next one finds the old settings or these.
+abbrev pub FindsSave : SystemState → List ℕ → SystemState → Type 0
+FindsSave from bytes next = (s t : Session) → from.state ≡ Healthy s → MayLosePower from → next.state ≡ Healthy t → IsEither (settings_in s.tree) bytes (settings_in t.tree)
+
+-- ---- any number of losses
+
+-- A session mounted the disk and saved these bytes. Power was lost then, and another disk was left.
+pub record IsCutSave (disk : Disk) (bytes : List ℕ) (left : Disk) : Type 0 where
+  pub begin : SystemState
+  pub same : SameBytes disk begin.disk
+  pub mounts : IsMounted begin.disk begin
+  pub to : SystemState
+  pub survives : SurvivesSave begin bytes to
+  pub cleanly : AllCallsSince ErasesCleanly begin.calls to.calls
+  pub stop : LeftBetween begin to left
+
+-- one save after another, each on the disk that the one before left
+abbrev pub AreCutSaves : Disk → List (List ℕ) → Disk → Type 0
+AreCutSaves disk [] left = left ≡ disk
+AreCutSaves disk (bytes ∷ saves) left = (next : Disk) × (IsCutSave disk bytes next × AreCutSaves next saves left)
+
+-- the settings are one of these
+abbrev pub IsOneOf : List (List ℕ) → Option (List ℕ) → Type 0
+IsOneOf [] is = ⊥
+IsOneOf (bytes ∷ saves) is = (is ≡ Some bytes) ⊎ IsOneOf saves is
+
+-- The session began on a fresh disk. Wherever power was lost since, the next start finds no settings, or these.
+abbrev pub IsFirstSave : List ℕ → SystemState → Type 0
+IsFirstSave bytes to = (from : SystemState) × (IsFreshDisk from.disk × ((left : Disk) → LeftBetween from to left → StartsSafely (λ tree. IsEither None bytes (settings_in tree)) left))

@@ -1,0 +1,88 @@
+// A counter, written in place: the close commits all of a file at once.
+
+ghost use Rattle.std.specs.Prelude.{◌≡◌, IfOk, OnOk};
+ghost use Rattle.lfs_fs.specs.SessionView.{system_state};
+ghost use Rattle.lfs_fs.specs.Starts.{LivesOn};
+ghost use Rattle.saved_files.specs.Working.{WorksOn};
+ghost use Rattle.saved_files.specs.Counter.{CountsTo, RaisesTo, SetsTo, SurvivesCount, SurvivesRaise, SurvivesSet, number_of};
+
+use crate::files::{saving_flags, write_file};
+use lfs_device::{BlockDevice, Error};
+use lfs_fs::{OpenFlags, Session};
+use std::alloc::Global;
+
+// The number in the first four bytes, or 0 where there are fewer.
+fn number_of(bytes: &[u8]) -> u32
+    ensures { result ≡ number_of bytes.now }
+{
+    if bytes.len() < 4 {
+        return 0;
+    }
+    u32::from_le_bytes([bytes[0], bytes[1], bytes[2], bytes[3]])
+}
+
+/// Returns the number of the counter.
+///
+/// # Errors
+///
+/// `NoEnt` where no counter was set, and those of `open`, `read` and `close`.
+pub fn read_counter<D: BlockDevice>(session: &mut Session<D>, alloc: Global) -> Result<u32, Error>
+    ensures survives { SurvivesCount (system_state session.old) (system_state session.new) }
+    ensures lived { LivesOn (system_state session.old) (system_state session.new) }
+    ensures works { OnOk result (WorksOn (system_state session.old) (system_state session.new)) }
+    ensures is { IfOk result (λ number. CountsTo number (system_state session.old) (system_state session.new)) }
+{
+    let reader = session.open(alloc, b"/counter", OpenFlags::READ)?;
+    let bytes = session.read(alloc, reader, 4)?;
+    session.close(alloc, reader)?;
+    Ok(number_of(&bytes))
+}
+
+/// Sets the counter. Wherever power is lost in it, the next start reads the old number or this one. A counter that isn't there is 0.
+///
+/// # Errors
+///
+/// Those of [`write_file`].
+pub fn set_counter<D: BlockDevice>(
+    session: &mut Session<D>,
+    alloc: Global,
+    number: u32,
+) -> Result<(), Error>
+    ensures survives { SurvivesSet (system_state session.old) number (system_state session.new) }
+    ensures lived { LivesOn (system_state session.old) (system_state session.new) }
+    ensures set { OnOk result (SetsTo number (system_state session.old) (system_state session.new)) }
+{
+    write_file(
+        session,
+        alloc,
+        b"/counter",
+        saving_flags(),
+        &number.to_le_bytes(),
+    )?;
+    Ok(())
+}
+
+/// Raises the counter by one, and returns the new number. Wherever power is lost in it, the next start reads the old number or the
+/// new one.
+///
+/// # Errors
+///
+/// `TooBig` where the number is `u32::MAX`, and those of [`read_counter`] and [`write_file`].
+pub fn raise_counter<D: BlockDevice>(session: &mut Session<D>, alloc: Global) -> Result<u32, Error>
+    ensures survives { SurvivesRaise (system_state session.old) (system_state session.new) }
+    ensures lived { LivesOn (system_state session.old) (system_state session.new) }
+    ensures raised { IfOk result (λ number. RaisesTo number (system_state session.old) (system_state session.new)) }
+{
+    let number = read_counter(session, alloc)?;
+    if number == u32::MAX {
+        return Err(Error::TooBig);
+    }
+    write_file(
+        session,
+        alloc,
+        b"/counter",
+        saving_flags(),
+        &(number + 1).to_le_bytes(),
+    )?;
+    Ok(number + 1)
+}

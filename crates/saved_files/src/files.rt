@@ -1,0 +1,89 @@
+// What settings, a counter and a log share: a start, and a file that is opened, written and closed.
+
+ghost use Rattle.std.specs.Prelude.{◌≡◌, true, IfOk, OnOk};
+ghost use Rattle.lfs_model.specs.format.Disk.{ordered_disk};
+ghost use Rattle.lfs_model.specs.crash.RepeatedPowerLoss.{IsMounted};
+ghost use Rattle.lfs_model.specs.crash.Stops.{ErasesCleanly};
+ghost use Rattle.lfs_model.specs.session.History.{AllCallsSince};
+ghost use Rattle.lfs_model.specs.session.Run.{SystemState};
+ghost use Rattle.lfs_thread.specs.Kept.{disk_of_device};
+ghost use Rattle.lfs_fs.specs.FlagsView.{flags_view};
+ghost use Rattle.lfs_fs.specs.SessionView.{system_state};
+ghost use Rattle.lfs_model.specs.crash.LifeTrees.{MayLosePower};
+ghost use Rattle.lfs_fs.specs.Starts.{LivesOn};
+ghost use Rattle.saved_files.specs.Working.{WorksOn};
+ghost use Rattle.saved_files.specs.Writing.{SurvivesWrite, WritesFile, saving_flags, appending_flags};
+
+use lfs_device::{BlockDevice, Error, RamDevice, lemma_ram_premises};
+use lfs_fs::{OpenFlags, Session, mount};
+use std::alloc::Global;
+
+/// Starts a program: mounts its device, and asks whether it may write.
+///
+/// # Errors
+///
+/// `ReadOnly` where the image may not be written, and those of [`mount`].
+pub fn start<D: BlockDevice + Drop>(alloc: Global, device: D) -> Result<Session<D>, Error>
+    ensures mounted { IfOk result (λ session. IsMounted (ordered_disk session.tree.disk.order (disk_of_device D.BlockDevice device)) (system_state session)) }
+    ensures may { IfOk result (λ session. MayLosePower (system_state session)) }
+{
+    let session = match mount(alloc, device) {
+        Ok(session) => session,
+        Err((_, error)) => return Err(error),
+    };
+    if !session.is_writable() {
+        return Err(Error::ReadOnly);
+    }
+    Ok(session)
+}
+
+// For a file that is to have the written bytes alone.
+pub(crate) fn saving_flags() -> OpenFlags
+    ensures { flags_view result ≡ saving_flags }
+{
+    OpenFlags::WRITE
+        .union(OpenFlags::CREATE)
+        .union(OpenFlags::TRUNCATE)
+}
+
+// For a file that gets the written bytes at its end.
+pub(crate) fn appending_flags() -> OpenFlags
+    ensures { flags_view result ≡ appending_flags }
+{
+    OpenFlags::WRITE
+        .union(OpenFlags::CREATE)
+        .union(OpenFlags::APPEND)
+}
+
+/// Opens a file, writes bytes, and closes it. Wherever power is lost in it, the next start finds the file from before the write,
+/// or from after it, whole: the close commits the bytes at once. A file that is new may be empty.
+///
+/// # Errors
+///
+/// Those of `open`, `write` and `close`. After a refused write the file is still open, and then the next write is refused `Busy`.
+pub fn write_file<D: BlockDevice>(
+    session: &mut Session<D>,
+    alloc: Global,
+    path: &[u8],
+    flags: OpenFlags,
+    bytes: &[u8],
+) -> Result<(), Error>
+    requires writes { (flags_view flags).write ≡ true }
+    ensures survives { SurvivesWrite path.now (flags_view flags) bytes.now (system_state session.old) (system_state session.new) }
+    ensures lived { LivesOn (system_state session.old) (system_state session.new) }
+    ensures works { OnOk result (WorksOn (system_state session.old) (system_state session.new)) }
+    ensures written { OnOk result (WritesFile path.now (flags_view flags) bytes.now (system_state session.old) (system_state session.new)) }
+{
+    let file = session.open(alloc, path, flags)?;
+    session.write(alloc, file, bytes)?;
+    session.close(alloc, file)?;
+    Ok(())
+}
+
+/// Shows a proof that the erases of a device in memory are as the promises suppose. The call does nothing at run time.
+pub fn memory_erases_cleanly(session: &Session<RamDevice>)
+    ensures { (from : SystemState) → LivesOn from (system_state session.now) → AllCallsSince ErasesCleanly from.calls (system_state session.now).calls }
+{
+    lemma_ram_premises();
+    let _ = session.device();
+}

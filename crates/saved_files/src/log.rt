@@ -1,0 +1,42 @@
+// A log, to whose end each entry is written in place: the close commits all of an entry at once.
+
+ghost use Rattle.std.specs.Prelude.{ℕ, ◌≡◌, List, OnOk};
+ghost use Rattle.lfs_model.specs.format.Disk.{Disk};
+ghost use Rattle.lfs_model.specs.crash.RepeatedPowerLoss.{MeetsRunPremises, LeftBetween};
+ghost use Rattle.lfs_model.specs.session.Session.{Session as SessionState};
+ghost use Rattle.lfs_model.specs.session.Run.{SystemState};
+ghost use Rattle.lfs_model.specs.session.State.{Healthy};
+ghost use Rattle.lfs_fs.specs.SessionView.{system_state};
+ghost use Rattle.saved_files.specs.Working.{StartsSafely, SurvivesWith};
+ghost use Rattle.saved_files.specs.Log.{AreAppends, AreCutSessions, HasBeginning, HasBeginnings, IsAppend, IsDoneAppend, log_in};
+
+use crate::files::{appending_flags, write_file};
+use lfs_device::{BlockDevice, Error};
+use lfs_fs::Session;
+use std::alloc::Global;
+
+/// Appends an entry to the log. Wherever power is lost in it, the next start finds the log without the entry, or with all of it.
+///
+/// # Errors
+///
+/// Those of [`write_file`].
+pub fn append_to_log<D: BlockDevice>(
+    session: &mut Session<D>,
+    alloc: Global,
+    entry: &[u8],
+) -> Result<(), Error>
+    ensures append { IsAppend (system_state session.old) entry.now (system_state session.new) }
+    ensures done { OnOk result (IsDoneAppend (system_state session.old) entry.now (system_state session.new)) }
+{
+    write_file(session, alloc, b"/log", appending_flags(), entry)?;
+    Ok(())
+}
+
+/// Power may be lost in one session after another. The next start finds a log that has, of each session, a beginning of what it
+/// appended, and no part of an entry.
+pub fn log_survives_any_losses()
+    ensures once { (from : SystemState) (entries : List (List ℕ)) (to : SystemState) (s : SessionState) → AreAppends from entries to → from.state ≡ Healthy s
+        → SurvivesWith (λ tree. HasBeginning (log_in s.tree) entries (log_in tree)) from to }
+    ensures again { (disk left : Disk) (old : List ℕ) (sessions : List (List (List ℕ))) → StartsSafely (λ tree. log_in tree ≡ old) disk → AreCutSessions disk sessions left
+        → StartsSafely (λ tree. HasBeginnings old sessions (log_in tree)) left }
+{}

@@ -1,0 +1,79 @@
+// Settings are written beside the old ones, and then renamed onto them.
+
+ghost use Rattle.std.specs.Prelude.{ℕ, ◌≡◌, ◌⊎◌, List, Option, Some, IfOk, OnOk};
+ghost use Rattle.lfs_model.specs.format.Disk.{Disk};
+ghost use Rattle.lfs_model.specs.session.Session.{Session as SessionState};
+ghost use Rattle.lfs_model.specs.session.State.{Healthy};
+ghost use Rattle.lfs_fs.specs.SessionView.{system_state};
+ghost use Rattle.lfs_fs.specs.Starts.{LivesOn};
+ghost use Rattle.saved_files.specs.Working.{StartsSafely};
+ghost use Rattle.saved_files.specs.Settings.{AreCutSaves, IsFirstSave, IsOneOf, SavesSettings, SurvivesSave, settings_in};
+
+use crate::files::{memory_erases_cleanly, saving_flags, write_file};
+use lfs_device::{BlockDevice, Error, RamDevice};
+use lfs_fs::{OpenFlags, Session, format};
+use std::alloc::Global;
+
+/// Saves settings. Wherever power is lost in it, the next start reads the old ones or these.
+///
+/// # Errors
+///
+/// Those of [`write_file`] and of a rename.
+pub fn save_settings<D: BlockDevice>(
+    session: &mut Session<D>,
+    alloc: Global,
+    bytes: &[u8],
+) -> Result<(), Error>
+    ensures survives { SurvivesSave (system_state session.old) bytes.now (system_state session.new) }
+    ensures lived { LivesOn (system_state session.old) (system_state session.new) }
+    ensures saved { OnOk result (SavesSettings (system_state session.old) bytes.now (system_state session.new)) }
+{
+    write_file(session, alloc, b"/settings.new", saving_flags(), bytes)?;
+    session.rename(alloc, b"/settings.new", b"/settings")?;
+    Ok(())
+}
+
+/// Makes an empty file system on a device in memory, and saves settings there. Nothing is supposed.
+///
+/// # Errors
+///
+/// Those of [`format`](lfs_fs::format) and of [`save_settings`].
+pub fn format_and_save(
+    alloc: Global,
+    device: RamDevice,
+    bytes: &[u8],
+) -> Result<Session<RamDevice>, Error>
+    ensures { IfOk result (λ session. IsFirstSave bytes.now (system_state session)) }
+{
+    let mut session = match format(alloc, device) {
+        Ok(session) => session,
+        Err((_, error)) => return Err(error),
+    };
+    save_settings(&mut session, alloc, bytes)?;
+    memory_erases_cleanly(&session);
+    Ok(session)
+}
+
+/// Power may be lost in one save after another. The next start finds the settings from before them all, or those of one of them.
+pub fn settings_survive_any_losses()
+    ensures { (disk left : Disk) (old : Option (List ℕ)) (saves : List (List ℕ)) → StartsSafely (λ tree. settings_in tree ≡ old) disk → AreCutSaves disk saves left
+        → StartsSafely (λ tree. (settings_in tree ≡ old) ⊎ IsOneOf saves (settings_in tree)) left }
+{}
+
+/// Reads the settings, whole.
+///
+/// # Errors
+///
+/// `NoEnt` where no settings were saved, and those of `open`, `size`, `read` and `close`.
+pub fn read_settings<D: BlockDevice>(
+    session: &mut Session<D>,
+    alloc: Global,
+) -> Result<Vec<u8>, Error>
+    ensures { IfOk result (λ bytes. (s : SessionState) → (system_state session.old).state ≡ Healthy s → settings_in s.tree ≡ Some bytes.items) }
+{
+    let reader = session.open(alloc, b"/settings", OpenFlags::READ)?;
+    let size = session.size(reader)?;
+    let bytes = session.read(alloc, reader, size)?;
+    session.close(alloc, reader)?;
+    Ok(bytes)
+}

@@ -1,0 +1,34 @@
+// Settings on a device that stops.
+
+ghost use Rattle.std.specs.Prelude.{IfOk};
+ghost use Rattle.lfs_fs.specs.SessionView.{system_state};
+ghost use Rattle.saved_files.specs.Settings.{FindsSave};
+
+use crate::files::start;
+use crate::settings::save_settings;
+use lfs_device::{Error, FaultDevice, RamDevice, lemma_ram_premises};
+use lfs_fs::Session;
+use std::alloc::Global;
+
+/// Saves settings, whether or not the device stops in it, and starts again on what is left: the settings are the old ones or these.
+///
+/// # Errors
+///
+/// `Invalid` where the device may have torn a call, since a torn program may leave any bytes. Those of [`start`].
+pub fn save_and_start_again(
+    alloc: Global,
+    mut session: Session<FaultDevice<RamDevice>>,
+    bytes: &[u8],
+) -> Result<Session<RamDevice>, Error>
+    ensures { IfOk result (λ next. FindsSave (system_state session) bytes.now (system_state next)) }
+{
+    lemma_ram_premises();
+    let _ = save_settings(&mut session, alloc, bytes);
+    let device = session.unmount();
+    if device.may_tear_program() {
+        return Err(Error::Invalid);
+    }
+    device.lemma_premises_hold();
+    let next = start(alloc, device.into_inner())?;
+    Ok(next)
+}

@@ -191,7 +191,7 @@ def auto_rows(tool, folder):
     yield "no superblock", tried("--auto", "-l", "zeros.img"), (1, "", CORRUPT)
     yield "no superblock, and why", tried("--auto", "--explain", "--mkdir", "/d", "zeros.img"), (
         1, "", CORRUPT + "no superblock: neither block 0 nor block 1 begins with one\n")
-    for field, number, rule in [(24, 512, "block 512, page 64: a block has from 1024 to 65536 bytes"),
+    for field, number, rule in [(24, 512, "block 512: a block has from 1024 to 65536 bytes"),
                                 (28, 1, "size 8192, block 8192: an image has from 2 to 65536 blocks"),
                                 (28, 65536, "an image has at most 268435456 bytes")]:
         write(folder, "sizes.img", image[:field] + number.to_bytes(4, "little") + image[field + 4 :])

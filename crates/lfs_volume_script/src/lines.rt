@@ -1,0 +1,118 @@
+// The lines of a script: commands, and calls that a session doesn't have.
+
+use lfs_device::CountedCalls;
+use lfs_model::NameOrder;
+use lfs_script_lines::{Command, LineError, LineObjection, read_line};
+use std::alloc::Global;
+use std::str;
+
+/// The command of a line.
+#[derive(Drop)]
+pub enum VolumeCommand {
+    /// One that scripts of sessions have too.
+    Command(Command),
+    /// How many calls of a kind the device had.
+    Calls(CountedCalls),
+    /// The position of the handle.
+    Position(u32),
+    /// The size of the handle's file.
+    Size(u32),
+    /// A read of at most so many bytes into a buffer.
+    ReadInto(u32, u32),
+}
+
+// Returns a line without its newline.
+fn without_newline(line: &[u8]) -> &[u8] {
+    match line.split_last() {
+        Some((last, rest)) if *last == b'\n' => rest,
+        _ => line,
+    }
+}
+
+// Returns the decimal number of the word at a place.
+fn number_at(words: &[&[u8]], place: usize) -> Result<u32, LineError> {
+    let word = words.get(place).copied().unwrap_or_default();
+    let number = match str::from_utf8(word) {
+        Ok(text) if !word.starts_with(b"+") => u32::from_str_radix(text, 10).ok(),
+        _ => None,
+    };
+    match number {
+        Some(number) => Ok(number),
+        None => Err(LineError::Refused(LineObjection::Word(
+            place,
+            "no decimal number up to 4294967295",
+        ))),
+    }
+}
+
+// Returns the kind of calls that a word names.
+fn kind_of_word(word: &[u8]) -> Result<CountedCalls, LineError> {
+    if word == b"any".as_slice() {
+        Ok(CountedCalls::Any)
+    } else if word == b"read".as_slice() {
+        Ok(CountedCalls::Read)
+    } else if word == b"program".as_slice() {
+        Ok(CountedCalls::Program)
+    } else if word == b"erase".as_slice() {
+        Ok(CountedCalls::Erase)
+    } else {
+        Err(LineError::Refused(LineObjection::Word(1, "no kind of calls (--help lists them)")))
+    }
+}
+
+// Returns the call of a volume that these words are, where a session has none of the name.
+fn volume_call(words: &[&[u8]]) -> Result<Option<VolumeCommand>, LineError> {
+    match words {
+        [name, kind] if *name == b"calls".as_slice() => {
+            Ok(Some(VolumeCommand::Calls(kind_of_word(kind)?)))
+        }
+        [name, _] if *name == b"position".as_slice() => {
+            Ok(Some(VolumeCommand::Position(number_at(words, 1)?)))
+        }
+        [name, _] if *name == b"size".as_slice() => {
+            Ok(Some(VolumeCommand::Size(number_at(words, 1)?)))
+        }
+        [name, _, _] if *name == b"read-into".as_slice() => {
+            let handle = number_at(words, 1)?;
+            Ok(Some(VolumeCommand::ReadInto(handle, number_at(words, 2)?)))
+        }
+        _ => Ok(None),
+    }
+}
+
+// Returns the command, if it is one of volumes too.
+fn checked_command(command: Command) -> Result<VolumeCommand, LineError> {
+    match command {
+        Command::Put { .. }
+        | Command::Bytes { .. }
+        | Command::Calls
+        | Command::Compare(_)
+        | Command::CompareWith(_) => Err(LineError::Refused(LineObjection::Line(
+            "scripts of volumes have no such command",
+        ))),
+        Command::Fresh {
+            order: NameOrder::ShorterFirst,
+            ..
+        } => Err(LineError::Refused(LineObjection::Line(
+            "volumes are made with longer names first",
+        ))),
+        command => Ok(VolumeCommand::Command(command)),
+    }
+}
+
+/// Returns the command of a line. Returns None where the line is empty or begins with `#`.
+///
+/// # Errors
+/// - `Refused` where the line is no command, with the reason.
+/// - `NoMemory` where its words or their bytes find no memory.
+pub fn read_volume_line(alloc: Global, line: &[u8]) -> Result<Option<VolumeCommand>, LineError> {
+    let text = without_newline(line);
+    let words: Vec<&[u8]> = text.split(|byte| *byte == b' ').collect(alloc)?;
+    if let Some(call) = volume_call(&words)? {
+        return Ok(Some(call));
+    }
+    match read_line(alloc, text)? {
+        Some(command) => Ok(Some(checked_command(command)?)),
+        None => Ok(None),
+    }
+}

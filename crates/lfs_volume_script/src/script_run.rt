@@ -1,0 +1,66 @@
+// Scripts, read and performed line by line.
+
+use crate::lines::read_volume_line;
+use crate::script::Script;
+use lfs_script_lines::{LineError, LineObjection, push_answer};
+use std::io::{BufRead, ErrorKind, Write};
+use std::rt::Files;
+
+/// How a script ended.
+#[derive(Clone, Copy)]
+pub enum ScriptEnd {
+    /// With its last line.
+    Done,
+    /// At a line that is no command: its number, from 1 on, and the reason.
+    Line(u64, LineObjection),
+    /// Where a growth was refused.
+    NoMemory,
+    /// Where its lines could not be read.
+    Input,
+    /// Where an answer could not be written.
+    Output,
+}
+
+// Prints the answer to a line, if it is a command.
+fn perform_line<R: Files + AllocGlobal, W: Write>(
+    script: &mut Script<'_, R>,
+    line: &[u8],
+    number: u64,
+    out: &mut W,
+) -> Result<(), ScriptEnd> {
+    let command = match read_volume_line(script.rt().alloc(), line) {
+        Ok(Some(command)) => command,
+        Ok(None) => return Ok(()),
+        Err(LineError::Refused(refusal)) => return Err(ScriptEnd::Line(number, refusal)),
+        Err(LineError::NoMemory) => return Err(ScriptEnd::NoMemory),
+    };
+    let answer = script.perform(&command);
+    let mut text = Vec::new(script.rt().alloc());
+    if push_answer(&mut text, &answer).is_err() || text.push(b'\n').is_err() {
+        return Err(ScriptEnd::NoMemory);
+    }
+    out.write_all(&text).map_err(|_| ScriptEnd::Output)
+}
+
+/// Performs the lines of a reader, and prints their answers.
+pub fn run_script_lines<R: Files + AllocGlobal, I: BufRead, W: Write>(
+    rt: &R,
+    input: &mut I,
+    out: &mut W,
+) -> ScriptEnd {
+    let mut script = Script::new(rt);
+    let mut line = Vec::new(rt.alloc());
+    for number in 1..u64::MAX {
+        line.clear();
+        match input.read_until(b'\n', &mut line) {
+            Ok(0) => return ScriptEnd::Done,
+            Ok(_) => {}
+            Err(error) if error.kind() == ErrorKind::OutOfMemory => return ScriptEnd::NoMemory,
+            Err(_) => return ScriptEnd::Input,
+        }
+        if let Err(end) = perform_line(&mut script, &line, number, out) {
+            return end;
+        }
+    }
+    ScriptEnd::Done
+}

@@ -1,6 +1,6 @@
 // The processor time of some work on an image, as ports/times.c measures it natively, in milliseconds: node times.mjs MODULE
 //
-// The work is done 30 times: a line has the part, its median in the last ten, and its time at first, while the engine compiles.
+// The work is done 60 times: a line has the part, its median in the last twenty, and its time at first, while the engine compiles.
 import { readFileSync } from "node:fs";
 import { Image, load } from "../littlefs.js";
 
@@ -34,8 +34,8 @@ const took = (run) => {
   const { user, system } = process.cpuUsage(since);
   return (user + system) / 1000;
 };
-const rounds = Array.from({ length: 30 }, () => Object.values(WORK).map(took));
+const rounds = Array.from({ length: 60 }, () => Object.values(WORK).map(took));
 Object.keys(WORK).forEach((what, at) => {
-  const last = rounds.slice(20).map((it) => it[at]).sort((a, b) => a - b);
-  console.log(what, last[5].toFixed(1), rounds[0][at].toFixed(1));
+  const last = rounds.slice(40).map((it) => it[at]).sort((a, b) => a - b);
+  console.log(what, last[10].toFixed(1), rounds[0][at].toFixed(1));
 });

@@ -53,6 +53,18 @@ define internal void @rattle_dealloc(ptr %at) nounwind {
 """
 
 
+# A program first asks glibc whether the machine is an x86-64 of level 2. Others are asked nothing: each word has all features.
+ALL = "\\FF"
+FEATURES_ASKED = "declare ptr @__x86_get_cpuid_feature_leaf(i32)"
+FEATURES = f"""
+@"all features" = internal constant [32 x i8] c"{ALL * 32}"
+
+define internal ptr @__x86_get_cpuid_feature_leaf(i32 %leaf) nounwind {{
+  ret ptr @"all features"
+}}
+"""
+
+
 def layout_of(triple):
     """Returns how clang lays out data for a machine."""
     words = [kit() / "toolchain/bin/clang", f"--target={triple}", "--no-default-config", "-x", "c", "-", "-S", "-emit-llvm", "-o", "-"]
@@ -75,7 +87,8 @@ def retargeted(text, triple, keeps_probes=False):
     probes = "" if keeps_probes else "|probe-stack|stack-probe-size"
     text = re.sub(rf' "(target-cpu|target-features|tune-cpu|frame-pointer{probes})"="[^"]*"', "", text)
     text = re.sub(r"^(attributes #\d+ = )\{ *\}$", r'\1{ "none" }', text, flags=re.M)
-    return text + HEAP.replace("RESULT", result[1].replace("noundef ", ""))
+    text, asks = re.subn(rf"^{re.escape(FEATURES_ASKED)}.*$", "", text, flags=re.M)
+    return text + HEAP.replace("RESULT", result[1].replace("noundef ", "")) + FEATURES * asks
 
 
 def clang_words(kept):

@@ -110,8 +110,9 @@ def library_for_windows(made, kept):
     archive("x86_64-w64-mingw32-ar", made / "liblittlefs_c.a", [], [proved])
     definitions = made / "littlefs_c.def"
     definitions.write_text("EXPORTS\n" + "".join(f"{it}\n" for it in exports()))
-    run("x86_64-w64-mingw32-gcc", "-shared", "-s", "-Wl,--no-insert-timestamp", "-o", made / "littlefs_c.dll", definitions, proved)
-    run("x86_64-w64-mingw32-dlltool", "-d", definitions, "-D", "littlefs_c.dll", "-l", made / "liblittlefs_c.dll.a")
+    # both make numbers and names of the path that they write to, so it is the same everywhere
+    run("x86_64-w64-mingw32-gcc", "-shared", "-s", "-Wl,--no-insert-timestamp", "-o", "littlefs_c.dll", definitions, proved, cwd=made)
+    run("x86_64-w64-mingw32-dlltool", "-d", definitions, "-D", "littlefs_c.dll", "-l", "liblittlefs_c.dll.a", cwd=made)
 
 
 # ---- WebAssembly

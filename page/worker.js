@@ -6,7 +6,7 @@ import { Tool } from "../bindings/js/tool.js";
 import { pairsOf } from "./wear.js";
 import { zipped } from "./zip.js";
 
-const MOST = 1 << 28, ROWS_AT_ONCE = 1000, TRIES = 200;
+const MOST = 1 << 28, TRIES = 200;
 const MAGIC = [0x6c, 0x69, 0x74, 0x74, 0x6c, 0x65, 0x66, 0x73];
 
 let tool, image;
@@ -64,7 +64,7 @@ async function read(entries) {
 }
 
 function rowsBelow(path, depth, shown, found) {
-  const entries = image.list(path), most = shown.get(path) ?? ROWS_AT_ONCE;
+  const entries = image.list(path), most = shown.get(path);
   for (const entry of entries.slice(0, most)) {
     found.push({ ...entry, depth });
     if (entry.isDirectory && shown.has(entry.path)) rowsBelow(entry.path, depth + 1, shown, found);

@@ -1,4 +1,5 @@
-// The rows of crates/lfs_bench by littlefs's own code, over a device in memory that counts its calls, for against_c.py, which builds it.
+// The rows of crates/lfs_bench, and of volumes, by littlefs's own code, over a device in memory that counts its calls. against_c.py builds
+// it, and volume_rows.py too.
 //
 //   bench ROW BLOCKS COUNT CACHE CYCLES   prints the row, reads, bytes read, programs, bytes programmed, erases, nanoseconds, and
 //                                         the peak of the heap with littlefs's own structs; of a wear row the erases of each block
@@ -225,6 +226,45 @@ static void write_tiny(uint32_t count) {
     close_file();
 }
 
+// ---- rows of volumes
+
+enum { MANY = 16, LONG = 100000 };
+
+static lfs_file_t many[MANY];
+
+static const char *many_path(uint32_t number) {
+    static char path[8];
+    sprintf(path, "/m%02u", (unsigned)number);
+    return path;
+}
+
+static void write_long_files(void) {
+    for (uint32_t k = 0; k < MANY; k++) {
+        open_file(many_path(k), NEW);
+        for (uint32_t at = 0; at < LONG; at += 1000) write_bytes(1000);
+        close_file();
+    }
+}
+
+static void write_opened(uint32_t count) {
+    for (uint32_t k = 0; k < count; k++) put("/small", LFS_O_RDWR | LFS_O_CREAT, 100);
+}
+
+// reads and writes in turn, each at another place of another file, and a sync of the file at each hundredth
+static void change_anywhere(uint32_t count) {
+    uint32_t state = 1;
+    for (uint32_t k = 0; k < MANY; k++) SURE(lfs_file_open(&fs, &many[k], many_path(k), LFS_O_RDWR));
+    for (uint32_t k = 0; k < count; k++) {
+        state = state * 1103515245u + 12345;
+        lfs_file_t *one = &many[(state >> 8) % MANY];
+        SURE(lfs_file_seek(&fs, one, (lfs_soff_t)((state >> 12) % (LONG - 100)), LFS_SEEK_SET));
+        if (k % 2) SURE(lfs_file_read(&fs, one, bytes, 100));
+        else SURE(lfs_file_write(&fs, one, bytes, 100));
+        if (k % 100 == 99) SURE(lfs_file_sync(&fs, one));
+    }
+    for (uint32_t k = 0; k < MANY; k++) SURE(lfs_file_close(&fs, &many[k]));
+}
+
 // ---- wear
 
 static void append_log(uint32_t size) {
@@ -261,7 +301,8 @@ static void boots(uint32_t count, int is_log) {
 #define ROWS(ROW) \
     ROW(create1) ROW(create50) ROW(stat1) ROW(stat50) ROW(list1) ROW(appendsync) ROW(appendopen) ROW(appendlong) ROW(appendlongs) \
     ROW(write) ROW(readall) ROW(readrandom) ROW(readsmall) ROW(overwrite) ROW(rename_same) ROW(rename_across) ROW(delete1) \
-    ROW(delete50) ROW(setattr) ROW(nearfull) ROW(notfull) ROW(statdeep) ROW(tinywrite) ROW(mount) ROW(wear) ROW(bootlog) ROW(bootcount)
+    ROW(delete50) ROW(setattr) ROW(nearfull) ROW(notfull) ROW(statdeep) ROW(tinywrite) ROW(mount) \
+    ROW(writeopened) ROW(changemany) ROW(wear) ROW(bootlog) ROW(bootcount)
 #define CASE_OF(name) row_##name,
 #define NAME_OF(name) #name,
 
@@ -286,6 +327,7 @@ static void prepare(Row row, uint32_t count) {
     case row_setattr: put("/file", NEW, 5); break;
     case row_readsmall: make_files(1000, 0), write_blocks("/zbig", 25); break;
     case row_notfull: put("/f90000", NEW, 4); break;
+    case row_changemany: write_long_files(); break;
     case row_statdeep: make_deep(); break;
     case row_nearfull:
         put("/f90000", NEW, 4);
@@ -319,6 +361,8 @@ static void carry_out(Row row, uint32_t count) {
     case row_statdeep: stat_deep(count); break;
     case row_tinywrite: write_tiny(count); break;
     case row_mount: mount_anew(); break;
+    case row_writeopened: write_opened(count); break;
+    case row_changemany: change_anywhere(count); break;
     case row_wear: wear(count); break;
     case row_bootlog: boots(count, 1); break;
     case row_bootcount: boots(count, 0); break;

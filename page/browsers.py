@@ -42,7 +42,8 @@ class Browser:
         return self.script("return [...document.querySelectorAll('#tree .row')].map((it) => it.title)")
 
     def choose(self, path):
-        self.script("[...document.querySelectorAll('#tree .row')].find((it) => it.title === arguments[0]).click()", path)
+        self.until(f"{path} is in the tree", lambda: self.script("const row = [...document.querySelectorAll('#tree .row')].find((it) => it.title === arguments[0]); row?.click(); return Boolean(row)", path))
+        self.until(f"{path} is shown", lambda: self.text("#view h3") == path)
 
     def chosen(self):
         return self.script("return document.querySelector('#tree [aria-selected=true]').title")

@@ -6,7 +6,7 @@ import { showFile, showFolder } from "./view.js";
 import { plain } from "./zip.js";
 
 const BLOCK_SIZES = [["4096", "4096 (most chips)"], ...[8192, 2048, 1024, 16384, 32768, 65536].map((it) => [`${it}`, `${it}`])];
-const ROWS_AT_ONCE = 500, OLDEST = 4;
+const ROWS_AT_ONCE = 200, OLDEST = 4;
 
 let disk = null; // the image that is open
 let coming = null; // the engine of one that is being opened

@@ -6,26 +6,25 @@ use Rattle.lfs_model.specs.tree.Tree.{Tree}
 use Rattle.lfs_model.specs.session.Operations.{Operation, Reply}
 use Rattle.lfs_model.specs.session.Session.{Session}
 use Rattle.lfs_model.specs.session.Effects.{operation_effect}
-use Rattle.lfs_model.specs.session.State.{Healthy, is_remount, mounted_session}
+use Rattle.lfs_model.specs.session.State.{Healthy, is_remount}
 use Rattle.lfs_model.specs.session.Run.{SystemState, is_refusal}
 use Rattle.lfs_model.specs.session.History.{AllCallsSince}
 use Rattle.lfs_model.specs.crash.Stops.{ErasesCleanly}
 use Rattle.lfs_model.specs.crash.Premises.{MeetsPremises}
-use Rattle.lfs_model.specs.crash.RepeatedPowerLoss.{KeepsTree, LeftBetween, MeetsRunPremises}
+use Rattle.lfs_model.specs.crash.RepeatedPowerLoss.{LeftBetween, MeetsRunPremises}
 use Rattle.lfs_model.proofs.Common.{and_parts}
 use Rattle.lfs_model.proofs.Premises.{since_of_each}
-use Rattle.lfs_model.proofs.Survived.{start_may}
 use Rattle.lfs_fs.specs.CallEffects.{IsCall}
 use Rattle.lfs_fs.specs.SessionView.{SessionView, system_state}
 use Rattle.lfs_fs.specs.Turns.{turn_of}
 use Rattle.lfs_model.specs.crash.Lives.{Turn, IsLife, all_answered, fails_last, is_last}
 use Rattle.lfs_model.specs.crash.LifeHeadline.{session_after_turn, session_after_turns}
-use Rattle.lfs_model.specs.crash.LifeTrees.{IsTreeOfLife}
-use Rattle.lfs_fs.specs.Starts.{LivesOn, StartsWith}
+use Rattle.lfs_model.specs.crash.LifeTrees.{IsTreeOfLife, StartsSafely}
+use Rattle.lfs_fs.specs.Starts.{LivesOn}
 use Rattle.lfs_fs.proofs.SessionTurns.{call_turn}
 use Rattle.lfs_model.proofs.LivedOn.{life_since}
 use Rattle.lfs_model.proofs.JoinedLives.{lives_joined, one_turn}
-use Rattle.lfs_model.proofs.TreesLeft.{AllTreesHave, any_summary, life_leaves, same_session}
+use Rattle.lfs_model.proofs.TreesLeft.{AllTreesHave, any_summary, life_leaves}
 
 -- ---- lives of calls
 
@@ -56,14 +55,10 @@ module _ (P : Tree → Type 0) where
       go true = before
       go false = after
 
-  next_start_has : (from to : SystemState) (turns : List Turn) (s : Session) (left : Disk) → from.state ≡ Healthy s → fails_last turns ≡ true → IsLife from turns to → AllTreesHave P any_summary s turns → MeetsRunPremises from to → LeftBetween from to left → StartsWith P left
+  next_start_has : (from to : SystemState) (turns : List Turn) (s : Session) (left : Disk) → from.state ≡ Healthy s → fails_last turns ≡ true → IsLife from turns to → AllTreesHave P any_summary s turns → MeetsRunPremises from to → LeftBetween from to left → StartsSafely P left
   next_start_has from to turns s left healthy ends lived all may stop =
       let k = life_leaves any_summary s from turns to left healthy ends lived may stop in
-      record {
-        has = λ begin same mounts.
-            subst P (ap (λ (t : Session). t.tree) (same_session (mounted_session k.tree) (mounted_session mounts.tree) (sym (k.starts begin same mounts) ∙ mounts.healthy))) (one_of s turns k.tree all k.among);
-        may = k.may;
-      }
+      record { order = k.order; tree = k.tree; has = one_of s turns k.tree all k.has; safe = k.safe; may = k.may }
 
   -- ---- one more call
 
@@ -88,17 +83,8 @@ module _ (P : Tree → Type 0) where
   -- After turns that were answered comes a call. Where each tree so far has P, and the one that the call makes, the next start has P,
   -- wherever power was lost.
   pub call_leaves : (h a b : SessionView) (s : Session) (turns : List Turn) (op : Operation) (r : Result Reply Error) (left : Disk) → (system_state h).state ≡ Healthy s → all_answered turns ≡ true → IsLife (system_state h) turns (system_state a) → AllTreesHave P any_summary s turns →
-      is_remount op ≡ false → P (operation_effect any_summary (session_after_turns any_summary s turns) op).1.tree → IsCall a op r b → MeetsRunPremises (system_state h) (system_state b) → LeftBetween (system_state h) (system_state b) left → StartsWith P left
+      is_remount op ≡ false → P (operation_effect any_summary (session_after_turns any_summary s turns) op).1.tree → IsCall a op r b → MeetsRunPremises (system_state h) (system_state b) → LeftBetween (system_state h) (system_state b) left → StartsSafely P left
   call_leaves h a b s turns op r left healthy answered lived all other after call may stop =
       next_start_has (system_state h) (system_state b) (turns ++ turn_of op r (system_state b) ∷ []) s left healthy (ends_last turns (turn_of op r (system_state b)) answered)
       (lives_joined turns (turn_of op r (system_state b) ∷ []) (system_state h) (system_state a) (system_state b) lived (one_turn (turn_of op r (system_state b)) (system_state a) (call_turn a op r b call)))
       (with_last s turns (turn_of op r (system_state b)) all (last_turn (session_after_turns any_summary s turns) op r (system_state b) other (last_tree s turns all) after)) may stop
-
--- ---- what keeps a tree
-
-pub start_keeps : (tree : Tree) (left : Disk) → KeepsTree tree left → StartsWith (λ t. t ≡ tree) left
-start_keeps tree left safe = record {
-  has = λ begin same mounts.
-      ap (λ (t : Session). t.tree) (same_session (mounted_session mounts.tree) (mounted_session tree) (sym mounts.healthy ∙ safe.mounts begin.disk begin same mounts));
-  may = λ begin same mounts. let may = start_may tree left.order left begin safe same mounts in record { agrees = may.0; profile = may.1 };
-}

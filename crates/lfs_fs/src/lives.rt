@@ -11,13 +11,11 @@ ghost use Rattle.lfs_model.specs.crash.Lives.{Turn, IsTurn, IsLife, IsRunInTurns
 ghost use Rattle.lfs_model.specs.crash.LifeTrees.{MayLosePower};
 ghost use Rattle.lfs_model.specs.crash.Performed.{IsPerformed};
 ghost use Rattle.lfs_model.specs.crash.ReadBounds.{accepted_operation};
-ghost use Rattle.lfs_model.specs.crash.RepeatedPowerLoss.{KeepsTree, LeftInCall};
-ghost use Rattle.lfs_model.specs.examples.Images.{small_image};
-ghost use Rattle.lfs_model.specs.tree.Tree.{Tree};
+ghost use Rattle.lfs_model.specs.crash.RepeatedPowerLoss.{LeftInCall};
 ghost use Rattle.lfs_fs.specs.CallEffects.{IsCall};
 ghost use Rattle.lfs_fs.specs.ReadOnly.{MayWrite};
 ghost use Rattle.lfs_fs.specs.SessionView.{BeginsByMount, FailsRun, SessionView, system_state};
-ghost use Rattle.lfs_fs.specs.Starts.{LivesOn, StartsWith};
+ghost use Rattle.lfs_fs.specs.Starts.{LivesOn};
 ghost use Rattle.lfs_fs.specs.Turns.{turn_of};
 
 /// A call is one turn of its session's life, so calls make a life, in any order, and also where
@@ -40,10 +38,8 @@ pub fn calls_are_performed()
 {}
 
 /// Where a life may begin: a session that may write meets the premises on power loss. A loss of
-/// power in a mount leaves the disk as it was. A mount of a disk that keeps a tree has that tree.
+/// power in a mount leaves the disk as it was.
 pub fn lives_begin_by_mount()
     ensures writable { (h : SessionView) → MayWrite h → MayLosePower (system_state h) }
     ensures stopped { (disk : Disk) (history : List CallEvent) (h : SessionView) (blocks : Blocks) → BeginsByMount disk history h → LeftInCall history h.tree.history blocks → blocks ≡ disk.blocks }
-    ensures starts { (tree : Tree) (left : Disk) → KeepsTree tree left → StartsWith (λ t. t ≡ tree) left }
-    ensures starts_with_none { StartsWith (λ t. ⊥) small_image → ⊥ }
 {}

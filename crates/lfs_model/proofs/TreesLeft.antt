@@ -4,12 +4,13 @@ use Rattle.lfs_model.proofs.Common.{default_profile, zero_gstate, Disk, ordered_
 use Rattle.lfs_model.specs.crash.Failure.{OperationFails}
 use Rattle.lfs_model.specs.session.Operations as ops
 use Rattle.lfs_model.specs.session.Headline.{session_after}
-use Rattle.lfs_model.specs.crash.RepeatedPowerLoss.{LeftBetween, LossInLife, MeetsRunPremises}
+use Rattle.lfs_model.specs.declared.order.NameOrder.{NameOrder}
+use Rattle.lfs_model.specs.crash.RepeatedPowerLoss.{IsMounted, KeepsTree, LeftBetween, LossInLife, MeetsRunPremises, SameBytes}
 use Rattle.lfs_model.proofs.SessionSteps.{IsHealthy}
 use Rattle.lfs_model.proofs.Surviving.{same_surroundings}
 use Rattle.lfs_model.specs.crash.Lives.{Turn, EndsWith, IsLife, fails_last, is_last}
 use Rattle.lfs_model.specs.crash.LifeHeadline.{session_after_turn}
-use Rattle.lfs_model.specs.crash.LifeTrees.{IsTreeOfLife, LeavesTreeOfLife}
+use Rattle.lfs_model.specs.crash.LifeTrees.{IsTreeOfLife, LeavesTreeOfLife, MayLosePower, StartsSafely}
 use Rattle.lfs_model.proofs.LivedOn.{step_defined}
 use Rattle.lfs_model.proofs.RunTurns.{only, none_inside}
 use Rattle.lfs_model.proofs.LivesSurvived.{life_survives}
@@ -170,15 +171,36 @@ all_among P around other s (turn ∷ turns) has = (
   subst (λ t. AllTreesHave P other t turns) (same_turn around other s turn) (all_among P around other (session_after_turn around s turn) turns (λ tree among. has tree (inr among))),
 )
 
+start_may_again : (tree : Tree) (order : NameOrder) (left : Disk) → KeepsTree tree (ordered_disk order left) → (begin : SystemState) → SameBytes left begin.disk → IsMounted begin.disk begin → MayLosePower begin
+start_may_again tree order left safe begin same begins = let may = start_may tree order left begin safe same begins in record { agrees = may.0; profile = may.1 }
+
 pub life_leaves : (around : DiskSummary) (s : Session) (from : SystemState) (turns : List Turn) (to : SystemState) (left : Disk) → from.state ≡ Healthy s → fails_last turns ≡ true → IsLife from turns to → MeetsRunPremises from to →
     LeftBetween from to left → LeavesTreeOfLife around s turns left
 life_leaves around s from turns to left healthy ends lived may stop =
     let k = life_survives from turns to left lived (none_inside from turns ends) may stop in
     let agrees = subst (HealthyHasDiskTree from.disk) (sym may.agrees.healthy) may.agrees.shows in
     record {
+      order = k.order;
       tree = k.tree;
-      among = tree_left (IsTreeOfLife around s turns) from to turns s (ordered_disk k.order left) k.tree healthy agrees ends lived
+      has = tree_left (IsTreeOfLife around s turns) from to turns s (ordered_disk k.order left) k.tree healthy agrees ends lived
           (λ other. all_among (IsTreeOfLife around s turns) around other s turns (λ tree among. among)) k.cut;
-      starts = λ begin same begins. k.safe.mounts begin.disk begin same begins;
-      may = λ begin same begins. let may = start_may k.tree k.order left begin k.safe same begins in record { agrees = may.0; profile = may.1 };
+      safe = k.safe;
+      may = start_may_again k.tree k.order left k.safe;
     }
+
+-- ---- a start
+
+pub keeps_starts : (tree : Tree) (left : Disk) → KeepsTree tree left → StartsSafely (λ t. t ≡ tree) left
+keeps_starts tree left safe = record { order = left.order; tree = tree; has = refl; safe = safe; may = start_may_again tree left.order left safe }
+
+-- whichever session mounts the disk, its tree has P
+pub start_has : (P : Tree → Type 0) (left : Disk) → StartsSafely P left → (begin : SystemState) → SameBytes left begin.disk → (mounts : IsMounted begin.disk begin) → P mounts.tree
+start_has P left h begin same mounts =
+    subst P (ap (λ (t : Session). t.tree) (same_session (mounted_session h.tree) (mounted_session mounts.tree) (sym (h.safe.mounts begin.disk begin same mounts) ∙ mounts.healthy))) h.has
+
+-- a session that mounts the disk
+pub start_mounts : (P : Tree → Type 0) (left : Disk) → StartsSafely P left → (begin : SystemState) × (SameBytes left begin.disk × IsMounted begin.disk begin)
+start_mounts P left h = (
+  record { disk = ordered_disk h.order left; calls = []; state = Healthy (mounted_session h.tree) },
+  (refl, record { on = refl; tree = h.tree; shows = (h.safe.pairs, (h.safe.accepted, sym h.safe.shows)); healthy = refl }),
+)

@@ -4,4 +4,5 @@ pub mod Violations
 pub mod Histories
 pub mod Sessions
 pub mod Runs
+pub mod Written
 pub mod Sources

@@ -2,7 +2,7 @@
 
 ghost use Rattle.std.specs.Prelude.{◌≡◌, ℕ, true, false, List, [], ◌∷◌, Some, None, codes};
 ghost use Rattle.lfs_model.specs.format.Disk.{Disk};
-ghost use Rattle.lfs_model.specs.tree.Tree.{DirectoryNode};
+ghost use Rattle.lfs_model.specs.tree.Tree.{DirectoryNode, Tree};
 ghost use Rattle.lfs_model.specs.tree.Fresh.{IsFreshDisk, empty_tree};
 ghost use Rattle.lfs_model.specs.session.TreeEdits.{tree_creating};
 ghost use Rattle.lfs_model.specs.session.History.{AllCallsSince};
@@ -14,10 +14,11 @@ ghost use Rattle.lfs_model.specs.session.State.{Healthy, is_remount, mounted_ses
 ghost use Rattle.lfs_model.specs.session.Run.{SystemState, IsStep, is_refusal};
 ghost use Rattle.lfs_model.specs.session.Accepted.{IsAcceptedOpen, IsAcceptedStep};
 ghost use Rattle.lfs_model.specs.crash.Lives.{Turn, IsLife, answered, failed, all_answered, fails_last};
-ghost use Rattle.lfs_model.specs.crash.RepeatedPowerLoss.{LeftBetween, MeetsRunPremises};
-ghost use Rattle.lfs_model.specs.crash.LifeTrees.{IsTreeOfLife, LeavesTreeOfLife, MayLosePower};
+ghost use Rattle.lfs_model.specs.crash.RepeatedPowerLoss.{IsMounted, KeepsTree, LeftBetween, MeetsRunPremises, SameBytes};
+ghost use Rattle.lfs_model.specs.crash.LifeTrees.{IsTreeOfLife, LeavesTreeOfLife, MayLosePower, StartsSafely};
 ghost use Rattle.lfs_model.specs.examples.Sessions.{creating_flags, read_flags};
-ghost use Rattle.lfs_model.specs.examples.Runs.{fresh_state, failed_state};
+ghost use Rattle.lfs_model.specs.examples.Images.{small_image};
+ghost use Rattle.lfs_model.specs.examples.Runs.{fresh_state, failed_state, blockless_disk};
 
 /// An operation that wasn't refused passed its checks, and had its effect.
 pub fn accepted_operations_have_their_effect()
@@ -32,10 +33,23 @@ pub fn accepted_operations_have_their_effect()
     ensures not_made { IsAcceptedOpen (mounted_session empty_tree) (codes "/b") read_flags 0 → ⊥ }
 {}
 
-/// Wherever power is lost in a life, one of its trees is left.
+/// Wherever power is lost in a life, one of its trees is left: the next start mounts the disk and has it.
 pub fn power_loss_leaves_a_tree_of_the_life()
     ensures { (around : DiskSummary) (s : Session) (from : SystemState) (turns : List Turn) (to : SystemState) (left : Disk) → from.state ≡ Healthy s → fails_last turns ≡ true → IsLife from turns to → MeetsRunPremises from to
         → LeftBetween from to left → LeavesTreeOfLife around s turns left }
+{}
+
+/// What a safe start is: some session mounts the disk, and whichever does has a tree of the life.
+pub fn sessions_start_safely()
+    ensures mounts { (around : DiskSummary) (s : Session) (turns : List Turn) (left : Disk) → LeavesTreeOfLife around s turns left → (begin : SystemState) × (SameBytes left begin.disk × IsMounted begin.disk begin) }
+    ensures has { (around : DiskSummary) (s : Session) (turns : List Turn) (left : Disk) → LeavesTreeOfLife around s turns left → (begin : SystemState) → SameBytes left begin.disk → (mounts : IsMounted begin.disk begin)
+        → IsTreeOfLife around s turns mounts.tree }
+    ensures keeps { (tree : Tree) (left : Disk) → KeepsTree tree left → StartsSafely (λ t. t ≡ tree) left }
+
+    // A session mounts a fresh disk, and has no tree but the empty one. None mounts a disk without blocks.
+    ensures fresh { StartsSafely (λ tree. tree ≡ empty_tree) small_image }
+    ensures no_other { StartsSafely (λ tree. tree [] ≡ None) small_image → ⊥ }
+    ensures none { (tree : Tree) → StartsSafely (λ t. t ≡ tree) blockless_disk → ⊥ }
 {}
 
 /// Where the premises about a session hold: after a format, after a recovery that isn't refused, and after more turns. What is left

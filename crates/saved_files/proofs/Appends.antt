@@ -8,7 +8,9 @@ use Rattle.lfs_model.specs.session.Session.{Session}
 use Rattle.lfs_model.specs.session.State.{Healthy, mounted_session}
 use Rattle.lfs_model.specs.session.Run.{SystemState}
 use Rattle.lfs_fs.specs.Starts.{LivesOn}
-use Rattle.saved_files.specs.Working.{StartsSafely, SurvivesWith, WorksOn}
+use Rattle.lfs_model.specs.crash.LifeTrees.{StartsSafely}
+use Rattle.lfs_model.proofs.TreesLeft.{start_has}
+use Rattle.saved_files.specs.Working.{SurvivesWith, WorksOn}
 use Rattle.saved_files.proofs.Parts.{finds_weaker, survives_weaker, then_survives, works_live}
 use Rattle.saved_files.specs.Writing.{appending_flags, bytes_written, IsBeforeOrAfterWrite, SurvivesWrite, WritesFile}
 use Rattle.saved_files.specs.Log.{log_path, log_in, IsAppend, IsDoneAppend, AreAppends, HasBeginning, AreCutAppends, AreCutSessions, HasBeginnings}
@@ -77,8 +79,8 @@ HasMore Q entries log = (old : List ℕ) × (Q old × HasBeginning old entries l
 
 after_one : (Q : List ℕ → Type 0) (disk next : Disk) (entries : List (List ℕ)) → StartsWithLog Q disk → AreCutAppends disk entries next → StartsWithLog (HasMore Q entries) next
 after_one Q disk next entries h cut =
-    let may = h.starts.may cut.begin cut.same cut.mounts in
-    finds_weaker (Begins (log_in cut.mounts.tree) entries) (λ tree. HasMore Q entries (log_in tree)) next (λ tree k. (log_in cut.mounts.tree, (h.starts.has cut.begin cut.same cut.mounts, k)))
+    let may = h.may cut.begin cut.same cut.mounts in
+    finds_weaker (Begins (log_in cut.mounts.tree) entries) (λ tree. HasMore Q entries (log_in tree)) next (λ tree k. (log_in cut.mounts.tree, (start_has (λ tree. Q (log_in tree)) disk h cut.begin cut.same cut.mounts, k)))
     (appends_survive cut.begin entries cut.to (mounted_session cut.mounts.tree) cut.appends cut.mounts.healthy next (record { agrees = may.agrees; profile = may.profile; cleanly = cut.cleanly }) cut.stop)
 
 -- a log with Q was there before all of them

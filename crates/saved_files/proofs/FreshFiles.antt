@@ -9,10 +9,9 @@ use Rattle.lfs_model.specs.examples.Images.{small_image}
 use Rattle.lfs_model.specs.examples.Runs.{fresh_state, blockless_disk}
 use Rattle.lfs_model.proofs.FreshLife.{agrees, premises}
 use Rattle.lfs_model.proofs.FreshSession.{none_in_order}
-use Rattle.lfs_model.proofs.LivesSurvived.{life_survives}
 use Rattle.lfs_model.proofs.TreesLeft.{any_summary, life_leaves, same_session}
-use Rattle.lfs_fs.specs.Starts.{StartsWith}
-use Rattle.saved_files.specs.Working.{StartsSafely, SurvivesWith}
+use Rattle.lfs_model.specs.crash.LifeTrees.{StartsSafely}
+use Rattle.saved_files.specs.Working.{SurvivesWith}
 use Rattle.saved_files.specs.Settings.{SurvivesSave, IsCutSave, settings_in}
 use Rattle.saved_files.specs.Log.{IsAppend, AreCutAppends, log_in}
 use Rattle.saved_files.proofs.Parts.{survives_weaker}
@@ -24,14 +23,7 @@ pub same_fresh : (s : Session) → fresh_state.state ≡ Healthy s → s ≡ fre
 same_fresh s e = same_session s fresh (sym e)
 
 pub keeps_tree : SurvivesWith (λ tree. tree ≡ empty_tree) fresh_state fresh_state
-keeps_tree left may stop =
-    let k = life_leaves any_summary fresh fresh_state [] fresh_state left refl refl refl may stop in
-    let safe = life_survives fresh_state [] fresh_state left refl tt may stop in
-    let starts : StartsWith (λ tree. tree ≡ empty_tree) left = record {
-      has = λ begin same mounts. ap (λ (t : Session). t.tree) (same_session (mounted_session mounts.tree) (mounted_session k.tree) (sym mounts.healthy ∙ k.starts begin same mounts)) ∙ k.among;
-      may = k.may;
-    } in
-    record { order = safe.order; tree = safe.tree; safe = safe.safe; starts = starts }
+keeps_tree left may stop = life_leaves any_summary fresh fresh_state [] fresh_state left refl refl refl may stop
 
 pub mounts : IsMounted small_image fresh_state
 mounts = record { on = refl; tree = empty_tree; shows = agrees; healthy = refl }

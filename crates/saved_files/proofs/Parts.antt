@@ -10,21 +10,19 @@ use Rattle.lfs_model.proofs.Histories.{AllCallsSince-until, AllCallsSince-behind
 use Rattle.lfs_model.proofs.Performing.{IsAny}
 use Rattle.lfs_model.specs.crash.Lives.{Turn, EndsWith, IsLife, all_answered}
 use Rattle.lfs_model.specs.crash.LifeHeadline.{session_after_turns}
-use Rattle.lfs_model.specs.crash.LifeTrees.{MayLosePower}
+use Rattle.lfs_model.specs.crash.LifeTrees.{MayLosePower, StartsSafely}
 use Rattle.lfs_model.proofs.JoinedLives.{lives_joined, one_turn}
 use Rattle.lfs_model.proofs.LivedOn.{life_since, life_defined}
-use Rattle.lfs_model.proofs.LivesSurvived.{life_survives}
 use Rattle.lfs_model.proofs.Passing.{life_may}
-use Rattle.lfs_model.proofs.RunTurns.{none_inside}
 use Rattle.lfs_model.proofs.Survived.{IsEither, either_part, same_blocks}
 use Rattle.lfs_model.proofs.TreesLeft.{any_summary}
 use Rattle.lfs_fs.specs.CallEffects.{IsCall}
 use Rattle.lfs_fs.specs.SessionView.{SessionView, system_state}
 use Rattle.lfs_fs.specs.Starts.{LivesOn}
-use Rattle.lfs_fs.specs.Turns.{reply_if_any, turn_of}
+use Rattle.lfs_fs.specs.Turns.{turn_of}
 use Rattle.lfs_fs.proofs.SessionTurns.{call_turn}
 use Rattle.lfs_fs.proofs.Users.{call_leaves}
-use Rattle.saved_files.specs.Working.{StartsSafely, SurvivesWith, WorksOn, never_remounts}
+use Rattle.saved_files.specs.Working.{SurvivesWith, WorksOn, never_remounts}
 
 -- ---- what stays of the disk
 
@@ -124,7 +122,7 @@ works_live {a} {b} {c} works lives = (works.turns ++ lives.0, lives_joined works
 -- ---- what is found
 
 pub finds_weaker : (P Q : Tree → Type 0) (left : Disk) → ((tree : Tree) → P tree → Q tree) → StartsSafely P left → StartsSafely Q left
-finds_weaker P Q left f h = record { order = h.order; tree = h.tree; safe = h.safe; starts = record { has = λ begin same mounts. f mounts.tree (h.starts.has begin same mounts); may = h.starts.may } }
+finds_weaker P Q left f h = record { order = h.order; tree = h.tree; has = f h.tree h.has; safe = h.safe; may = h.may }
 
 pub survives_weaker : (P Q : Tree → Type 0) (a b : SystemState) → ((tree : Tree) → P tree → Q tree) → SurvivesWith P a b → SurvivesWith Q a b
 survives_weaker P Q a b f h left may stop = finds_weaker P Q left f (h left may stop)
@@ -139,14 +137,7 @@ call_works a b op reply other call = record {
   stayed = ap (λ b. not b && true) other;
 }
 
-may_fail : (r : Result Reply Error) → ((is_some (reply_if_any r) || true) && true) ≡ true
-may_fail (Ok reply) = refl
-may_fail (Err e) = refl
-
 -- Where the tree before the call has P, and the one that it defines, the next start has P.
 pub call_survives : (P : Tree → Type 0) (a b : SessionView) (s : Session) (op : Operation) (r : Result Reply Error) → (system_state a).state ≡ Healthy s → is_remount op ≡ false → P s.tree → P (operation_effect any_summary s op).1.tree → IsCall a op r b →
     SurvivesWith P (system_state a) (system_state b)
-call_survives P a b s op r healthy other before after call left may stop =
-    let turn : Turn = turn_of op r (system_state b) in
-    let k = life_survives (system_state a) (turn ∷ []) (system_state b) left (one_turn turn (system_state a) (call_turn a op r b call)) (none_inside (system_state a) (turn ∷ []) (may_fail r)) may stop in
-    record { order = k.order; tree = k.tree; safe = k.safe; starts = call_leaves P a a b s [] op r left healthy refl refl before other after call may stop }
+call_survives P a b s op r healthy other before after call left may stop = call_leaves P a a b s [] op r left healthy refl refl before other after call may stop

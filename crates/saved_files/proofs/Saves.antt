@@ -14,9 +14,10 @@ use Rattle.lfs_model.specs.session.Run.{SystemState}
 use Rattle.lfs_fs.specs.CallEffects.{IsCall}
 use Rattle.lfs_fs.specs.SessionView.{SessionView, system_state}
 use Rattle.lfs_model.proofs.Passing.{accepted_step}
-use Rattle.lfs_model.proofs.TreesLeft.{any_summary}
+use Rattle.lfs_model.proofs.TreesLeft.{any_summary, start_has}
 use Rattle.lfs_fs.proofs.Users.{lives}
-use Rattle.saved_files.specs.Working.{StartsSafely, WorksOn}
+use Rattle.lfs_model.specs.crash.LifeTrees.{StartsSafely}
+use Rattle.saved_files.specs.Working.{WorksOn}
 use Rattle.saved_files.proofs.Parts.{finds_weaker, survives_weaker, then_survives, call_survives}
 use Rattle.saved_files.specs.Writing.{bytes_if_file, saving_flags, IsBeforeOrAfterWrite, SurvivesWrite, WritesFile, IsWritten}
 use Rattle.saved_files.specs.Settings.{settings_path, settings_in, IsEither, SurvivesSave, SavesSettings, IsCutSave, AreCutSaves, IsOneOf}
@@ -68,12 +69,12 @@ weaker P Q disk f h = finds_weaker (λ tree. P (settings_in tree)) (λ tree. Q (
 
 after_one : (Q : Option (List ℕ) → Type 0) (disk next : Disk) (bytes : List ℕ) → StartsWithSettings Q disk → IsCutSave disk bytes next → StartsWithSettings (λ is. Q is ⊎ (is ≡ Some bytes)) next
 after_one Q disk next bytes h cut =
-    let may = h.starts.may cut.begin cut.same cut.mounts in
+    let may = h.may cut.begin cut.same cut.mounts in
     weaker (IsEither (settings_in cut.mounts.tree) bytes) (λ is. Q is ⊎ (is ≡ Some bytes)) next (λ is e. either is e)
     (cut.survives (mounted_session cut.mounts.tree) cut.mounts.healthy next (record { agrees = may.agrees; profile = may.profile; cleanly = cut.cleanly }) cut.stop)
   where
     either : (is : Option (List ℕ)) → IsEither (settings_in cut.mounts.tree) bytes is → Q is ⊎ (is ≡ Some bytes)
-    either is (inl e) = inl (subst Q (sym e) (h.starts.has cut.begin cut.same cut.mounts))
+    either is (inl e) = inl (subst Q (sym e) (start_has (λ tree. Q (settings_in tree)) disk h cut.begin cut.same cut.mounts))
     either is (inr e) = inr e
 
 sorted : (Q : Option (List ℕ) → Type 0) (bytes : List ℕ) (saves : List (List ℕ)) (is : Option (List ℕ)) → (Q is ⊎ (is ≡ Some bytes)) ⊎ IsOneOf saves is → Q is ⊎ IsOneOf (bytes ∷ saves) is

@@ -8,7 +8,7 @@ use Rattle.lfs_model.specs.crash.Premises.{MeetsPremises}
 use Rattle.lfs_model.specs.crash.RepeatedPowerLoss.{IsMounted}
 use Rattle.lfs_model.proofs.Premises.{since_of_each}
 use Rattle.lfs_model.proofs.LivedOn.{life_since}
-use Rattle.lfs_model.proofs.TreesLeft.{same_session}
+use Rattle.lfs_model.proofs.TreesLeft.{same_session, start_has}
 use Rattle.lfs_fs.specs.Starts.{LivesOn}
 use Rattle.lfs_fs.proofs.Users.{cleanly}
 use Rattle.saved_files.specs.Settings.{settings_in, IsEither, SurvivesSave, FindsSave}
@@ -20,4 +20,4 @@ finds_save from to next disk bytes survives lived premises same mounts s t healt
     let left = survives s healthy to.disk (record { agrees = may.agrees; profile = may.profile; cleanly = cleanly from to lived premises }) (inr (inr (refl, since_of_each since.events since.extends premises.failed))) in
     let begun : IsMounted next.disk next = record { on = refl; tree = mounts.tree; shows = subst (λ d. ShowsTree d (Some mounts.tree)) (sym mounts.on) mounts.shows; healthy = mounts.healthy } in
     subst (λ (z : Session). IsEither (settings_in s.tree) bytes (settings_in z.tree)) (same_session (mounted_session mounts.tree) t (sym mounts.healthy ∙ after))
-    (left.starts.has next (mounts.on ∙ ap (ordered_disk next.disk.order) same) begun)
+    (start_has (λ tree. IsEither (settings_in s.tree) bytes (settings_in tree)) to.disk left next (mounts.on ∙ ap (ordered_disk next.disk.order) same) begun)

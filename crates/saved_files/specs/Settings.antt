@@ -9,8 +9,8 @@ use Rattle.lfs_model.specs.session.State.{Healthy}
 use Rattle.lfs_model.specs.session.Run.{SystemState}
 use Rattle.lfs_model.specs.crash.Stops.{ErasesCleanly}
 use Rattle.lfs_model.specs.crash.RepeatedPowerLoss.{IsMounted, SameBytes, LeftBetween}
-use Rattle.lfs_model.specs.crash.LifeTrees.{MayLosePower}
-use Rattle.saved_files.specs.Working.{StartsSafely, SurvivesWith}
+use Rattle.lfs_model.specs.crash.LifeTrees.{MayLosePower, StartsSafely}
+use Rattle.saved_files.specs.Working.{SurvivesWith}
 use Rattle.saved_files.specs.Writing.{bytes_if_file}
 
 abbrev pub settings_path : Path

@@ -1,13 +1,12 @@
 -- A life in which a session answers each operation and is never remounted, and what holds of a loss of power in part of a life.
 use Rattle.std.specs.Prelude.{◌≡◌, Bool, true, not, ◌&&◌, List, [], ◌∷◌}
-use Rattle.lfs_model.specs.format.Disk.{Disk, ordered_disk}
-use Rattle.lfs_model.specs.declared.order.NameOrder.{NameOrder}
+use Rattle.lfs_model.specs.format.Disk.{Disk}
 use Rattle.lfs_model.specs.tree.Tree.{Tree}
 use Rattle.lfs_model.specs.session.State.{is_remount}
 use Rattle.lfs_model.specs.session.Run.{SystemState}
 use Rattle.lfs_model.specs.crash.Lives.{Turn, IsLife, all_answered}
-use Rattle.lfs_model.specs.crash.RepeatedPowerLoss.{KeepsTree, LeftBetween, MeetsRunPremises}
-use Rattle.lfs_fs.specs.Starts.{StartsWith}
+use Rattle.lfs_model.specs.crash.LifeTrees.{StartsSafely}
+use Rattle.lfs_model.specs.crash.RepeatedPowerLoss.{LeftBetween, MeetsRunPremises}
 
 abbrev pub never_remounts : List Turn → Bool
 never_remounts [] = true
@@ -19,14 +18,6 @@ pub record WorksOn (from to : SystemState) : Type 0 where
   pub lived : IsLife from turns to
   pub answered : all_answered turns ≡ true
   pub stayed : never_remounts turns ≡ true
-
--- A session can mount the disk, and has a tree that a recovery keeps. Whichever session mounts it, its tree has P, and it may lose
--- power again.
-pub record StartsSafely (P : Tree → Type 0) (left : Disk) : Type 0 where
-  pub order : NameOrder
-  pub tree : Tree
-  pub safe : KeepsTree tree (ordered_disk order left)
-  pub starts : StartsWith P left
 
 -- wherever power is lost between these states, the next start has a tree with P
 abbrev pub SurvivesWith : (Tree → Type 0) → SystemState → SystemState → Type 0

@@ -7,7 +7,8 @@ ghost use Rattle.lfs_model.specs.session.Session.{Session as SessionState};
 ghost use Rattle.lfs_model.specs.session.Run.{SystemState};
 ghost use Rattle.lfs_model.specs.session.State.{Healthy};
 ghost use Rattle.lfs_fs.specs.SessionView.{system_state};
-ghost use Rattle.saved_files.specs.Working.{StartsSafely, SurvivesWith};
+ghost use Rattle.lfs_model.specs.crash.LifeTrees.{StartsSafely};
+ghost use Rattle.saved_files.specs.Working.{SurvivesWith};
 ghost use Rattle.saved_files.specs.Log.{AreAppends, AreCutSessions, HasBeginning, HasBeginnings, IsAppend, IsDoneAppend, log_in};
 
 use crate::files::{appending_flags, write_file};

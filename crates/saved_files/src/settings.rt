@@ -6,7 +6,7 @@ ghost use Rattle.lfs_model.specs.session.Session.{Session as SessionState};
 ghost use Rattle.lfs_model.specs.session.State.{Healthy};
 ghost use Rattle.lfs_fs.specs.SessionView.{system_state};
 ghost use Rattle.lfs_fs.specs.Starts.{LivesOn};
-ghost use Rattle.saved_files.specs.Working.{StartsSafely};
+ghost use Rattle.lfs_model.specs.crash.LifeTrees.{StartsSafely};
 ghost use Rattle.saved_files.specs.Settings.{AreCutSaves, IsFirstSave, IsOneOf, SavesSettings, SurvivesSave, settings_in};
 
 use crate::files::{memory_erases_cleanly, saving_flags, write_file};

@@ -3,7 +3,7 @@ use Rattle.lfs_model.specs.examples.Images.{small_image}
 use Rattle.lfs_model.specs.examples.Runs.{fresh_state, failed_state}
 use Rattle.lfs_model.proofs.FreshLife.{agrees, premises}
 use Rattle.lfs_model.proofs.LivedOn.{life_defined}
-use Rattle.lfs_model.proofs.TreesLeft.{any_summary}
+use Rattle.lfs_model.proofs.TreesLeft.{any_summary, start_has}
 use Rattle.saved_files.proofs.FreshFiles.{fresh, keeps_tree, mounts}
 use Rattle.saved_files.proofs.examples.session_works_on_while_it_answers.Goals as goal
 
@@ -17,4 +17,4 @@ pub returns-clause-survives : goal.returns-clause-survives
 returns-clause-survives c = keeps_tree
 
 pub returns-clause-lost : goal.returns-clause-lost
-returns-clause-lost c = λ h. (h small_image premises (inl refl)).starts.has fresh_state refl mounts
+returns-clause-lost c = λ h. start_has _ small_image (h small_image premises (inl refl)) fresh_state refl mounts

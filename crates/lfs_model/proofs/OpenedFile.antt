@@ -45,11 +45,11 @@ fresh = record {
   first = refl;
 }
 
-holds : content_at image_after_open anchor_address ≡ Some next.content
+pub holds : content_at image_after_open anchor_address ≡ Some next.content
 unfolding chain_of chain_within commit_within entry_at closes crc_of checksum_after_bits
 holds = refl
 
-begins : BeginsWith (current_block image_after_open anchor_address) superblock_entry
+pub begins : BeginsWith (current_block image_after_open anchor_address) superblock_entry
 unfolding chain_of chain_within commit_within entry_at closes crc_of checksum_after_bits
 begins = refl
 

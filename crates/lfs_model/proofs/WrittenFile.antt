@@ -1,8 +1,8 @@
 -- A file is written, synced, closed, renamed and removed: each step, and what a commit is in it.
-use Rattle.std.proofs.Common.{ℕ, zero, suc, ◌≡◌, ◌<◌, true, false, List, [], ◌∷◌, ◌++◌, Option, Some, None, get_or, refl, sym, ap, arith, ◌∙◌, Less}
+use Rattle.std.proofs.Common.{ℕ, zero, suc, ◌≡◌, ◌<◌, List, [], ◌∷◌, ◌++◌, Option, Some, None, get_or, refl, sym, ap, arith, ◌∙◌, Less}
 use Rattle.std.specs.Prelude.{codes, nat_eq}
 use Rattle.std.specs.List.{IsDistinct}
-use Rattle.lfs_model.proofs.Common.{All-from_recursion, Disk, content_at, current_block, default_profile, zero_gstate, Slot, Inline, Pair, anchor_address, pairs_gstate, BeginsWith, superblock_entry, used_blocks, superblock_slot, file_slot, SystemState, Session, DiskSummary, mounted_session, empty_tree, operation_effect, IsStep, state_after_open, IsAccepted, Healthy, Path, Tree, disk_tree, block_count}
+use Rattle.lfs_model.proofs.Common.{All-from_recursion, Disk, content_at, current_block, default_profile, zero_gstate, Slot, Inline, Pair, anchor_address, BeginsWith, superblock_entry, used_blocks, superblock_slot, file_slot, IsStep, state_after_open, IsAccepted, Healthy, Path, Tree, disk_tree, block_count}
 use Rattle.lfs_model.specs.tree.Tree.{Node, FileNode, DirectoryNode}
 use Rattle.lfs_model.specs.session.Run.{ShowsTree}
 use Rattle.lfs_model.proofs.Uniqueness.{one_thread}
@@ -14,7 +14,7 @@ use Rattle.lfs_model.specs.session.Session.{FileWriter}
 use Rattle.lfs_model.specs.session.Writers.{opened_writer, written_writer}
 use Rattle.lfs_model.specs.examples.Runs.{image_after_open}
 use Rattle.lfs_model.specs.examples.Sessions.{creating_flags}
-use Rattle.lfs_model.specs.examples.Written.{image_after_sync, image_after_rename, image_after_remove, opened_session, written_session, synced_session, closed_session, renamed_session, removed_session, state_after_write, state_after_sync, state_after_close, state_after_rename, state_after_remove, programming, synced_commit, renamed_commit, removed_commit}
+use Rattle.lfs_model.specs.examples.Written.{image_after_sync, image_after_rename, image_after_remove, written_session, synced_session, closed_session, renamed_session, removed_session, state_after_write, state_after_sync, state_after_close, state_after_rename, state_after_remove, programming, synced_commit, renamed_commit, removed_commit}
 use Rattle.lfs_model.proofs.Files.{SameFileBlocks}
 use Rattle.lfs_model.proofs.Names.{IsPlace}
 use Rattle.lfs_model.proofs.Sites.{Site}
@@ -22,14 +22,14 @@ use Rattle.lfs_model.proofs.Committed.{IsCommit, CompletesOperation}
 use Rattle.lfs_model.proofs.OneCommit.{sync_completed, remove_completed}
 use Rattle.lfs_model.proofs.RenameSteps.{renamed_behind_completed}
 use Rattle.lfs_model.proofs.Arranged.{finished_settled}
-use Rattle.lfs_model.proofs.StepsMade.{IsOver, IsProper, completed_step, filled_step, idle_step}
+use Rattle.lfs_model.proofs.StepsMade.{IsOver, completed_step, filled_step, idle_step}
 use Rattle.lfs_model.proofs.OpenedFile.{around, opened_over}
 use Rattle.lfs_model.proofs.OpenedFile as before
 
-abbrev superblock : Slot
+abbrev pub superblock : Slot
 superblock = superblock_slot default_profile 4096 16
 
-abbrev named : List ℕ → List ℕ → Slot
+abbrev pub named : List ℕ → List ℕ → Slot
 named name bytes = record (file_slot name) { struct = Inline bytes }
 
 -- the root's pair with these slots after the superblock
@@ -51,7 +51,7 @@ pub synced_holds : Holds image_after_sync (named (codes "b") (codes "hi") ∷ []
 unfolding chain_of chain_within commit_within entry_at closes crc_of checksum_after_bits
 synced_holds = refl
 
-synced_begins : Begins image_after_sync
+pub synced_begins : Begins image_after_sync
 unfolding chain_of chain_within commit_within entry_at closes crc_of checksum_after_bits
 synced_begins = refl
 
@@ -115,7 +115,7 @@ pub synced_completed : CompletesOperation image_after_open (before.next ∷ []) 
 synced_completed = sync_completed image_after_open image_after_sync site before.next synced [] [] (superblock ∷ []) [] (file_slot (codes "b")) (named (codes "b") (codes "hi")) sync_commit refl
     [] anchor_address refl refl written_session (sym (before.completed.tree around)) writer refl refl refl refl (refl, omega arith) 0 refl
 
-written_over : IsOver image_after_open (before.next ∷ []) written_session around
+pub written_over : IsOver image_after_open (before.next ∷ []) written_session around
 written_over = record { accepted = opened_over.accepted; surrounds = opened_over.surrounds; tree = opened_over.tree }
 
 pub sync_step : IsStep state_after_write (ops.Sync 0) ops.Done state_after_sync
@@ -144,7 +144,7 @@ synced_over = record {
 pub close_step : IsStep state_after_sync (ops.Close 0) ops.Done state_after_close
 close_step = idle_step image_after_sync (synced ∷ []) synced_session around (ops.Close 0) [] state_after_sync.calls synced_over refl refl refl refl refl (refl, refl) (λ e. refl)
 
-closed_over : IsOver image_after_sync (synced ∷ []) closed_session around
+pub closed_over : IsOver image_after_sync (synced ∷ []) closed_session around
 closed_over = record { accepted = synced_over.accepted; surrounds = synced_over.surrounds; tree = synced_over.tree }
 
 -- ---- a rename

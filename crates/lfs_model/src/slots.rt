@@ -123,6 +123,10 @@ pub fn worn_pair_moves()
     ensures no_room { (new : Disk) → block_count new ≡ 9 → IsPairUnloaded (worn_pairs_image 1) root_and_two new
         (root_with_d ∷ pair_with_tail (4, 5) [] (example_tail true (8, 9)) ∷ pair_with_tail (8, 9) (file_slot (codes "a") ∷ []) (example_tail true (6, 7)) ∷ pair_with_tail (6, 7) (file_slot (codes "z") ∷ []) None ∷ []) → ⊥ }
     ensures not_worn { (new : Disk) (qs : List Pair) → IsMoved (worn_pairs_image 2) root_and_two new qs → ⊥ }
+
+    // The first pair of a directory doesn't move whole: no hard tail names it.
+    ensures not_first { IsPairMoved (worn_pairs_image 1) root_and_two
+        (pair_with_tail (0, 1) root_with_d.content.slots (example_tail true (8, 9)) ∷ pair_with_tail (8, 9) (file_slot (codes "a") ∷ []) (example_tail true (6, 7)) ∷ pair_with_tail (6, 7) (file_slot (codes "z") ∷ []) None ∷ []) → ⊥ }
     ensures no_cycles { (new : Disk) (qs : List Pair) → IsMoved (worn_pairs_image 0) root_and_two new qs → ⊥ }
 {}
 

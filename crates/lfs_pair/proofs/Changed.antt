@@ -9,7 +9,7 @@ use Rattle.lfs_pair.specs.declared.pair.Pair.{Pair}
 use Rattle.lfs_pair.specs.Pair.{HeaderHasEnd, IsContentHeader, header_inactive_block}
 use Rattle.lfs_pair.specs.Writing.{EndsBeforeUnprogrammed}
 use Rattle.lfs_pair.specs.Commits.{HasChangedContent, OutsideStaysUnprogrammed, content_after_changes}
-use Rattle.lfs_pair.proofs.SameLogs.{entries_same}
+use Rattle.lfs_model.proofs.SameLogs.{entries_same}
 use Rattle.lfs_pair.proofs.TwoBlocks.{active_block, Sides, Stays, sides, raw_is, still_active, other_active, stays_same, stays_log, weaker_same, weaker_revision, weaker_none, active_is, other_is, outside_one, sides_apart, below_count}
 
 -- ---- what changes make

@@ -5,7 +5,7 @@ use Rattle.lfs_model.specs.format.Log.{chain_of}
 use Rattle.lfs_model.specs.layers.Commit.{four_bytes_at}
 use Rattle.lfs_model.specs.crash.Stops.{MayProgramLeave}
 use Rattle.lfs_tag.specs.Builder.{AreCommitPages, checksum_entry}
-use Rattle.lfs_pair.proofs.SameLogs.{commits_same, revision_same}
+use Rattle.lfs_model.proofs.SameLogs.{commits_same, revision_same}
 
 -- a block that got a commit has one
 pub Gets-has_commit : {b : PartialCommit} {old new : List ℕ} → LogGetsCommit b old new → has_commit new ≡ true

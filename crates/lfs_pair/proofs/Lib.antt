@@ -3,7 +3,6 @@ pub mod Following
 pub mod Holders
 pub mod Tails
 pub mod Applied
-pub mod SameLogs
 pub mod TwoBlocks
 pub mod Changed
 pub mod Committed

@@ -6,7 +6,7 @@ use Rattle.lfs_model.specs.format.Disk.{block_count}
 use Rattle.lfs_pair.specs.Pair.{opposite_block}
 use Rattle.lfs_model.proofs.Overwrites.{SameExceptBlocks-one}
 use Rattle.lfs_pair.proofs.Holders.{holder_is, is_second_active-written, first_holds-written}
-use Rattle.lfs_pair.proofs.SameLogs.{has_commit_same, has_commit_told, revision_same, revision_told, has_no_commit}
+use Rattle.lfs_model.proofs.SameLogs.{has_commit_same, has_commit_told, revision_same, revision_told, has_no_commit}
 
 -- ---- the block that holds
 

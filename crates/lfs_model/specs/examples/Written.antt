@@ -1,6 +1,7 @@
 -- A file `b` that is written, synced, closed, renamed to `c` and removed: the disk after each operation, and the session.
-use Rattle.std.specs.Prelude.{List, [], ◌∷◌, ◌++◌, ℕ, false, take, codes}
-use Rattle.lfs_model.specs.format.Disk.{Disk}
+use Rattle.std.specs.Prelude.{List, [], ◌∷◌, ◌++◌, ℕ, true, false, take, None, codes}
+use Rattle.lfs_model.specs.format.Disk.{Disk, default_profile}
+use Rattle.lfs_model.specs.format.Thread.{Pair, anchor_address}
 use Rattle.lfs_model.specs.session.History.{CallEvent, Program, call_event}
 use Rattle.lfs_model.specs.session.Operations as ops
 use Rattle.lfs_model.specs.session.Operations.{Operation}
@@ -8,11 +9,11 @@ use Rattle.lfs_model.specs.session.Session.{Session}
 use Rattle.lfs_model.specs.session.Effects.{operation_effect}
 use Rattle.lfs_model.specs.session.State.{Healthy, mounted_session}
 use Rattle.lfs_model.specs.session.Run.{SystemState}
-use Rattle.lfs_model.specs.tree.Fresh.{empty_tree}
+use Rattle.lfs_model.specs.tree.Fresh.{empty_tree, superblock_slot}
 use Rattle.lfs_model.specs.layers.BlockBytes.{block_padded, unwritten_bytes}
 use Rattle.lfs_model.specs.examples.Images.{large_disk_with, large_commit, shifting_commits}
-use Rattle.lfs_model.specs.examples.Sessions.{writable_summary, creating_flags}
-use Rattle.lfs_model.specs.examples.Runs.{image_after_open, state_after_open}
+use Rattle.lfs_model.specs.examples.Sessions.{writable_summary, creating_flags, write_flags}
+use Rattle.lfs_model.specs.examples.Runs.{image_after_open, state_after_open, pair_with_tail, example_tail}
 
 abbrev pub after_effect : Session → Operation → Session
 after_effect s op = (operation_effect (writable_summary 4096 256 16 2) s op).1
@@ -77,6 +78,9 @@ renamed_session = after_effect closed_session (ops.Rename (codes "/b") (codes "/
 abbrev pub removed_session : Session
 removed_session = after_effect renamed_session (ops.Remove (codes "/c"))
 
+abbrev pub reopened_session : Session
+reopened_session = after_effect closed_session (ops.Open (codes "/b") write_flags)
+
 -- the bytes are in memory
 abbrev pub state_after_write : SystemState
 state_after_write = record state_after_open { state = Healthy written_session }
@@ -87,8 +91,15 @@ state_after_sync = record { disk = image_after_sync; calls = programming 512 syn
 abbrev pub state_after_close : SystemState
 state_after_close = record state_after_sync { state = Healthy closed_session }
 
+abbrev pub state_after_reopen : SystemState
+state_after_reopen = record state_after_sync { state = Healthy reopened_session }
+
 abbrev pub state_after_rename : SystemState
 state_after_rename = record { disk = image_after_rename; calls = programming 768 renamed_commit image_after_sync image_after_rename ∷ state_after_sync.calls; state = Healthy renamed_session }
 
 abbrev pub state_after_remove : SystemState
 state_after_remove = record { disk = image_after_remove; calls = programming 1024 removed_commit image_after_rename image_after_remove ∷ state_after_rename.calls; state = Healthy removed_session }
+
+-- a root with a pair behind it that has no slots
+abbrev pub root_and_empty : List Pair
+root_and_empty = pair_with_tail anchor_address (superblock_slot default_profile 4096 16 ∷ []) (example_tail true (2, 3)) ∷ pair_with_tail (2, 3) [] None ∷ []

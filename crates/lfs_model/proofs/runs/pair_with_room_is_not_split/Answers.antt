@@ -4,6 +4,9 @@ use Rattle.lfs_model.proofs.Common.{Disk, pair_capacity, slots_limit, default_pr
 use Rattle.lfs_model.specs.session.Operations as ops
 use Rattle.lfs_model.specs.examples.Runs.{root_with_b}
 use Rattle.lfs_model.proofs.Sites.{among_from}
+use Rattle.lfs_model.specs.session.History.{CallEvent}
+use Rattle.lfs_model.specs.session.Moved.{IsLayoutMoved}
+use Rattle.lfs_model.proofs.Unmoved.{laid_without_cycles}
 use Rattle.lfs_model.proofs.Committed.{nothing_moved}
 use Rattle.lfs_model.proofs.OnePair.{one_draft, one_more_fits, one_stands}
 use Rattle.lfs_model.proofs.runs.pair_with_room_is_not_split.Goals as goal
@@ -78,3 +81,12 @@ not_arranged q f h = go h.between h.recovered.gstate h.operation (settled h.midd
 
 pub returns-clause-not_arranged : goal.returns-clause-not_arranged
 returns-clause-not_arranged c = not_arranged
+
+not_moved : (q f : Pair) (calls : List CallEvent) → IsLayoutMoved small_image ps (mounted_session empty_tree) op calls two_commit_image (q ∷ f ∷ []) → ⊥
+not_moved q f calls h = not_arranged q f (laid_without_cycles small_image ps (mounted_session empty_tree) op calls two_commit_image (q ∷ f ∷ []) refl h)
+
+pub returns-clause-not_moved : goal.returns-clause-not_moved
+returns-clause-not_moved c = not_moved
+
+pub returns-clause-no_effect : goal.returns-clause-no_effect
+returns-clause-no_effect c = λ q f calls h. not_moved q f calls (h.arranged refl)

@@ -1,9 +1,10 @@
-use Rattle.std.proofs.Common.{ℕ, ◌≡◌, ◌≤◌, ◌*◌, true, [], ◌∷◌, Some, None, Contains, refl, sym, subst, arith}
+use Rattle.std.proofs.Common.{ℕ, ◌≡◌, ◌≤◌, ◌*◌, Bool, true, false, List, [], ◌∷◌, ◌++◌, Some, None, Contains, refl, sym, ap, subst, arith, ◌∙◌}
 use Rattle.std.specs.Prelude.{codes}
-use Rattle.lfs_model.proofs.Common.{All-from_recursion, Pair, address_blocks, file_slot, used_blocks, is_worn_block, is_worn, AreUnused, pair_with_tail, root_and_two}
+use Rattle.lfs_model.proofs.Common.{All-from_recursion, Pair, address_blocks, file_slot, used_blocks, is_worn_block, is_worn, AreUnused, pair_with_tail, root_and_two, is_hard_tail}
 use Rattle.lfs_model.specs.format.Crc.{crc_of, checksum_after_bits}
 use Rattle.lfs_model.specs.format.Log.{chain_of, chain_within, commit_within, entry_at, closes}
 use Rattle.lfs_model.specs.examples.Runs.{example_tail, root_with_d, worn_pairs_image}
+use Rattle.lfs_model.specs.session.Moved.{pair_joined_to}
 use Rattle.lfs_model.proofs.BlockSets.{number_occurrences-Contains}
 use Rattle.lfs_model.proofs.Counts.{Each}
 use Rattle.lfs_model.proofs.Unmoved.{none_moves, only_worn_moves}
@@ -77,3 +78,26 @@ returns-clause-not_worn c = λ new qs. only_worn_moves (worn_pairs_image 2) root
 
 pub returns-clause-no_cycles : goal.returns-clause-no_cycles
 returns-clause-no_cycles c = λ new qs. none_moves (worn_pairs_image 0) root_and_two new qs refl
+
+abbrev first_moved : List Pair
+first_moved =
+    pair_with_tail (0, 1) root_with_d.content.slots (example_tail true (8, 9)) ∷ pair_with_tail (8, 9) (file_slot (codes "a") ∷ []) (example_tail true (6, 7)) ∷ last_pair ∷ []
+
+-- the second pair's address
+abbrev second_at : List Pair → ℕ
+second_at [] = 0
+second_at (p ∷ []) = 0
+second_at (p ∷ q ∷ ps) = q.at.0
+
+abbrev hard_first : List Pair → Bool
+hard_first [] = false
+hard_first (p ∷ ps) = is_hard_tail p.content.tail
+
+not_first : (front : List Pair) (before worn : Pair) (back : List Pair) (to : ℕ × ℕ) → root_and_two ≡ front ++ before ∷ worn ∷ back → is_hard_tail before.content.tail ≡ true →
+    first_moved ≡ front ++ pair_joined_to to before.content.slots before ∷ record worn { at = to } ∷ back → ⊥
+not_first [] before worn back to was joined is = absurd (let k : false ≡ true = ap hard_first was ∙ joined in cc)
+not_first (x ∷ []) before worn back to was joined is = absurd (let k : 8 ≡ 4 = ap second_at is ∙ sym (ap second_at was) in cc)
+not_first (x ∷ y ∷ front) before worn back to was joined is = absurd (let k : 8 ≡ 4 = ap second_at is ∙ sym (ap second_at was) in cc)
+
+pub returns-clause-not_first : goal.returns-clause-not_first
+returns-clause-not_first c = λ h. not_first h.front h.before h.worn h.back h.to h.was h.joined h.is

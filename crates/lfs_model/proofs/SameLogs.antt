@@ -1,7 +1,10 @@
 -- What blocks of the same log share.
 use Rattle.std.proofs.Common.{ℕ, ◌≡◌, Bool, true, false, cond, List, [], ◌∷◌, length, Option, Some, None, refl, sym, ap, ◌∙◌, flat_map, option_map, arith}
 use Rattle.std.specs.Prelude.{nat_lt}
-use Rattle.lfs_pair.proofs.Common.{lt-ltb, LogEntry, block_revision, block_entries, has_commit, SameLog, SameRevision, HasNoLog, log_revision}
+use Rattle.std.proofs.lemmas.Bool.{lt-ltb}
+use Rattle.lfs_model.specs.format.Log.{LogEntry, block_revision, block_entries}
+use Rattle.lfs_model.specs.format.Content.{has_commit}
+use Rattle.lfs_model.specs.crash.Stops.{SameLog, SameRevision, HasNoLog, log_revision}
 use Rattle.lfs_model.specs.format.Log.{BlockLog, chain_of, committed_log}
 
 abbrev commits_in : Option BlockLog → List (List LogEntry)

@@ -1,11 +1,15 @@
 -- What a step does to a thread, said of the same thread with its names in an order.
-use Rattle.std.proofs.Common.{◌≡◌, ℕ, false, List, ap, inl, inr, refl, Result, Ok, Err}
+use Rattle.std.proofs.Common.{◌≡◌, ◌∙◌, ℕ, false, List, Some, subst, ap, inl, inr, refl, Result, Ok, Err}
 use Rattle.std.specs.Prelude.{OnOk, is_err}
 use Rattle.lfs_device.specs.declared.error.Error.{Error}
 use Rattle.lfs_device.specs.declared.device.BlockDevice.{Ghosts}
-use Rattle.lfs_thread.proofs.Common.{BlockStates, Blocks, ContentChange, Disk, ordered_disk, CallEvent, PairContent, HoldsAtLosses-weaker, KeepsPairBlocks, CleanLossLeaves, KeptThread, CanMoveNext, IsNextMoved, LossLeavesNextMoved, NextMovedOnDisk, CanUnload, IsUnloaded, LossLeavesUnloaded, UnloadedOnDisk, SplitOnDisk, CanChangePair, CanDropNext, CanSplitAt, CanThreadIn, HasOldPair, RefusesChanges, IsThreadedIn, ThreadedInOnDisk, IsNextDropped, IsPairCommitted, HasSplit, IsPairWritten, RefusesThreading, LossLeavesPair, LossLeavesThreadSplit, LossLeavesThreaded, PartsFit}
+use Rattle.lfs_thread.proofs.Common.{BlockStates, Blocks, ContentChange, Disk, ordered_disk, CallEvent, PairContent, HoldsAtLosses-weaker, KeepsPairBlocks, CleanLossLeaves, KeptThread, SplitOnDisk, CanChangePair, CanDropNext, CanSplitAt, CanThreadIn, HasOldPair, RefusesChanges, IsNextDropped, IsPairCommitted, HasSplit, IsPairWritten, RefusesThreading, LossLeavesPair, LossLeavesThreadSplit, PartsFit}
 use Rattle.lfs_model.specs.declared.order.NameOrder.{NameOrder}
-use Rattle.lfs_thread.specs.ThreadSteps.{SameGeometryAs}
+use Rattle.lfs_thread.specs.Joins.{CanHold, HasNextRevision, IsJoined, JoinedOnDisk, LossLeavesJoined, content_behind, pairs_joined}
+use Rattle.lfs_thread.specs.Moves.{BeginsWithAnySuperblock}
+use Rattle.lfs_thread.specs.ThreadSteps.{SameGeometryAs, thread_pair}
+use Rattle.lfs_thread.specs.declared.joins.Behind.{Behind}
+use Rattle.lfs_thread.specs.declared.joins.Behind.TheVariants as kind
 
 -- the same thread, with its names in that order
 abbrev pub in_order : NameOrder → KeptThread → KeptThread
@@ -26,11 +30,10 @@ module _ (order : NameOrder) where
   pub can_drop : (t : KeptThread) (index : ℕ) (changes : List ContentChange) → CanDropNext (in_order order t) index changes → CanDropNext t index changes
   can_drop t index changes can = record { below = can.below; content = can.content; made = can.made; next = can.next }
 
-  pub can_move : (t : KeptThread) (index : ℕ) (fresh : ℕ × ℕ) → CanMoveNext (in_order order t) index fresh → CanMoveNext t index fresh
-  can_move t index fresh can = record { below = can.below; joined = can.joined; fits = can.fits; next_fits = can.next_fits; held = can.held }
-
-  pub can_unload : (t : KeptThread) (index : ℕ) (fresh : ℕ × ℕ) (keep : ℕ) → CanUnload (in_order order t) index fresh keep → CanUnload t index fresh keep
-  can_unload t index fresh keep can = record { below = can.below; slots = can.slots; fits = can.fits; held = can.held }
+  pub can_hold : (b : Behind) (t : KeptThread) (index : ℕ) → CanHold (in_order order t) index b → CanHold t index b
+  can_hold kind.Empty t index holds = tt
+  can_hold kind.Slots t index holds = holds
+  can_hold kind.Next t index holds = holds
 
   -- ---- what a step does
 
@@ -73,16 +76,28 @@ module _ (order : NameOrder) where
     map = is.map;
   }
 
-  pub threaded_in : (old new : KeptThread) (index : ℕ) (fresh : ℕ × ℕ) (changes : List ContentChange) → IsThreadedIn old index fresh changes new → IsThreadedIn (in_order order old) index fresh changes (in_order order new)
-  threaded_in old new index fresh changes is = record {
+  behind_in : (b : Behind) (t : KeptThread) (index : ℕ) → content_behind t index b ≡ content_behind (in_order order t) index b
+  behind_in kind.Empty t index = refl
+  behind_in kind.Slots t index = refl
+  behind_in kind.Next t index = refl
+
+  pub joined_in : (old new : KeptThread) (index : ℕ) (b : Behind) (fresh : ℕ × ℕ) (changes : List ContentChange) → IsJoined old index b fresh changes new → IsJoined (in_order order old) index b fresh changes (in_order order new)
+  joined_in old new index b fresh changes is = record {
     content = is.content;
     made = is.made;
     fits = is.fits;
     first = is.first;
-    pairs = is.pairs;
+    pairs = is.pairs ∙ ap (λ c. pairs_joined b old.pairs index (record { at = (thread_pair old index).at; content = is.content }) (record { at = fresh; content = c })) (behind_in b old index);
     thread = is.thread;
     map = is.map;
+    anew = subst (λ c. BeginsWithAnySuperblock (record { at = fresh; content = c }) (ordered_disk order new.disk)) (behind_in b old index) is.anew;
+    revision = revision_in b is.revision;
   }
+    where
+      revision_in : (b : Behind) → HasNextRevision old index b fresh new.disk → HasNextRevision (in_order order old) index b fresh (ordered_disk order new.disk)
+      revision_in kind.Empty has = tt
+      revision_in kind.Slots has = has
+      revision_in kind.Next has = has
 
   pub threading_refused_in : (old new : KeptThread) (index : ℕ) (fresh : ℕ × ℕ) (changes : List ContentChange) → RefusesThreading old index fresh changes new → RefusesThreading (in_order order old) index fresh changes (in_order order new)
   threading_refused_in old new index fresh changes is = record { content = is.content; made = is.made; too_large = is.too_large; pairs = is.pairs; map = is.map; others = is.others }
@@ -97,12 +112,6 @@ module _ (order : NameOrder) where
     thread = is.thread;
     map = is.map;
   }
-
-  pub moved_in : (old new : KeptThread) (index : ℕ) (fresh : ℕ × ℕ) → IsNextMoved old index fresh new → IsNextMoved (in_order order old) index fresh (in_order order new)
-  moved_in old new index fresh is = record { pairs = is.pairs; thread = is.thread; first = is.first; anew = is.anew; revision = is.revision; map = is.map }
-
-  pub unloaded_in : (old new : KeptThread) (index : ℕ) (fresh : ℕ × ℕ) (keep : ℕ) → IsUnloaded old index fresh keep new → IsUnloaded (in_order order old) index fresh keep (in_order order new)
-  unloaded_in old new index fresh keep is = record { pairs = is.pairs; thread = is.thread; first = is.first; revision = is.revision; map = is.map }
 
   -- ---- what a loss of power leaves of a step
 
@@ -130,42 +139,21 @@ module _ (order : NameOrder) where
     ];
   }
 
-  pub left_threaded_in : (old : KeptThread) (index : ℕ) (fresh : ℕ × ℕ) (changes : List ContentChange) (left : Blocks) → LossLeavesThreaded old index fresh changes left → LossLeavesThreaded (in_order order old) index fresh changes left
-  left_threaded_in old index fresh changes left is = record {
+  pub left_joined_in : (old : KeptThread) (index : ℕ) (b : Behind) (fresh : ℕ × ℕ) (changes : List ContentChange) (left : Blocks) → LossLeavesJoined old index b fresh changes left → LossLeavesJoined (in_order order old) index b fresh changes left
+  left_joined_in old index b fresh changes left is = record {
     others = is.others;
     content = elim is.content [
       | inl has ↦ inl (old_in old index (record old.disk { blocks = left }) has)
       | inr both ↦
-          let there : ThreadedInOnDisk (in_order order old) index fresh changes (record (ordered_disk order old.disk) { blocks = left }) = record {
+          let there : JoinedOnDisk (in_order order old) index b fresh changes (record (ordered_disk order old.disk) { blocks = left }) = record {
             content = both.content;
             made = both.made;
             fits = both.fits;
             holds = both.holds;
-            behind = both.behind;
+            behind = both.behind ∙ ap Some (behind_in b old index);
             first = both.first;
+            anew = subst (λ c. BeginsWithAnySuperblock (record { at = fresh; content = c }) (record (ordered_disk order old.disk) { blocks = left })) (behind_in b old index) both.anew;
           } in
-          inr there
-    ];
-  }
-
-  pub left_moved_in : (old : KeptThread) (index : ℕ) (fresh : ℕ × ℕ) (left : Blocks) → LossLeavesNextMoved old index fresh left → LossLeavesNextMoved (in_order order old) index fresh left
-  left_moved_in old index fresh left is = record {
-    others = is.others;
-    content = elim is.content [
-      | inl has ↦ inl (old_in old index (record old.disk { blocks = left }) has)
-      | inr both ↦
-          let there : NextMovedOnDisk (in_order order old) index fresh (record (ordered_disk order old.disk) { blocks = left }) = record { leads = both.leads; moved = both.moved; first = both.first; anew = both.anew } in
-          inr there
-    ];
-  }
-
-  pub left_unloaded_in : (old : KeptThread) (index : ℕ) (fresh : ℕ × ℕ) (keep : ℕ) (left : Blocks) → LossLeavesUnloaded old index fresh keep left → LossLeavesUnloaded (in_order order old) index fresh keep left
-  left_unloaded_in old index fresh keep left is = record {
-    others = is.others;
-    content = elim is.content [
-      | inl has ↦ inl (old_in old index (record old.disk { blocks = left }) has)
-      | inr both ↦
-          let there : UnloadedOnDisk (in_order order old) index fresh keep (record (ordered_disk order old.disk) { blocks = left }) = record { keeps = both.keeps; behind = both.behind; first = both.first } in
           inr there
     ];
   }

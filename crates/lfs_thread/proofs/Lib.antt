@@ -9,8 +9,8 @@ pub mod Begun
 pub mod Dropped
 pub mod Joined
 pub mod Threaded
+pub mod WrittenBehind
 pub mod Moving
-pub mod Unloading
 pub mod Reported
 pub mod CachedPair
 pub mod GlobalState

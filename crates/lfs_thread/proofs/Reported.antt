@@ -13,6 +13,7 @@ use Rattle.lfs_model.proofs.Histories.{StayUnprogrammed-trans, StayUnprogrammed-
 use Rattle.lfs_model.proofs.Overwrites.{SameExceptBlocks-trans, SameExceptBlocks-wider}
 use Rattle.lfs_pair.specs.declared.pair.Pair.{Pair}
 use Rattle.lfs_pair.specs.Commits.{CommitFails}
+use Rattle.lfs_thread.specs.Kept.{KeptThread}
 use Rattle.lfs_thread.specs.ThreadDevice.{ReportsKeepingOthers}
 use Rattle.lfs_thread.specs.ThreadSteps.{OnlyReadsDevice, ChangesThreadBlocks}
 
@@ -100,4 +101,25 @@ errors_again {X = X} {Y = Y} e first second is now t = record {
     no_fault = λ other. t.faults.no_fault (λ gives. other (now ∙ ap Err (same_error X e Io (sym is ∙ gives))));
   };
   unwritten = λ gives. t.unwritten (is ∙ ap Err (same_error Y e NoMemory (sym now ∙ gives)));
+}
+
+-- an error of the call that writes the fresh pair is passed on
+pub errors_keeping : {D X Y : Type 0} {g : Ghosts D} {old new : D} (bs : List ℕ) (e : Error) (first : Result X Error) (second : Result Y Error) → first ≡ Err e → second ≡ Err e → (e ≡ Io) ⊎ (e ≡ NoMemory) → ReportsFaults g old new first
+    → SameExceptBlocks bs (g.blocks old) (g.blocks new) → ReportsKeepingOthers g bs old new second
+errors_keeping {X = X} {Y = Y} bs e first second is now which faults others = record {
+  errors = subst (λ (r : Result Y Error). IfErr r (λ e. (e ≡ Io) ⊎ (e ≡ NoMemory))) (sym now) which;
+  faults = record {
+    fault = λ gives. faults.fault (is ∙ ap Err (same_error Y e Io (sym now ∙ gives)));
+    no_fault = λ other. faults.no_fault (λ gives. other (now ∙ ap Err (same_error X e Io (sym is ∙ gives))));
+  };
+  beside = λ gives. others;
+}
+
+-- an error of a step is passed on
+pub reported_again : {X Y : Type 0} {bs : List ℕ} {old new : KeptThread} (e : Error) (first : Result X Error) (second : Result Y Error) → first ≡ Err e → second ≡ Err e → ThreadReportsKeepingOthers bs old new first → ThreadReportsKeepingOthers bs old new second
+reported_again {X = X} {Y = Y} e first second is now t = record {
+  errors = subst (λ (r : Result Y Error). IfErr r (λ e. (e ≡ Io) ⊎ (e ≡ NoMemory))) (sym now) (subst (λ (r : Result X Error). IfErr r (λ e. (e ≡ Io) ⊎ (e ≡ NoMemory))) is t.errors);
+  fault = λ gives. t.fault (is ∙ ap Err (same_error Y e Io (sym now ∙ gives)));
+  no_fault = λ other. t.no_fault (λ gives. other (now ∙ ap Err (same_error X e Io (sym is ∙ gives))));
+  beside = λ gives. t.beside (is ∙ ap Err (same_error Y e NoMemory (sym now ∙ gives)));
 }

@@ -12,3 +12,4 @@ pub mod Beside
 pub mod PairPlaces
 pub mod Moves
 pub mod Unloads
+pub mod Joins

@@ -1,51 +1,70 @@
-// Fresh pairs that are put into the thread.
+// Fresh pairs that come into the thread.
 
-ghost use Rattle.std.specs.Prelude.{◌≡◌, ◌+◌};
+ghost use Rattle.std.specs.Prelude.{◌≡◌, ◌⊎◌, ◌<◌, ◌+◌, IfErr, IfOk, get_or, length};
 ghost use Rattle.std.specs.Option.{option_map};
+ghost use Rattle.lfs_device.specs.DeviceCalls.{ReportsFaults};
+ghost use Rattle.lfs_device.specs.DeviceDisk.{disk_of_blocks};
 ghost use Rattle.lfs_model.specs.format.Slots.{address_view};
+ghost use Rattle.lfs_model.specs.format.Thread.{address_blocks, addresses_blocks};
 ghost use Rattle.lfs_tag.specs.ContentView.{tail_view};
 ghost use Rattle.lfs_pair.specs.ChangeView.{change_view, changes_view};
+ghost use Rattle.lfs_pair.specs.Pair.{header_address};
+ghost use Rattle.lfs_pair.specs.Writing.{ChangesReadingFew};
+ghost use Rattle.lfs_thread.specs.CachedLog.{cached_block_log, reads_unless_cached};
+ghost use Rattle.lfs_thread.specs.Joins.{CanDropCopied, CanHold, CanWriteBehind, IsJoined, IsWrittenBehind, LossLeavesJoined, headers_without, map_without, reads_behind, source_index};
+ghost use Rattle.lfs_thread.specs.Kept.{AreKeptParts, kept_parts};
 ghost use Rattle.lfs_thread.specs.Parts.{ChangesKeptParts, EndsByOutcome};
 ghost use Rattle.lfs_thread.specs.ThreadDevice.{CleanLossLeaves, ReportsKeepingOthers};
-ghost use Rattle.lfs_thread.specs.Kept.{AreKeptParts, kept_parts};
-ghost use Rattle.lfs_thread.specs.CachedLog.{cached_block_log, reads_unless_cached};
-ghost use Rattle.lfs_thread.specs.ThreadSteps.{CanThreadIn, RefusesThreading, IsThreadedIn, LossLeavesThreaded, tail_change, thread_pair};
-ghost use Rattle.lfs_model.specs.format.Thread.{address_blocks, addresses_blocks};
+ghost use Rattle.lfs_thread.specs.ThreadSteps.{CanThreadIn, RefusesThreading, tail_change, thread_pair};
 
 use crate::cached_pairs::{commit_cached, forget_cached_pair};
 use crate::parts::ThreadParts;
+use lfs_blocks::BlockMap;
 use lfs_device::{BlockDevice, Error};
-use lfs_pair::{Change, Outcome, Pair};
-use lfs_tag::Tail;
+use lfs_pair::{Change, Outcome, Pair, copy};
+use lfs_tag::{MoveState, Tail};
 use std::alloc::Global;
 
-// Makes a fresh pair of two blocks in flight. It has no slots, and the tail of the pair at the
-// index. Then the changes are committed to the pair at the index, whose tail then names the fresh
-// pair. Where the changes don't fit, no tail names the fresh pair, and its blocks stay in flight.
-// After an error nothing is known of the headers, the map and the cache.
-pub(crate) fn thread_fresh_pair<D: BlockDevice>(
+// What a fresh pair has that comes behind another one.
+#[derive(Clone, Copy, Drop)]
+pub(crate) enum Behind {
+    // no slots, and the tail of the pair before it
+    Empty,
+    // the slots of the pair before it, too, but not its delta
+    Slots,
+    // all that the pair after that one has, which goes
+    Next,
+}
+
+// Writes a fresh pair into two blocks in flight. Then the changes are committed to the pair at the
+// index, whose tail then names the fresh pair. Where the changes don't fit, no tail names the fresh
+// pair, and its blocks stay in flight. After an error nothing is known of the headers, the map and
+// the cache.
+pub(crate) fn join_pair<D: BlockDevice>(
     alloc: Global,
     parts: &mut ThreadParts<D>,
     index: usize,
+    behind: Behind,
     fresh: [u32; 2],
     changes: &[Change<'_>],
 ) -> Result<Outcome, Error>
     requires kept { AreKeptParts D.BlockDevice parts.old }
     requires can { CanThreadIn (kept_parts D.BlockDevice parts.old) index (address_view fresh) (changes_view changes.now) }
-    ensures parts { ChangesKeptParts D.BlockDevice (3 + reads_unless_cached (cached_block_log (kept_parts D.BlockDevice parts.old) parts.old.cache index)) (addresses_blocks (thread_pair (kept_parts D.BlockDevice parts.old) index).at (address_view fresh)) parts.old parts.new result }
+    requires holds { CanHold (kept_parts D.BlockDevice parts.old) index behind }
+    ensures parts { ChangesKeptParts D.BlockDevice (reads_behind behind + 1 + reads_unless_cached (cached_block_log (kept_parts D.BlockDevice parts.old) parts.old.cache index)) (addresses_blocks (thread_pair (kept_parts D.BlockDevice parts.old) index).at (address_view fresh)) parts.old parts.new result }
     ensures ends { EndsByOutcome result
-        (IsThreadedIn (kept_parts D.BlockDevice parts.old) index (address_view fresh) (changes_view changes.now) (kept_parts D.BlockDevice parts.new))
+        (IsJoined (kept_parts D.BlockDevice parts.old) index behind (address_view fresh) (changes_view changes.now) (kept_parts D.BlockDevice parts.new))
         (RefusesThreading (kept_parts D.BlockDevice parts.old) index (address_view fresh) (changes_view changes.now) (kept_parts D.BlockDevice parts.new)) }
     ensures errors { ReportsKeepingOthers D.BlockDevice (address_blocks (address_view fresh)) parts.old.device parts.new.device result }
     ensures stops { CleanLossLeaves (D.history parts.old.device) (D.history parts.new.device)
-        (LossLeavesThreaded (kept_parts D.BlockDevice parts.old) index (address_view fresh) (changes_view changes.now)) }
+        (LossLeavesJoined (kept_parts D.BlockDevice parts.old) index behind (address_view fresh) (changes_view changes.now)) }
 {
     let mut pair = parts.pairs[index];
+    let source = source_of(&parts.pairs, index, behind);
     // This takes the memory for the fresh pair's header, before anything is written.
     parts.pairs.insert(index + 1, pair)?;
     forget_cached_pair(&mut parts.cache, fresh);
-    let tail = change_setting_tail(&pair.tail);
-    let fresh_pair = Pair::fresh(alloc, &mut parts.device, fresh, &[tail])?;
+    let fresh_pair = write_behind(alloc, &mut parts.device, &source, behind, fresh)?;
     let outcome = commit_cached(
         alloc,
         &mut parts.device,
@@ -61,7 +80,72 @@ pub(crate) fn thread_fresh_pair<D: BlockDevice>(
     parts.pairs[index + 1] = fresh_pair;
     parts.map.settle(fresh[0]);
     parts.map.settle(fresh[1]);
+    drop_copied(&mut parts.pairs, &mut parts.map, index + 2, behind, &source);
     Ok(Outcome::Done)
+}
+
+// Returns the header of the pair that is copied.
+fn source_of(pairs: &Vec<Pair>, index: usize, behind: Behind) -> Pair
+    requires { source_index index behind < length pairs.now.items }
+    ensures { result ≡ get_or pairs.now.items (source_index index behind) result }
+{
+    match behind {
+        Behind::Empty | Behind::Slots => pairs[index],
+        Behind::Next => pairs[index + 1],
+    }
+}
+
+// Writes the fresh pair, and returns its header.
+//
+// Errors: `Io` where a call of the device failed. `NoMemory` where memory for two blocks and the
+// slots isn't granted.
+fn write_behind<D: BlockDevice>(
+    alloc: Global,
+    dev: &mut D,
+    source: &Pair,
+    behind: Behind,
+    fresh: [u32; 2],
+) -> Result<Pair, Error>
+    requires { CanWriteBehind (disk_of_blocks (D.geometry dev.old) (D.blocks dev.old)) (D.history dev.old) source.now (address_view fresh) behind }
+
+    ensures written { IfOk result (λ pair. IsWrittenBehind (disk_of_blocks (D.geometry dev.old) (D.blocks dev.old)) (D.history dev.old) source.now behind
+        (disk_of_blocks (D.geometry dev.new) (D.blocks dev.new)) (D.history dev.new) (address_view fresh) pair) }
+    ensures error { IfErr result (λ e. (e ≡ Error.Io) ⊎ (e ≡ Error.NoMemory)) }
+    ensures device { ChangesReadingFew D.BlockDevice (reads_behind behind) (address_blocks (address_view fresh)) dev.old dev.new }
+    ensures faults { ReportsFaults D.BlockDevice dev.old dev.new result }
+{
+    match behind {
+        Behind::Empty => {
+            let tail = change_setting_tail(&source.tail);
+            Pair::fresh(alloc, dev, fresh, &[tail])
+        }
+        Behind::Slots => {
+            let no_delta = Change::Move {
+                state: MoveState::none(),
+            };
+            copy(alloc, dev, source, fresh, &[no_delta])
+        }
+        Behind::Next => copy(alloc, dev, source, fresh, &[]),
+    }
+}
+
+// Takes the header of the copied pair out where that pair goes, and makes its blocks free.
+fn drop_copied(
+    pairs: &mut Vec<Pair>,
+    map: &mut BlockMap,
+    place: usize,
+    behind: Behind,
+    source: &Pair,
+)
+    requires { CanDropCopied behind pairs.old.items place source.now map.old }
+    ensures headers { pairs.new.items ≡ headers_without behind pairs.old.items place }
+    ensures map { map.new ≡ map_without behind map.old (header_address source.now) }
+{
+    if let Behind::Next = behind {
+        pairs.remove(place);
+        map.release(source.blocks[0]);
+        map.release(source.blocks[1]);
+    }
 }
 
 // Returns the change that sets this tail.

@@ -10,13 +10,11 @@ mod headers;
 mod joins;
 mod list_reads;
 mod mount_error;
-mod moves;
 mod pair_numbers;
 mod parts;
 mod places;
 mod splits;
 mod thread;
-mod unloads;
 
 pub use deltas::gstate_xor_delta;
 pub use mount_error::MountError;

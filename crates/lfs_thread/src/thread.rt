@@ -19,23 +19,22 @@ ghost use Rattle.lfs_thread.specs.Beside.{CanRunWork, HasRunWork, HasGeometry, K
 ghost use Rattle.lfs_thread.specs.ThreadDevice.{GivesDeviceBack, CleanLossLeaves};
 ghost use Rattle.lfs_thread.specs.Kept.{IsCacheCurrent, IsKept, WasKeptOnDevice, disk_of_device, kept_in_order};
 ghost use Rattle.lfs_thread.specs.CachedLog.{IsContentLog, cached_log, loaded_cache, reads_unless_cached};
+ghost use Rattle.lfs_thread.specs.Joins.{CanHold, IsJoined, LossLeavesJoined, reads_behind};
 ghost use Rattle.lfs_thread.specs.Moves.{CanMoveNext, IsNextMoved, LossLeavesNextMoved, pair_revision};
 ghost use Rattle.lfs_thread.specs.MountErrors.{IsThreadViolation, error_of_mount};
 ghost use Rattle.lfs_thread.specs.HeaderReading.{IsReadThread};
-ghost use Rattle.lfs_thread.specs.Unloads.{CanUnload, IsUnloaded, LossLeavesUnloaded};
+ghost use Rattle.lfs_thread.specs.Unloads.{CanUnload, IsUnloaded, LossLeavesUnloaded, changes_of_unload};
 ghost use Rattle.lfs_thread.specs.ThreadSteps.{CanSplitAt, CanChangePair, CanDropNext, CanThreadIn, ThreadReportsErrors, ThreadReportsKeepingOthers, RefusesThreading, IsThreadedIn, LossLeavesThreaded, IsPairCommitted, IsNextDropped, LossLeavesPair, LossLeavesThreadSplit, OnlyReadsThread, RefusesChanges, HasSplit, ChangesWithinReads, thread_pair};
 
 use crate::cached_pairs::commit_cached;
 use crate::deltas::headers_gstate;
 use crate::drops::drop_next_pair;
 use crate::headers::read_thread_headers;
-use crate::joins::thread_fresh_pair;
+use crate::joins::{Behind, join_pair};
 use crate::list_reads::read_part_cached;
 use crate::mount_error::MountError;
-use crate::moves::move_next_pair;
 use crate::parts::ThreadParts;
 use crate::splits::split_pair;
-use crate::unloads::unload_pair;
 use lfs_blocks::{BlockMap, Cache};
 use lfs_device::{BlockDevice, Error, Geometry};
 use lfs_file::{KnownBlocks, read_at};
@@ -466,7 +465,32 @@ impl<D: BlockDevice> Thread<D> {
         ensures device { ChangesWithinReads (3 + reads_unless_cached (cached_log self.old index)) (addresses_blocks (thread_pair self.old.kept index).at (address_view fresh)) self.old.kept self.new.kept }
         ensures stops { CleanLossLeaves self.old.kept.history self.new.kept.history (LossLeavesThreaded self.old.kept index (address_view fresh) (changes_view changes.now)) }
     {
-        let outcome = thread_fresh_pair(alloc, &mut self.parts, index, fresh, changes);
+        self.join(alloc, index, Behind::Empty, fresh, changes)
+    }
+
+    // Writes a fresh pair, in the two blocks `fresh`, and commits to the pair at `index` the changes
+    // by which its tail names that pair. `behind` says what the fresh pair has.
+    //
+    // Returns `Full`, and ends in errors, as `thread_in` does.
+    fn join(
+        &mut self,
+        alloc: Global,
+        index: usize,
+        behind: Behind,
+        fresh: [u32; 2],
+        changes: &[Change<'_>],
+    ) -> Result<Outcome, Error>
+        requires works { self.old.failed ≡ false }
+        requires can { CanThreadIn self.old.kept index (address_view fresh) (changes_view changes.now) }
+        requires holds { CanHold self.old.kept index behind }
+        ensures done { result ≡ Ok Outcome.Done → IsJoined self.old.kept index behind (address_view fresh) (changes_view changes.now) self.new.kept }
+        ensures full { result ≡ Ok Outcome.Full → RefusesThreading self.old.kept index (address_view fresh) (changes_view changes.now) self.new.kept }
+        ensures failed { self.new.failed ≡ is_err result }
+        ensures errors { ThreadReportsKeepingOthers (address_blocks (address_view fresh)) self.old.kept self.new.kept result }
+        ensures device { ChangesWithinReads (reads_behind behind + 1 + reads_unless_cached (cached_log self.old index)) (addresses_blocks (thread_pair self.old.kept index).at (address_view fresh)) self.old.kept self.new.kept }
+        ensures stops { CleanLossLeaves self.old.kept.history self.new.kept.history (LossLeavesJoined self.old.kept index behind (address_view fresh) (changes_view changes.now)) }
+    {
+        let outcome = join_pair(alloc, &mut self.parts, index, behind, fresh, changes);
         self.has_failed = outcome.is_err();
         outcome
     }
@@ -513,9 +537,17 @@ impl<D: BlockDevice> Thread<D> {
         ensures device { ChangesWithinReads (4 + reads_unless_cached (cached_log self.old index)) (addresses_blocks (thread_pair self.old.kept index).at (address_view fresh)) self.old.kept self.new.kept }
         ensures stops { CleanLossLeaves self.old.kept.history self.new.kept.history (LossLeavesNextMoved self.old.kept index (address_view fresh)) }
     {
-        let result = move_next_pair(alloc, &mut self.parts, index, fresh);
-        self.has_failed = result.is_err();
-        result
+        let tail = Change::Tail {
+            hard: true,
+            pair: Some(fresh),
+        };
+        // Gives the proof what is kept of the pairs.
+        let _ = &self.parts;
+        match self.join(alloc, index, Behind::Next, fresh, &[tail]) {
+            Ok(Outcome::Done) => Ok(()),
+            Ok(Outcome::Full) => unreachable!(),
+            Err(error) => Err(error),
+        }
     }
 
     /// Puts a fresh pair, in the two blocks `fresh`, into the thread after a pair. The fresh pair gets
@@ -541,9 +573,21 @@ impl<D: BlockDevice> Thread<D> {
         ensures device { ChangesWithinReads (4 + reads_unless_cached (cached_log self.old index)) (addresses_blocks (thread_pair self.old.kept index).at (address_view fresh)) self.old.kept self.new.kept }
         ensures stops { CleanLossLeaves self.old.kept.history self.new.kept.history (LossLeavesUnloaded self.old.kept index (address_view fresh) keep) }
     {
-        let result = unload_pair(alloc, &mut self.parts, index, fresh, keep);
-        self.has_failed = result.is_err();
-        result
+        // Gives the proof what is kept of the pairs.
+        let _ = &self.parts;
+        let count = self.slot_count(index) - usize::from(keep);
+        let changes = match unload_changes(alloc, fresh, keep, count) {
+            Ok(changes) => changes,
+            Err(error) => {
+                self.fail();
+                return Err(error);
+            }
+        };
+        match self.join(alloc, index, Behind::Slots, fresh, &changes) {
+            Ok(Outcome::Done) => Ok(()),
+            Ok(Outcome::Full) => unreachable!(),
+            Err(error) => Err(error),
+        }
     }
 
     /// Lends the device and the map to `work`, which leaves used blocks as they are, and those of the
@@ -643,4 +687,22 @@ fn cache_and_map(alloc: Global, block_count: u32) -> Result<(Cache, BlockMap), E
     let cache = Cache::new(alloc)?;
     let map = BlockMap::new(alloc, block_count)?;
     Ok((cache, map))
+}
+
+// Makes the changes that delete `count` slots after the first `keep`, and set a hard tail.
+fn unload_changes<'a>(
+    alloc: Global,
+    fresh: [u32; 2],
+    keep: u16,
+    count: usize,
+) -> Result<Vec<Change<'a>>, Error>
+    ensures changes { IfOk result (λ changes. changes_view changes.items ≡ changes_of_unload (address_view fresh) keep count) }
+    ensures errors { IfErr result (λ e. e ≡ Error.NoMemory) }
+{
+    let mut changes = Vec::from_elem(alloc, Change::Delete { id: keep }, count)?;
+    changes.push(Change::Tail {
+        hard: true,
+        pair: Some(fresh),
+    })?;
+    Ok(changes)
 }

@@ -1,7 +1,7 @@
 use Rattle.std.proofs.Common.{ap, sym, subst, ◌≡◌, ◌∙◌, ◌<◌, Some, length}
 use Rattle.lfs_thread.proofs.Common.{ThreadView, disk_of_device, pair_revision, thread_pair}
 use Rattle.lfs_thread.proofs.Changing.{at_there}
-use Rattle.lfs_thread.proofs.Moving.{revision_there}
+use Rattle.lfs_thread.proofs.WrittenBehind.{revision_there}
 use Rattle.lfs_thread.proofs.thread.Thread.revision.Goals as goal
 
 pub returns : goal.returns

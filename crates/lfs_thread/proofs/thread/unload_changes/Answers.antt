@@ -3,8 +3,8 @@ use Rattle.lfs_thread.proofs.Common.{map-append, address_view, ContentChange, Pu
 use Rattle.lfs_pair.specs.ChangeView.{change_view}
 use Rattle.lfs_pair.specs.declared.change.Change.{Change}
 use Rattle.lfs_pair.specs.declared.change.Change.TheVariants as changes
-use Rattle.lfs_thread.proofs.Unloading.{map_replicate}
-use Rattle.lfs_thread.proofs.unloads.unload_changes.Goals as goal
+use Rattle.lfs_thread.proofs.Moving.{map_replicate}
+use Rattle.lfs_thread.proofs.thread.unload_changes.Goals as goal
 
 pub returns-clause-changes : goal.returns-clause-changes
 returns-clause-changes c =

@@ -16,7 +16,6 @@ pub use Rattle.lfs_lookup.specs.LookupReading.{ReadsOrReports}
 pub use Rattle.lfs_lookup.specs.NameLengths.{length_after_slash}
 pub use Rattle.lfs_lookup.specs.NameSearch.{FindsInDirectory, FindsInPair, FindsUnhidden, HasNameUnskipped, HidesOnlySlot, IsAbsent, IsAbsentExcept, IsNameAt, skipped_id}
 pub use Rattle.lfs_lookup.specs.ProfileChecks.{BreaksPair, BreaksSlots, HasSuperblockStruct, IsWritablePair}
-pub use Rattle.lfs_lookup.specs.Root.{IsChainNext, IsInChain, next_chain_pair}
 pub use Rattle.lfs_lookup.specs.TreeWalk.{ArePushed, HasFirstIfDirectory, PathStruct, PushesEntriesBelow, pairs_addresses, tree_items_view, walked_entries}
 pub use Rattle.lfs_model.proofs.Completed.{complete_length, complete_parts, completed_parts}
 pub use Rattle.lfs_model.proofs.Counts.{Each, each_append, each_joined, each_left, each_right, each_weaker}

@@ -16,7 +16,6 @@ pub mod Visits
 mod Sizes
 pub mod Roots
 mod LastNames
-pub mod RootPairs
 mod Profiled
 mod ImageSuperblock
 pub mod AtPaths

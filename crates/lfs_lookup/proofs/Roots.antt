@@ -1,7 +1,7 @@
 -- The root directory's entries stand in the pairs that hard tails join from the first pair of the thread on.
-use Rattle.std.proofs.Common.{ℕ, zero, suc, ◌≡◌, ◌<◌, ◌+◌, ◌∙◌, Bool, true, false, cond, not, ◌&&◌, ◌==◌, List, [], ◌∷◌, ◌++◌, length, map, filter, flat_map, drop, remove, slice_get, Some, refl, sym, ap, arith}
+use Rattle.std.proofs.Common.{ℕ, zero, suc, ◌≡◌, ◌<◌, ◌+◌, ◌∙◌, Bool, true, false, cond, not, ◌&&◌, ◌==◌, List, [], ◌∷◌, ◌++◌, length, map, filter, flat_map, drop, remove, slice_get, Some, refl, sym, ap, subst, arith}
 use Rattle.std.proofs.lemmas.Bool.{and_parts}
-use Rattle.lfs_lookup.proofs.Common.{Disk, Slot, Gstate, is_superblock, same_pair, Pair, pairs_from_root, pairs_gstate, has_no_entry, is_hard_tail, chain_may_continue, has_superblock, root_address, count_before_root, unmoved_entries, IsPairAt, IsAccepted, all_entries, led_directory, named_struct, joined_pairs, pair_entries_from}
+use Rattle.lfs_lookup.proofs.Common.{Disk, Slot, Gstate, is_superblock, same_pair, Pair, pairs_from_root, pairs_gstate, has_no_entry, is_hard_tail, chain_may_continue, has_superblock, root_address, count_before_root, unmoved_entries, IsPairAt, IsAccepted, all_entries, led_directory, named_struct, joined_pairs, pair_entries_from, LeadsToPair}
 use Rattle.lfs_model.specs.format.Thread.{first_address}
 use Rattle.lfs_model.proofs.Pairs.{pair_itself}
 use Rattle.lfs_lookup.proofs.Directories.{own_run}
@@ -75,3 +75,7 @@ root_shapes disk (p ∷ ps) ok =
 pub some_pairs : (disk : Disk) (ps : List Pair) → IsAccepted disk ps → 0 < length ps
 some_pairs disk [] ok = absurd (let l = ok.thread.links in cc)
 some_pairs disk (p ∷ ps) ok = omega arith
+
+-- the root directory begins behind the superblock's pairs
+pub root_leads : (disk : Disk) (ps : List Pair) (root : ℕ) → IsAccepted disk ps → root ≡ count_before_root ps → LeadsToPair ps [] root
+root_leads disk ps root ok e = record { at = root_address ps; leads = refl; begins = subst (λ n. IsPairAt ps (root_address ps) n) (sym e) (root_begins disk ps ok) }

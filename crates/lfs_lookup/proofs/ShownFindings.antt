@@ -19,7 +19,7 @@ use Rattle.lfs_lookup.proofs.AtPaths.{SizedLists, directory_at_path, file_at, fi
 use Rattle.lfs_lookup.proofs.ByName.{nothing_moved}
 use Rattle.lfs_lookup.proofs.Directories.{own_shapes, within}
 use Rattle.lfs_lookup.proofs.ListAtItems.{listed_there, short_there}
-use Rattle.lfs_lookup.proofs.RootPairs.{root_leads}
+use Rattle.lfs_lookup.proofs.Roots.{root_leads}
 
 -- the directory at a path begins with that pair; where there is none, nothing stands beneath the path
 abbrev pub IsFirstAt : KeptThread → Path → Option ℕ → Type 0

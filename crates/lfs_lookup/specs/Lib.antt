@@ -11,7 +11,6 @@ pub mod ProfileChecks
 pub mod RefusalErrors
 pub mod Finds
 pub mod NameLengths
-pub mod Root
 pub mod AtPath
 pub mod ListAt
 pub mod BytesAt

@@ -22,7 +22,6 @@ mod path;
 mod paths;
 mod profile;
 mod refusal;
-mod root;
 mod search;
 mod walks;
 
@@ -44,6 +43,5 @@ pub use path::Path;
 pub use paths::{PathLookup, VisiblePathLookup, look_up};
 pub use profile::{find_profile_breach, follows_hard_tail};
 pub use refusal::{Refusal, refuse_if, to_refusal};
-pub use root::find_root;
 pub use search::{SlotPosition, find_unhidden};
 pub use walks::{TreeItem, walk_tree};

@@ -1,16 +1,28 @@
 -- A thread that was read, with its names in another order.
-use Rattle.std.proofs.Common.{◌≡◌, ◌∙◌, List, ap, subst, sym}
+use Rattle.std.proofs.Common.{◌≡◌, ◌∙◌, List, None, ap, subst, sym}
 use Rattle.lfs_device.specs.declared.device.BlockDevice.{Ghosts}
 use Rattle.lfs_device.specs.declared.error.Error.TheVariants.{Corrupt}
-use Rattle.lfs_mount.proofs.Common.{BlockStates, Disk, ordered_disk, OnlyReadsSince, fault_count, GivesDeviceBack, KeptThread, PairHeader, ThreadView, disk_of_device}
+use Rattle.lfs_mount.proofs.Common.{BlockStates, CallEvent, Disk, ordered_disk, OnlyReadsSince, fault_count, GivesDeviceBack, KeptThread, PairHeader, ThreadView, disk_of_device}
 use Rattle.lfs_model.specs.declared.order.NameOrder.TheVariants.{LongerFirst}
 use Rattle.lfs_model.specs.declared.order.NameOrder.{NameOrder}
 use Rattle.lfs_thread.specs.Kept.{kept_in_order, kept_of_device}
-use Rattle.lfs_mount.specs.ReadImage.{IsAcceptedIn}
-use Rattle.lfs_mount.specs.declared.orders.OrderViolations.{OrderViolations}
+use Rattle.lfs_mount.specs.Orders.{violation_in_order}
+use Rattle.lfs_mount.specs.ReadImage.{IsAcceptedIn, IsMountedImage, view_in_order}
+use Rattle.lfs_mount.specs.declared.findings.ImageFindings.{ImageFindings}
+
+-- the thread in an order of names that its image has
+pub mounted_image : (disk : Disk) (history : List CallEvent) (t u : ThreadView) (found : ImageFindings) (order : NameOrder) → IsAcceptedIn disk history t found
+    → violation_in_order order found.violations ≡ None → u ≡ view_in_order order t → IsMountedImage disk history u found
+mounted_image disk history t u found order read fits is = subst (λ (v : ThreadView). IsMountedImage disk history v found) (sym is) (record {
+  mounted = read.mounted order fits;
+  root = read.root;
+  fits = fits;
+  accepted = λ other none. (read.mounted other none).accepted;
+  broken = read.broken;
+})
 
 -- the device of a thread that was read, where the image isn't accepted in the order that is wanted
-pub refused_back : {D : Type 0} (g : Ghosts D) (old back : D) (t : ThreadView) (found : OrderViolations) → IsAcceptedIn (disk_of_device g old) (g.history old) t found
+pub refused_back : {D : Type 0} (g : Ghosts D) (old back : D) (t : ThreadView) (found : ImageFindings) → IsAcceptedIn (disk_of_device g old) (g.history old) t found
     → ordered_disk t.kept.disk.order (disk_of_device g back) ≡ t.kept.disk → g.history back ≡ t.kept.history → GivesDeviceBack g old back Corrupt
 refused_back g old back t found read disk history = record {
   disk = ap (ordered_disk LongerFirst) (disk ∙ read.disk_is);

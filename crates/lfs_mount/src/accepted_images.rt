@@ -5,7 +5,7 @@ ghost use Rattle.lfs_blocks.specs.Next.{IsNextFree};
 ghost use Rattle.lfs_model.specs.format.Disk.{ordered_disk};
 ghost use Rattle.lfs_model.specs.layers.BlockSets.{IsFree};
 ghost use Rattle.lfs_model.specs.session.History.{read_count};
-ghost use Rattle.lfs_model.specs.format.Thread.{Pair as ThreadPair};
+ghost use Rattle.lfs_model.specs.format.Thread.{Pair as ThreadPair, count_before_root};
 ghost use Rattle.lfs_model.specs.tree.View.{IsAccepted};
 ghost use Rattle.lfs_model.specs.layers.Violations.{Breaks, PairsBreak};
 ghost use Rattle.lfs_model.specs.declared.order.NameOrder.{NameOrder};
@@ -15,22 +15,23 @@ ghost use Rattle.lfs_tag.specs.FieldsView.{move_view};
 ghost use Rattle.lfs_thread.specs.ThreadDevice.{GivesDeviceBack};
 ghost use Rattle.lfs_thread.specs.Kept.{disk_of_device, header_pairs};
 ghost use Rattle.lfs_thread.specs.MountErrors.{ReadsReportingFaults, error_of_mount};
-ghost use Rattle.lfs_mount.specs.Accepted.{IsHeadersVerdict, IsThreadVerdict, IsMountedOn};
+ghost use Rattle.lfs_mount.specs.Accepted.{IsHeadersVerdict, IsThreadVerdict};
 ghost use Rattle.lfs_mount.specs.TrueViolation.{IsTrueViolation};
 ghost use Rattle.lfs_mount.specs.Members.{AreThreadDirectories, IsThreadRead, IsHeaderThread, header_descriptions};
 ghost use Rattle.lfs_mount.specs.Orders.{violation_in_order};
-ghost use Rattle.lfs_mount.specs.ReadImage.{ReadsLikeMount, IsAcceptedIn};
+ghost use Rattle.lfs_mount.specs.ReadImage.{ReadsLikeMount, IsAcceptedIn, IsMountedImage};
+ghost use Rattle.lfs_mount.specs.MountFaults.{MountMayReport};
 ghost use Rattle.lfs_mount.specs.MountReads.{check_reads, pair_reads};
 ghost use Rattle.lfs_mount.specs.Start.{allocation_seed, image_seed, mixed_seed};
 
 use crate::check::check_thread;
+use crate::findings::{CheckedImage, ImageFindings};
 use crate::members::{describe_headers, directory_start_addresses};
 use crate::moves::check_move;
 use crate::orders::OrderViolations;
 use crate::superblock_chain::superblock_chain_length;
 use lfs_blocks::BlockMap;
 use lfs_device::{BlockDevice, Error};
-use lfs_model::NameOrder;
 use lfs_pair::Pair;
 use lfs_tag::MoveState;
 use lfs_thread::{MountError, Thread};
@@ -44,62 +45,58 @@ use std::alloc::Global;
 ///
 /// Finds the order of the names in the directories. In littlefs's own code the longer name comes
 /// first if the other one is a prefix of it (`lfs_dir_find_match`). If both orders fit, the thread
-/// has that one.
+/// has that one. The findings say which orders fit, and with which pair the root directory begins.
 ///
 /// Errors: `Corrupt` exactly where the image is accepted in neither order, with a rule that it
 /// breaks. The rules of names are then those of the order of littlefs's own code. `Io` where a read
 /// failed, and `NoMemory` where memory isn't granted. The device comes back with an error.
-pub fn mount<D: BlockDevice>(alloc: Global, device: D) -> Result<Thread<D>, (D, MountError)>
-    ensures mounted { IfOk result (λ t. IsMountedOn (ordered_disk t.kept.disk.order (disk_of_device D.BlockDevice device)) (D.history device) t) }
-    ensures longer { IfOk result (λ t. t.kept.disk.order ≡ ShorterFirst → (ps : List ThreadPair) → ¬ IsAccepted (ordered_disk LongerFirst (disk_of_device D.BlockDevice device)) ps) }
+pub fn mount<D: BlockDevice>(alloc: Global, device: D) -> Result<CheckedImage<D>, (D, MountError)>
+    ensures mounted { IfOk result (λ m. IsMountedImage (disk_of_device D.BlockDevice device) (D.history device) m.thread m.findings) }
+    ensures longer { IfOk result (λ m. m.thread.kept.disk.order ≡ ShorterFirst → (ps : List ThreadPair) → ¬ IsAccepted (ordered_disk LongerFirst (disk_of_device D.BlockDevice device)) ps) }
     ensures broken { IfErr result (λ e. IsTrueViolation (ordered_disk LongerFirst (disk_of_device D.BlockDevice device)) e.1) }
     ensures corrupt { IfErr result (λ e. error_of_mount e.1 ≡ Error.Corrupt → (order : NameOrder) (ps : List ThreadPair) → ¬ IsAccepted (ordered_disk order (disk_of_device D.BlockDevice device)) ps) }
     ensures back { IfErr result (λ e. GivesDeviceBack D.BlockDevice device e.0 (error_of_mount e.1)) }
     // Those of a fetch and one more for each pair, two more, and one for each block of a file's list.
-    ensures few { IfOk result (ReadsLikeMount (disk_of_device D.BlockDevice device) (D.history device)) }
+    ensures few { IfOk result (λ m. ReadsLikeMount (disk_of_device D.BlockDevice device) (D.history device) m.thread) }
 {
-    let (mut thread, found) = read_and_check(alloc, device)?;
-    match found.preferred() {
+    let mut image = read_and_check(alloc, device)?;
+    match image.findings.violations.preferred() {
         Ok(order) => {
-            thread.set_order(order);
-            Ok(thread)
+            image.thread.set_order(order);
+            Ok(image)
         }
-        Err(violation) => Err((thread.into_device(), MountError::Corrupt(violation))),
+        Err(violation) => Err((image.thread.into_device(), MountError::Corrupt(violation))),
     }
 }
 
-/// Mounts the image of a device as [`mount`] does, where its directories have their names in that
-/// order.
+/// Mounts a device as [`mount`] does. Drops the violation, for callers that need only `Corrupt`.
 ///
-/// Errors: `Corrupt` exactly where the image isn't accepted in that order, with a rule that it breaks
-/// there, and those of [`mount`].
-pub fn mount_in_order<D: BlockDevice>(
-    alloc: Global,
-    device: D,
-    order: NameOrder,
-) -> Result<Thread<D>, (D, MountError)>
-    ensures mounted { IfOk result (IsMountedOn (ordered_disk order (disk_of_device D.BlockDevice device)) (D.history device)) }
-    ensures broken { IfErr result (λ e. IsTrueViolation (ordered_disk order (disk_of_device D.BlockDevice device)) e.1) }
-    ensures corrupt { IfErr result (λ e. error_of_mount e.1 ≡ Error.Corrupt → (ps : List ThreadPair) → ¬ IsAccepted (ordered_disk order (disk_of_device D.BlockDevice device)) ps) }
-    ensures back { IfErr result (λ e. GivesDeviceBack D.BlockDevice device e.0 (error_of_mount e.1)) }
-    ensures few { IfOk result (ReadsLikeMount (disk_of_device D.BlockDevice device) (D.history device)) }
+/// Errors are those of [`mount`].
+pub fn mount_image<D: BlockDevice>(alloc: Global, device: D) -> Result<CheckedImage<D>, (D, Error)>
+    ensures mounted { IfOk result (λ m. IsMountedImage (disk_of_device D.BlockDevice device) (D.history device) m.thread m.findings) }
+    ensures longer { IfOk result (λ m. m.thread.kept.disk.order ≡ ShorterFirst → (ps : List ThreadPair) → ¬ IsAccepted (ordered_disk LongerFirst (disk_of_device D.BlockDevice device)) ps) }
+    ensures corrupt { IfErr result (λ e. e.1 ≡ Error.Corrupt → (order : NameOrder) (ps : List ThreadPair) → ¬ IsAccepted (ordered_disk order (disk_of_device D.BlockDevice device)) ps) }
+    ensures errors { IfErr result (λ e. MountMayReport e.1) }
+    ensures back { IfErr result (λ e. GivesDeviceBack D.BlockDevice device e.0 e.1) }
+    ensures few { IfOk result (λ m. ReadsLikeMount (disk_of_device D.BlockDevice device) (D.history device) m.thread) }
 {
-    let (mut thread, found) = read_and_check(alloc, device)?;
-    if let Some(violation) = found.get(order) {
-        return Err((thread.into_device(), MountError::Corrupt(violation)));
+    match mount(alloc, device) {
+        Ok(image) => Ok(image),
+        Err((device, error)) => Err((device, error.into())),
     }
-    thread.set_order(order);
-    Ok(thread)
 }
 
-// Reads the image of a device, and finds for each order of names a rule that it breaks, or none
-// where it is accepted. `Corrupt` comes where something else than its directories is wrong, and so
-// in each order.
-pub(crate) fn read_and_check<D: BlockDevice>(
+/// Reads the image of a device, and finds for each order of names a rule that it breaks, or none
+/// where it is accepted. The thread has no order yet: give it one with `set_order`.
+///
+/// Errors: `Corrupt` where the image breaks a rule in each order, which is the same in both. `Io`
+/// where a read failed, and `NoMemory` where memory isn't granted. The device comes back with an
+/// error.
+pub fn read_and_check<D: BlockDevice>(
     alloc: Global,
     device: D,
-) -> Result<(Thread<D>, OrderViolations), (D, MountError)>
-    ensures read { IfOk result (λ r. IsAcceptedIn (disk_of_device D.BlockDevice device) (D.history device) r.0 r.1) }
+) -> Result<CheckedImage<D>, (D, MountError)>
+    ensures read { IfOk result (λ m. IsAcceptedIn (disk_of_device D.BlockDevice device) (D.history device) m.thread m.findings) }
     ensures broken { IfErr result (λ e. (order : NameOrder) → IsTrueViolation (ordered_disk order (disk_of_device D.BlockDevice device)) e.1) }
     ensures back { IfErr result (λ e. GivesDeviceBack D.BlockDevice device e.0 (error_of_mount e.1)) }
 {
@@ -113,34 +110,38 @@ pub(crate) fn read_and_check<D: BlockDevice>(
         &parts.pairs,
         &state,
     ) {
-        Ok(found) => Ok((Thread::from_parts(parts), found)),
+        Ok(findings) => Ok(CheckedImage {
+            thread: Thread::from_parts(parts),
+            findings,
+        }),
         Err(error) => Err((parts.device, error)),
     }
 }
 
-// Checks the image whose thread was read, marks the blocks of its files, and finds for each order of
-// names a rule that it breaks, or none. The map goes on at another block than after an earlier
-// mount.
+// Checks the image whose thread was read, marks the blocks of its files, and finds where its root
+// begins, and for each order of names a rule that it breaks, or none. The map goes on at another
+// block than after an earlier mount.
 fn check_image<D: BlockDevice>(
     alloc: Global,
     device: &mut D,
     map: &mut BlockMap,
     pairs: &[Pair],
     state: &MoveState,
-) -> Result<OrderViolations, MountError>
+) -> Result<ImageFindings, MountError>
     requires { IsThreadRead (disk_of_device D.BlockDevice device.old) (D.history device.old) pairs.now map.old (move_view state.now) }
-    ensures image { IfOk result (λ found. (order : NameOrder) → IsHeadersVerdict (ordered_disk order (disk_of_device D.BlockDevice device.old)) pairs.now (violation_in_order order found) map.old map.new) }
+    ensures root { IfOk result (λ found. found.root ≡ count_before_root (header_pairs (disk_of_device D.BlockDevice device.old) pairs.now)) }
+    ensures image { IfOk result (λ found. (order : NameOrder) → IsHeadersVerdict (ordered_disk order (disk_of_device D.BlockDevice device.old)) pairs.now (violation_in_order order found.violations) map.old map.new) }
     ensures broken { (v : Violation) → result ≡ Err (MountError.Corrupt v) → (order : NameOrder) → Breaks (ordered_disk order (disk_of_device D.BlockDevice device.old)) v }
     ensures device { ReadsReportingFaults D.BlockDevice device.old device.new result }
-    ensures few { IfOk result (λ found. (order : NameOrder) → violation_in_order order found ≡ None
+    ensures few { IfOk result (λ found. (order : NameOrder) → violation_in_order order found.violations ≡ None
         → read_count (D.history device.new) ≤ read_count (D.history device.old) + check_reads (disk_of_device D.BlockDevice device.old) (header_pairs (disk_of_device D.BlockDevice device.old) pairs.now)) }
 {
-    let count = superblock_chain_length(alloc, device, pairs)?;
-    let directories = pairs_from_index(pairs, count);
+    let root = superblock_chain_length(alloc, device, pairs)?;
+    let directories = pairs_from_index(pairs, root);
     check_move(state, directories)?;
-    let found = check_directories(alloc, device, map, directories, state)?;
+    let violations = check_directories(alloc, device, map, directories, state)?;
     start_allocation_elsewhere(map, pairs, device.geometry().profile.search_seed);
-    Ok(found)
+    Ok(ImageFindings { root, violations })
 }
 
 // A number made of the image: how many blocks are used, and the pairs' revisions, which rise with

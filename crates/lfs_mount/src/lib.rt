@@ -7,6 +7,7 @@ mod accepted_images;
 mod check;
 mod directory_scan;
 mod entry;
+mod findings;
 mod lists;
 mod members;
 mod moves;
@@ -15,5 +16,7 @@ mod pass;
 mod reachability;
 mod superblock_chain;
 
-pub use accepted_images::{mount, mount_in_order};
+pub use accepted_images::{mount, mount_image, read_and_check};
+pub use findings::{CheckedImage, ImageFindings};
 pub use lfs_thread::MountError;
+pub use orders::OrderViolations;

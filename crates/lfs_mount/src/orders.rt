@@ -45,27 +45,19 @@ impl NameOrderSet {
     }
 }
 
-// For each order of names a rule that is broken in it. None where all are kept.
+/// For each order of names a rule that an image breaks in it. None where the image is accepted.
 #[derive(Clone, Copy, Drop)]
-pub(crate) struct OrderViolations {
+pub struct OrderViolations {
     pub longer_first: Option<Violation>,
     pub shorter_first: Option<Violation>,
 }
 
 impl OrderViolations {
-    // Returns the rule that is broken in an order, if one is.
-    pub fn get(self, order: NameOrder) -> Option<Violation>
-        ensures { result ≡ violation_in_order order self }
-    {
-        match order {
-            NameOrder::LongerFirst => self.longer_first,
-            NameOrder::ShorterFirst => self.shorter_first,
-        }
-    }
-
-    // Returns the order to take: the longer names first where all rules are kept in both orders, as
-    // in littlefs's own code. Where they are kept in none, the error is the rule that is broken with
-    // the longer names first.
+    /// Returns the order to take: the longer names first where all rules are kept in both orders, as
+    /// in littlefs's own code.
+    ///
+    /// The error comes where they are kept in neither order. It is the rule that is broken with the
+    /// longer names first.
     pub fn preferred(self) -> Result<NameOrder, Violation>
         ensures kept { IfOk result (λ order. violation_in_order order self ≡ None) }
         ensures longer { result ≡ Ok ShorterFirst → is_some (violation_in_order LongerFirst self) ≡ true }

@@ -24,3 +24,4 @@ mod HeldItems
 mod NamesBeside
 mod Order
 mod Reading
+mod FoundOrders

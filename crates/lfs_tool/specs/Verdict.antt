@@ -1,11 +1,14 @@
 -- What a verdict means for a disk.
-use Rattle.std.specs.Prelude.{List}
+use Rattle.std.specs.Prelude.{ℕ, ◌≡◌, false, List}
 use Rattle.lfs_model.specs.format.Disk.{ordered_disk, Disk}
-use Rattle.lfs_model.specs.format.Thread.{Pair}
+use Rattle.lfs_model.specs.format.Thread.{Pair, count_before_root}
+use Rattle.lfs_model.specs.layers.BlockSets.{AreUsed}
+use Rattle.lfs_model.specs.tree.Shown.{used_blocks}
 use Rattle.lfs_model.specs.tree.View.{IsAccepted}
 use Rattle.lfs_model.specs.declared.order.NameOrder.{NameOrder}
 use Rattle.lfs_model.specs.layers.Violations.{Breaks}
 use Rattle.lfs_model.specs.declared.violations.Violation.{Violation}
+use Rattle.lfs_thread.specs.Kept.{ThreadView}
 use Rattle.lfs_tool.specs.ImageSummaries.{HasAcceptedOrders, HasSummary}
 use Rattle.lfs_tool.specs.declared.verdict.AcceptedOrders.{AcceptedOrders}
 use Rattle.lfs_tool.specs.declared.verdict.ImageSummary.{ImageSummary}
@@ -19,6 +22,14 @@ pub record IsSummarized (disk : Disk) (summary : ImageSummary) (orders : Accepte
   pub accepted : IsAccepted (ordered_disk order disk) pairs
   pub has : HasSummary (ordered_disk order disk) pairs summary
   pub fits : HasAcceptedOrders disk orders
+
+-- The thread of an image that is accepted in these orders of names, one of which is `order`. Its root begins with that pair.
+pub record IsAcceptedThread (t : ThreadView) (root : ℕ) (order : NameOrder) (orders : AcceptedOrders) : Type 0 where
+  pub works : t.failed ≡ false
+  pub accepted : IsAccepted (ordered_disk order t.kept.disk) t.kept.pairs
+  pub used : AreUsed t.kept.map (used_blocks t.kept.disk t.kept.pairs)
+  pub root_is : root ≡ count_before_root t.kept.pairs
+  pub fits : HasAcceptedOrders t.kept.disk orders
 
 -- it is accepted in neither order of names
 abbrev pub IsAcceptedInNeither : Disk → Type 0

@@ -3,10 +3,9 @@
 ghost use Rattle.std.specs.Prelude.{◌≡◌, ◌<◌, ◌/◌, ◌%◌, ◌^◌, [], IfErr, IfOk, OnOk, length};
 ghost use Rattle.lfs_device.specs.RamDevice.{ram_blocks, ram_geometry, ram_history};
 ghost use Rattle.lfs_device.specs.DeviceDisk.{disk_of_blocks as shown};
-ghost use Rattle.lfs_model.specs.format.Disk.{ordered_disk, IsWholeImage, disk_of_image};
+ghost use Rattle.lfs_model.specs.format.Disk.{IsWholeImage, disk_of_image};
 ghost use Rattle.lfs_model.specs.format.Geometry.{IsValidGeometry};
 ghost use Rattle.lfs_model.specs.declared.order.NameOrder.TheVariants.{LongerFirst};
-ghost use Rattle.lfs_mount.specs.Accepted.{IsMountedOn};
 ghost use Rattle.lfs_tool.specs.Listings.{IsWalkedThread, IsMountError};
 ghost use Rattle.lfs_lookup.specs.TreeWalk.{tree_items_view};
 
@@ -14,7 +13,7 @@ use crate::input::IMAGE_MAX;
 use crate::{ImageLayout, geometry_of_sizes};
 use lfs_device::{Error, Geometry, RamDevice};
 use lfs_lookup::{TreeItem, walk_tree};
-use lfs_mount::mount;
+use lfs_mount::mount_image;
 use lfs_thread::Thread;
 use std::alloc::Global;
 
@@ -45,17 +44,6 @@ pub fn ram_device_of(image: Vec<u8>, layout: ImageLayout) -> Result<RamDevice, E
     RamDevice::from_bytes(geometry, image)
 }
 
-// Mounts the image of a device. Drops the rule that it breaks: callers need only `Corrupt`.
-fn mount_thread(alloc: Global, device: RamDevice) -> Result<Thread<RamDevice>, Error>
-    ensures mounted { IfOk result (λ t. IsMountedOn (ordered_disk t.kept.disk.order (shown (ram_geometry device) (ram_blocks device))) (ram_history device) t) }
-    ensures err { IfErr result (IsMountError (shown (ram_geometry device) (ram_blocks device))) }
-{
-    match mount(alloc, device) {
-        Ok(thread) => Ok(thread),
-        Err((_device, error)) => Err(error.into()),
-    }
-}
-
 // Returns the thread of an image that is accepted in one of the orders of names, and all its entries.
 pub(crate) fn tree_items_of(
     alloc: Global,
@@ -64,7 +52,10 @@ pub(crate) fn tree_items_of(
     ensures items { IfOk result (λ found. IsWalkedThread (shown (ram_geometry device) (ram_blocks device)) found.0 (tree_items_view found.1.items)) }
     ensures err { IfErr result (IsMountError (shown (ram_geometry device) (ram_blocks device))) }
 {
-    let mut thread = mount_thread(alloc, device)?;
+    let mut thread = match mount_image(alloc, device) {
+        Ok(image) => image.thread,
+        Err((_device, error)) => return Err(error),
+    };
     match walk_tree(alloc, &mut thread) {
         Ok(items) => Ok((thread, items)),
         Err(error) => {

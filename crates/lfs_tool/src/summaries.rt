@@ -14,7 +14,7 @@ ghost use Rattle.lfs_tool.specs.ImageSummaries.{HasSummary, IsSuperblockTold, le
 
 use crate::verdict::ImageSummary;
 use lfs_device::{BlockDevice, Error, Geometry, Profile};
-use lfs_lookup::{OwnedStruct, TreeItem, find_profile_breach, find_root, superblock, walk_tree};
+use lfs_lookup::{OwnedStruct, TreeItem, find_profile_breach, superblock, walk_tree};
 use lfs_tag::{MoveState, Superblock};
 use lfs_thread::Thread;
 use std::alloc::Global;
@@ -86,15 +86,16 @@ fn superblock_to_tell<D: BlockDevice>(
 pub(crate) fn summary_of_thread<D: BlockDevice>(
     alloc: Global,
     thread: &mut Thread<D>,
+    root: usize,
 ) -> Result<ImageSummary, Error>
     requires works { thread.old.failed ≡ false }
     requires accepted { IsAccepted thread.old.kept.disk thread.old.kept.pairs }
     requires used { AreUsed thread.old.kept.map (used_blocks thread.old.kept.disk thread.old.kept.pairs) }
+    requires root { root ≡ count_before_root thread.old.kept.pairs }
     ensures summary { IfOk result (HasSummary thread.old.kept.disk thread.old.kept.pairs) }
     ensures only { OnOk result (OnlyReadsThread thread.old.kept thread.new.kept) }
 {
     let items = walk_tree(alloc, thread)?;
-    let root = find_root(alloc, thread)?;
     let superblock = superblock_to_tell(alloc, thread, root)?;
     let breach = find_profile_breach(alloc, thread, root)?;
     let files = count_files(&items);

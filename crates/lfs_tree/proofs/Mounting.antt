@@ -1,5 +1,5 @@
 -- A mounted image as a tree.
-use Rattle.std.proofs.Common.{ℕ, ◌≡◌, ◌<◌, ◌∙◌, Bool, true, false, List, [], length, nat_eq, Result, Err, refl, sym, ap, subst, arith}
+use Rattle.std.proofs.Common.{ℕ, ◌≡◌, ◌<◌, ◌∙◌, Bool, true, false, not, List, [], length, nat_eq, Option, None, Some, is_some, Result, Err, refl, sym, ap, subst, arith}
 use Rattle.std.specs.List.{IsDistinct}
 use Rattle.std.specs.Prelude.{◌↔◌, IsTrue}
 use Rattle.lfs_device.specs.declared.device.BlockDevice.{Ghosts}
@@ -9,6 +9,9 @@ use Rattle.lfs_device.specs.declared.error.Error.TheVariants.{Io}
 use Rattle.lfs_model.specs.tree.View.{DiskView}
 use Rattle.lfs_model.proofs.BlockSets.{in_flight_count-AreInFlight}
 use Rattle.lfs_model.proofs.Histories.{read_count-since}
+use Rattle.lfs_model.proofs.KeptProfiles.{writable_breaks_none}
+use Rattle.lfs_model.specs.layers.ProfileBreaches.{IsBreachIfAny}
+use Rattle.lfs_model.specs.declared.breaches.ProfileBreach.{ProfileBreach}
 use Rattle.lfs_mount.specs.Accepted.{IsMountedOn}
 use Rattle.lfs_model.specs.declared.order.NameOrder.{NameOrder}
 use Rattle.lfs_model.specs.declared.order.NameOrder.TheVariants.{LongerFirst}
@@ -25,6 +28,13 @@ sound_read a b writable failed now r s = record {
       (subst (λ (sets : BlockStates). AreUsed sets (used_blocks a.disk a.pairs)) (sym r.map) s.used));
   size = ap (λ (sets : BlockStates). length sets) r.map ∙ s.size ∙ ap (λ (d : Disk). block_count d) (sym r.disk);
 }
+
+-- none is broken exactly where the image may be written
+pub none_broken : (disk : Disk) (ps : List Pair) (o : Option ProfileBreach) (none : Bool) → is_some o ≡ not none → IsBreachIfAny disk ps o → IsTrue none ↔ IsWritable disk ps
+none_broken disk ps None true e writable = (λ t. writable, λ w. refl)
+none_broken disk ps None false e writable = absurd (cc)
+none_broken disk ps (Some b) true e broken = absurd (cc)
+none_broken disk ps (Some b) false e broken = (λ t. absurd (cc), λ w. absurd (writable_breaks_none disk ps b w broken))
 
 none_twice : IsDistinct nat_eq []
 unfolding IsDistinct

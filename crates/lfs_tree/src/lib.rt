@@ -13,7 +13,6 @@ mod formats;
 mod laws;
 mod lost_lists;
 mod lost_recovery;
-mod mounted_tree;
 mod opened_contents;
 mod orphans;
 mod readers;

@@ -37,7 +37,6 @@ use crate::attributes_at::{remove_attr_at, set_attr_at};
 use crate::entries_at::{create_empty_file, make_directory_at};
 use crate::formats::format;
 use crate::lost_recovery::recover_thread;
-use crate::mounted_tree::{mount_thread, root_and_profile};
 use crate::remounts::{SpareThreadParts, mount_again};
 use crate::removals_at::remove_at;
 use core::mem::replace_with;
@@ -47,6 +46,7 @@ use lfs_lookup::{
     find_attribute, find_node, find_profile_breach, list_directory, path_has_entries,
 };
 use lfs_model::{NameOrder, ProfileBreach};
+use lfs_mount::mount_image;
 use lfs_tag::{MoveState, Superblock};
 use lfs_thread::Thread;
 use std::alloc::Global;
@@ -92,14 +92,15 @@ impl<D: BlockDevice> Tree<D> {
         ensures errors { IfErr result (λ e. MountMayReport e.1) }
         ensures back { IfErr result (λ e. GivesDeviceBack D.BlockDevice device e.0 e.1) }
     {
-        let mut thread = mount_thread(alloc, device)?;
-        match root_and_profile(alloc, &mut thread) {
-            Ok((root, is_writable)) => Ok(Tree {
-                thread,
+        let mut image = mount_image(alloc, device)?;
+        let root = image.findings.root;
+        match find_profile_breach(alloc, &mut image.thread, root) {
+            Ok(breach) => Ok(Tree {
+                thread: image.thread,
                 root,
-                is_writable,
+                is_writable: breach.is_none(),
             }),
-            Err(error) => Err((thread.into_device(), error)),
+            Err(error) => Err((image.thread.into_device(), error)),
         }
     }
 

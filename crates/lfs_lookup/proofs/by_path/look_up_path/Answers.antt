@@ -1,6 +1,6 @@
 use Rattle.std.proofs.Common.{◌∙◌, ap, map, subst, rules}
 use Rattle.lfs_lookup.proofs.Common.{ancestor_paths, ReadsBinarySearches}
-use Rattle.lfs_lookup.proofs.RootPairs.{root_leads}
+use Rattle.lfs_lookup.proofs.Roots.{root_leads}
 use Rattle.lfs_lookup.proofs.ShownFindings.{shows_at}
 use Rattle.lfs_lookup.proofs.by_path.look_up_path.Goals as goal
 

@@ -1,5 +1,5 @@
 use Rattle.std.proofs.Common.{Err, arith, ◌≡◌, ◌≤◌, ◌+◌, sym, ap, subst, ◌∙◌}
-use Rattle.lfs_mount.proofs.Common.{ordered_disk, Disk, Blocks, OnlyReadsSince, fault_count, read_count, Breaks, OnlyReadsSince-trans, move_view, KeptThread, disk_of_device, mount_reads, err_from_is_err_and}
+use Rattle.lfs_mount.proofs.Common.{count_before_root, header_pairs, ordered_disk, Disk, Blocks, OnlyReadsSince, fault_count, read_count, Breaks, OnlyReadsSince-trans, move_view, KeptThread, disk_of_device, mount_reads, err_from_is_err_and}
 use Rattle.lfs_model.proofs.Histories.{read_count-since}
 use Rattle.lfs_thread.specs.Kept.{IsCacheCurrent}
 use Rattle.lfs_mount.specs.ReadImage.{view_in_order}
@@ -55,6 +55,7 @@ returns-in-Ok-clause-read g c =
       disk_is = ap (λ (k : KeptThread). k.disk) kept ∙ ap (λ (o : NameOrder). ordered_disk o now) (ap (λ (k : KeptThread). k.disk.order) parts.ensures.same ∙ ap (λ (d : Disk). d.order) read.disk) ∙ disk_now device ∙ from;
       reads = subst (λ (k : KeptThread). OnlyReadsSince old.blocks first k.history) (sym kept) (OnlyReadsSince-trans before device.reads (ap (λ (d : Disk). d.blocks) from));
       no_fault = ap (λ (k : KeptThread). fault_count k.history) kept ∙ quiet;
+      root = c.in-Ok.ensures.root ∙ sym (ap count_before_root (ap (λ (k : KeptThread). k.pairs) kept ∙ ap (λ (d : Disk). header_pairs d parts.result.pairs.items) (disk_now device) ∙ ap (header_pairs disk) (sym c.deref.ensures.value)));
       mounted = λ order fits.
           let image = c.in-Ok.ensures.image order in
           is_mounted (ordered_disk order old) (ordered_disk order disk) (ordered_disk order now) first history later

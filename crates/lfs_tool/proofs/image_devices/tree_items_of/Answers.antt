@@ -8,14 +8,14 @@ pub returns-in-Ok-clause-items : goal.returns-in-Ok-clause-items
 returns-in-Ok-clause-items c =
     let disk = shown (ram_geometry c.args.device) (ram_blocks c.args.device) in
     let places = tree_items_view c.in-Ok.items.items in
-    let m = c.in_ok-thread.ensures.mounted in
+    let m = c.in-Ok.ensures.mounted.mounted in
     let e = c.in-Ok.ensures in
     let same = ap (λ (d : Disk). ordered_disk d.order disk) (sym e.reading.only.disk) in
     record {
       works = e.reading.works;
       disk_is = e.reading.only.disk ∙ m.disk_is ∙ same;
-      accepted = subst (λ d. IsAccepted d c.walk_tree.new.thread.kept.pairs) same (subst (IsAccepted (ordered_disk c.in_ok-thread.thread.kept.disk.order disk)) (sym e.reading.only.pairs) m.accepted);
-      walked = subst (λ d. AreWalkItems d c.walk_tree.new.thread.kept.pairs places) (m.disk_is ∙ same) (subst (λ ps. AreWalkItems c.in_ok-thread.thread.kept.disk ps places) (sym e.reading.only.pairs) e.walked);
+      accepted = subst (λ d. IsAccepted d c.walk_tree.new.thread.kept.pairs) same (subst (IsAccepted (ordered_disk c.in-Ok.image.thread.kept.disk.order disk)) (sym e.reading.only.pairs) m.accepted);
+      walked = subst (λ d. AreWalkItems d c.walk_tree.new.thread.kept.pairs places) (m.disk_is ∙ same) (subst (λ ps. AreWalkItems c.in-Ok.image.thread.kept.disk ps places) (sym e.reading.only.pairs) e.walked);
     }
 
 pub returns-in-Err-clause-err : goal.returns-in-Err-clause-err

@@ -1,28 +1,31 @@
-use Rattle.std.proofs.Common.{subst, sym, ap}
-use Rattle.lfs_tool.proofs.Common.{ordered_disk, Disk, AreUsed, used_blocks, IsAccepted, error_of_mount}
-use Rattle.lfs_model.specs.declared.order.NameOrder.TheVariants.{LongerFirst}
-use Rattle.lfs_tool.specs.Verdict.{IsSummarized, BreaksInSomeOrder}
+use Rattle.std.proofs.Common.{sym, subst}
+use Rattle.std.specs.Prelude.{IfOk}
+use Rattle.lfs_device.specs.DeviceDisk.{disk_of_blocks}
+use Rattle.lfs_device.specs.RamDevice.{ram_history}
+use Rattle.lfs_tool.proofs.Common.{ordered_disk, Disk, IsDiskVerdict, ram_blocks, ram_geometry}
+use Rattle.lfs_model.specs.declared.order.NameOrder.TheVariants.{LongerFirst, ShorterFirst}
+use Rattle.lfs_model.specs.layers.Violations.{Breaks}
+use Rattle.lfs_mount.specs.ReadImage.{IsAcceptedIn}
+use Rattle.lfs_mount.specs.TrueViolation.{IsTrueViolation}
 use Rattle.lfs_tool.proofs.judgement.judge_device.Goals as goal
 
-pub judge_thread-requires-clause-used : goal.judge_thread-requires-clause-used
-judge_thread-requires-clause-used c =
-    let m = c.in-Ok.ensures.mounted in
-    subst (λ (d : Disk). AreUsed c.in-Ok.thread.kept.map (used_blocks d c.in-Ok.thread.kept.pairs)) (sym m.disk_is) m.used
+pub judge_findings-requires : goal.judge_findings-requires
+judge_findings-requires c =
+    let read = c.in-Ok.ensures.read in
+    (ram_history c.args.device, subst (λ (d : Disk). IsAcceptedIn d (ram_history c.args.device) c.in-Ok.image.thread c.in-Ok.image.findings) (sym read.disk_is) read)
 
-pub judge_thread-requires-clause-longer : goal.judge_thread-requires-clause-longer
-judge_thread-requires-clause-longer c = λ is (ps, a).
-    c.in-Ok.ensures.longer is ps (subst (λ (d : Disk). IsAccepted (ordered_disk LongerFirst d) ps) c.in-Ok.ensures.mounted.disk_is a)
+pub returns-in-Ok-clause-verdict : goal.returns-in-Ok-clause-verdict
+returns-in-Ok-clause-verdict c = subst (λ (d : Disk). IfOk c.judge_findings.result (IsDiskVerdict d)) c.in-Ok.ensures.read.disk_is c.judge_findings.ensures.verdict
 
-pub returns-in-Ok-judge_thread-clause-verdict : goal.returns-in-Ok-judge_thread-clause-verdict
-returns-in-Ok-judge_thread-clause-verdict c = subst (λ (d : Disk). IsSummarized (ordered_disk LongerFirst d) c.in-Ok-judge_thread.summary c.in-Ok-judge_thread.orders) c.in-Ok.ensures.mounted.disk_is c.in-Ok-judge_thread.ensures
+pub refuse_image-requires-clause-longer : goal.refuse_image-requires-clause-longer
+refuse_image-requires-clause-longer c =
+    let disk = disk_of_blocks (ram_geometry c.args.device) (ram_blocks c.args.device) in
+    subst (λ (d : Disk). Breaks (ordered_disk LongerFirst d) c.in-Corrupt.violation) (sym c.in-Err.ensures.back.disk) (subst (IsTrueViolation (ordered_disk LongerFirst disk)) c.in-Corrupt.is (c.in-Err.ensures.broken LongerFirst))
 
-pub broken_rule_of-requires-clause-refused : goal.broken_rule_of-requires-clause-refused
-broken_rule_of-requires-clause-refused c = λ order ps a.
-    c.in-Err.ensures.corrupt (ap error_of_mount c.in-Corrupt.is) order ps (subst (λ (d : Disk). IsAccepted (ordered_disk order d) ps) c.in-Err.ensures.back.disk a)
+pub refuse_image-requires-clause-shorter : goal.refuse_image-requires-clause-shorter
+refuse_image-requires-clause-shorter c =
+    let disk = disk_of_blocks (ram_geometry c.args.device) (ram_blocks c.args.device) in
+    subst (λ (d : Disk). Breaks (ordered_disk ShorterFirst d) c.in-Corrupt.violation) (sym c.in-Err.ensures.back.disk) (subst (IsTrueViolation (ordered_disk ShorterFirst disk)) c.in-Corrupt.is (c.in-Err.ensures.broken ShorterFirst))
 
-pub returns-in_ok-rule-in-Corrupt-clause-verdict : goal.returns-in_ok-rule-in-Corrupt-clause-verdict
-returns-in_ok-rule-in-Corrupt-clause-verdict c =
-    let rule = c.in_ok-rule-in-Corrupt in (
-      λ order ps a. c.in-Err.ensures.corrupt (ap error_of_mount c.in-Corrupt.is) order ps a,
-      subst (λ (d : Disk). BreaksInSomeOrder d rule.rule.violation) c.in-Err.ensures.back.disk rule.ensures.broken,
-    )
+pub returns-in-Corrupt-clause-verdict : goal.returns-in-Corrupt-clause-verdict
+returns-in-Corrupt-clause-verdict c = subst (λ (d : Disk). IfOk c.refuse_image.result (IsDiskVerdict d)) c.in-Err.ensures.back.disk c.refuse_image.ensures.verdict

@@ -12,7 +12,7 @@ use Rattle.lfs_tool.proofs.summaries.summary_of_thread.Goals as goal
 
 pub returns-clause-only : goal.returns-clause-only
 returns-clause-only g c =
-    let two = only_trans c.walk_tree.ensures.reading.only c.find_root.ensures.reading.only in
+    let two = c.walk_tree.ensures.reading.only in
     only_trans (only_trans two c.superblock_to_tell.ensures.only.0) c.find_profile_breach.ensures.reading.only
 
 pub returns-clause-summary : goal.returns-clause-summary
@@ -20,7 +20,7 @@ returns-clause-summary g c =
     let disk = c.args.thread.now.kept.disk in
     let pairs = c.args.thread.now.kept.pairs in
     let items = c.in_ok-items.items.items in
-    let two = only_trans c.walk_tree.ensures.reading.only c.find_root.ensures.reading.only in
+    let two = c.walk_tree.ensures.reading.only in
     let three = only_trans two c.superblock_to_tell.ensures.only.0 in
     let four = only_trans three c.find_profile_breach.ensures.reading.only in
     let (entries, (walk, shows)) = c.in_ok-items.ensures.walked in
@@ -38,7 +38,7 @@ returns-clause-summary g c =
       blocks = c.geometry-geometry.ensures.count ∙ ap block_count four.disk;
       recover = c.has_unfinished_operation.ensures ∙ ap gstate_needs_recovery (c.state-state.ensures ∙ ap pairs_gstate four.pairs);
       superblock = subst (λ (ps : List Pair). IsSuperblockTold disk.profile ps c.in_ok-superblock.superblock) two.pairs
-          (subst (λ (d : Disk). IsSuperblockTold d.profile c.find_root.new.thread.kept.pairs c.in_ok-superblock.superblock) two.disk c.in_ok-superblock.ensures.told);
+          (subst (λ (d : Disk). IsSuperblockTold d.profile c.walk_tree.new.thread.kept.pairs c.in_ok-superblock.superblock) two.disk c.in_ok-superblock.ensures.told);
       inline_max = c.lesser_inline_max.ensures ∙ ap₂ lesser_inline_max (c.geometry-geometry.ensures.profile ∙ ap (λ (d : Disk). d.profile) four.disk) (c.geometry-geometry.ensures.block_size ∙ ap (λ (d : Disk). d.block_size) four.disk);
       breach = subst (λ (ps : List Pair). IsBreachIfAny disk ps c.in_ok-breach.breach) three.pairs
           (subst (λ (d : Disk). IsBreachIfAny d c.superblock_to_tell.new.thread.kept.pairs c.in_ok-breach.breach) three.disk c.in_ok-breach.ensures.is);

@@ -1,6 +1,6 @@
 use Rattle.std.proofs.Common.{ap, map, subst, ◌∙◌}
 use Rattle.lfs_tree.proofs.Common.{last_name, LeadsToResult}
-use Rattle.lfs_lookup.proofs.RootPairs.{root_leads}
+use Rattle.lfs_lookup.proofs.Roots.{root_leads}
 use Rattle.lfs_tree.proofs.entries_at.find_at_path.Goals as goal
 
 pub look_up-requires-clause-root : goal.look_up-requires-clause-root

@@ -16,6 +16,8 @@ mod blank_appends;
 #[cfg(test)]
 mod failed_sessions;
 #[cfg(test)]
+mod kept_files;
+#[cfg(test)]
 mod limits;
 #[cfg(test)]
 mod lines;

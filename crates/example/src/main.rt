@@ -1,6 +1,6 @@
 // SPDX-License-Identifier: BSD-3-Clause
 //! File systems in memory. First it makes a directory, writes a file, mounts the device again, and reads the file. Then come a
-//! device of your own, a power loss and its recovery, and a list of operations.
+//! device of your own, with settings, a counter and a log on it, a power loss and its recovery, and a list of operations.
 #![tactic(auto)]
 
 mod operations;
@@ -40,6 +40,7 @@ fn main(rt: HostRuntime) -> io::Result<()> {
         Err(error) => println!(rt; "error {error:?} {}", error.number())?,
     }
     own_device::print_used_blocks_on_chip(&rt)?;
+    own_device::print_files_kept_on_chip(&rt)?;
     recovery::print_paths_after_rename_stops(&rt)?;
     operations::print_example_replies(&rt)
 }

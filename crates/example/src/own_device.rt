@@ -8,8 +8,9 @@ ghost use Rattle.lfs_device.specs.Bytes.{ElementsAreBytes};
 
 use lfs_device::{BlockDevice, Error, Geometry, Trace};
 use lfs_fs::format;
+use saved_files::{append_to_log, raise_counter, read_settings, save_settings, set_counter, start};
 use std::alloc::Global;
-use std::io;
+use std::{io, str};
 
 // A chip: its bytes, block after block, and its history of calls, which only proofs see.
 #[derive(Drop)]
@@ -129,10 +130,34 @@ fn used_block_count_on_chip(alloc: Global) -> Result<u32, Error> {
     session.used_count()
 }
 
+// Keeps settings, a counter and a log on a chip. Returns the settings that the next start reads, and the counter when it was raised.
+fn keep_files_on_chip(alloc: Global) -> Result<(Vec<u8>, u32), Error> {
+    let chip = Chip::new(alloc, Geometry::new(1024, 128, 8)?)?;
+    let mut session = format(alloc, chip).map_err(|(_, error)| error)?;
+    save_settings(&mut session, alloc, b"contrast 3")?;
+    append_to_log(&mut session, alloc, b"started\n")?;
+    set_counter(&mut session, alloc, 41)?;
+    let number = raise_counter(&mut session, alloc)?;
+    save_settings(&mut session, alloc, b"contrast 5")?;
+    let mut next = start(alloc, session.unmount())?;
+    Ok((read_settings(&mut next, alloc)?, number))
+}
+
 /// Prints how many there are.
 pub fn print_used_blocks_on_chip(rt: &HostRuntime) -> io::Result<()> {
     match used_block_count_on_chip(rt.alloc()) {
         Ok(count) => println!(rt; "a device of your own: {count} blocks used"),
+        Err(error) => println!(rt; "error {error:?}"),
+    }
+}
+
+/// Prints what an application keeps there.
+pub fn print_files_kept_on_chip(rt: &HostRuntime) -> io::Result<()> {
+    match keep_files_on_chip(rt.alloc()) {
+        Ok((settings, number)) => println!(rt;
+            "kept on it: {}, counter {number}",
+            str::from_utf8(&settings).unwrap_or("no text")
+        ),
         Err(error) => println!(rt; "error {error:?}"),
     }
 }

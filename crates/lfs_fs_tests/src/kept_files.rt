@@ -53,7 +53,11 @@ fn read_log(session: &mut Session<RamDevice>, alloc: Global) -> Result<Vec<u8>, 
 }
 
 // Whether a start finds the new state, or the old one. None where it finds another.
-fn is_change_found(alloc: Global, device: RamDevice, change: Change) -> Result<Option<bool>, Error> {
+fn is_change_found(
+    alloc: Global,
+    device: RamDevice,
+    change: Change,
+) -> Result<Option<bool>, Error> {
     let mut session = start(alloc, device)?;
     let settings = read_settings(&mut session, alloc)?;
     let number = read_counter(&mut session, alloc)?;
@@ -170,6 +174,9 @@ fn are_pairs_in_order(letters: &[u8]) -> bool {
 fn log_of_many_stops_has_whole_entries(rt: HostRuntime) -> Result<(), Fail> {
     let log = log_of_stopped_sessions(rt.alloc())?;
     let entries = log.strip_prefix(b"first ").unwrap_or_default();
-    assert!(rt; entries.len() > 4 && are_pairs_in_order(entries), "{entries:?}");
+    assert!(rt;
+        entries.len() > 4 && are_pairs_in_order(entries),
+        "{entries:?}"
+    );
     Ok(())
 }

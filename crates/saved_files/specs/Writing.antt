@@ -1,4 +1,4 @@
--- A file is written: opened, written and closed.
+-- A file is written: opened, written and closed. A file is read: opened, read whole and closed.
 use Rattle.std.specs.Prelude.{ℕ, ◌≡◌, ◌⊎◌, true, false, List, Option, Some, None}
 use Rattle.lfs_model.specs.tree.Tree.{Path, Node, FileNode, DirectoryNode, Tree}
 use Rattle.lfs_model.specs.session.Operations.{FlagsOfOpen}
@@ -56,3 +56,14 @@ pub record IsWritten (path : Path) (flags : FlagsOfOpen) (bytes : List ℕ) (old
 -- the session works on, and has written the file
 abbrev pub WritesFile : (path : List ℕ) → FlagsOfOpen → List ℕ → SystemState → SystemState → Type 0
 WritesFile path flags bytes from to = (s : Session) → from.state ≡ Healthy s → (t : Session) × ((to.state ≡ Healthy t) × IsWritten (path_or_root path) flags bytes s.tree t.tree)
+
+-- ---- a file that is read
+
+-- wherever power is lost between these states, the next start has the file as it was, and all else
+abbrev pub SurvivesRead : (path : List ℕ) → SystemState → SystemState → Type 0
+SurvivesRead path from to = (s : Session) → from.state ≡ Healthy s → SurvivesWith (HasBytesAt (path_or_root path) (file_bytes (s.tree (path_or_root path))) s.tree) from to
+
+-- the file has these bytes, and the session works on, with the file as it was, and all else
+abbrev pub ReadsFile : (path bytes : List ℕ) → SystemState → SystemState → Type 0
+ReadsFile path bytes from to = (s : Session) → from.state ≡ Healthy s → (bytes_if_file (s.tree (path_or_root path)) ≡ Some bytes)
+    × ((t : Session) × ((to.state ≡ Healthy t) × HasBytesAt (path_or_root path) bytes s.tree t.tree))

@@ -6,9 +6,9 @@ ghost use Rattle.lfs_fs.specs.Starts.{LivesOn};
 ghost use Rattle.saved_files.specs.Working.{WorksOn};
 ghost use Rattle.saved_files.specs.Counter.{CountsTo, RaisesTo, SetsTo, SurvivesCount, SurvivesRaise, SurvivesSet, number_of};
 
-use crate::files::{saving_flags, write_file};
+use crate::files::{read_file, saving_flags, write_file};
 use lfs_device::{BlockDevice, Error};
-use lfs_fs::{OpenFlags, Session};
+use lfs_fs::Session;
 use std::alloc::Global;
 
 // The number in the first four bytes, or 0 where there are fewer.
@@ -25,16 +25,14 @@ fn number_of(bytes: &[u8]) -> u32
 ///
 /// # Errors
 ///
-/// `NoEnt` where no counter was set, and those of `open`, `read` and `close`.
+/// Those of [`read_file`], `NoEnt` where no counter was set.
 pub fn read_counter<D: BlockDevice>(session: &mut Session<D>, alloc: Global) -> Result<u32, Error>
     ensures survives { SurvivesCount (system_state session.old) (system_state session.new) }
     ensures lived { LivesOn (system_state session.old) (system_state session.new) }
     ensures works { OnOk result (WorksOn (system_state session.old) (system_state session.new)) }
     ensures is { IfOk result (λ number. CountsTo number (system_state session.old) (system_state session.new)) }
 {
-    let reader = session.open(alloc, b"/counter", OpenFlags::READ)?;
-    let bytes = session.read(alloc, reader, 4)?;
-    session.close(alloc, reader)?;
+    let bytes = read_file(session, alloc, b"/counter")?;
     Ok(number_of(&bytes))
 }
 

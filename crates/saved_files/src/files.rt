@@ -1,4 +1,4 @@
-// What settings, a counter and a log share: a start, and a file that is opened, written and closed.
+// What settings, a counter and a log share: a start, a file that is written, and one that is read.
 
 ghost use Rattle.std.specs.Prelude.{◌≡◌, true, IfOk, OnOk};
 ghost use Rattle.lfs_model.specs.format.Disk.{ordered_disk};
@@ -12,7 +12,7 @@ ghost use Rattle.lfs_fs.specs.SessionView.{system_state};
 ghost use Rattle.lfs_model.specs.crash.LifeTrees.{MayLosePower};
 ghost use Rattle.lfs_fs.specs.Starts.{LivesOn};
 ghost use Rattle.saved_files.specs.Working.{WorksOn};
-ghost use Rattle.saved_files.specs.Writing.{SurvivesWrite, WritesFile, saving_flags, appending_flags};
+ghost use Rattle.saved_files.specs.Writing.{ReadsFile, SurvivesRead, SurvivesWrite, WritesFile, saving_flags, appending_flags};
 
 use lfs_device::{BlockDevice, Error, RamDevice, lemma_ram_premises};
 use lfs_fs::{OpenFlags, Session, mount};
@@ -78,6 +78,28 @@ pub fn write_file<D: BlockDevice>(
     session.write(alloc, file, bytes)?;
     session.close(alloc, file)?;
     Ok(())
+}
+
+/// Reads a file, whole. Wherever power is lost in it, the next start finds the file as it was.
+///
+/// # Errors
+///
+/// `NoEnt` where there is no file, and those of `open`, `size`, `read` and `close`.
+pub fn read_file<D: BlockDevice>(
+    session: &mut Session<D>,
+    alloc: Global,
+    path: &[u8],
+) -> Result<Vec<u8>, Error>
+    ensures survives { SurvivesRead path.now (system_state session.old) (system_state session.new) }
+    ensures lived { LivesOn (system_state session.old) (system_state session.new) }
+    ensures works { OnOk result (WorksOn (system_state session.old) (system_state session.new)) }
+    ensures read { IfOk result (λ bytes. ReadsFile path.now bytes.items (system_state session.old) (system_state session.new)) }
+{
+    let reader = session.open(alloc, path, OpenFlags::READ)?;
+    let size = session.size(reader)?;
+    let bytes = session.read(alloc, reader, size)?;
+    session.close(alloc, reader)?;
+    Ok(bytes)
 }
 
 /// Shows a proof that the erases of a device in memory are as the promises suppose. The call does nothing at run time.

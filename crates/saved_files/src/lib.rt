@@ -17,7 +17,7 @@ pub use examples::{
     fresh_disk_starts_safely, log_has_whole_entries, nothing_is_done_without_call,
     saves_and_appends_may_be_cut, session_works_on_while_it_answers, settings_are_old_or_new,
 };
-pub use files::{memory_erases_cleanly, start, write_file};
+pub use files::{memory_erases_cleanly, read_file, start, write_file};
 pub use lives::power_loss_is_in_one_part;
 pub use log::{append_to_log, log_survives_any_losses};
 pub use settings::{format_and_save, read_settings, save_settings, settings_survive_any_losses};

@@ -9,9 +9,9 @@ ghost use Rattle.lfs_fs.specs.Starts.{LivesOn};
 ghost use Rattle.lfs_model.specs.crash.LifeTrees.{StartsSafely};
 ghost use Rattle.saved_files.specs.Settings.{AreCutSaves, IsFirstSave, IsOneOf, SavesSettings, SurvivesSave, settings_in};
 
-use crate::files::{memory_erases_cleanly, saving_flags, write_file};
+use crate::files::{memory_erases_cleanly, read_file, saving_flags, write_file};
 use lfs_device::{BlockDevice, Error, RamDevice};
-use lfs_fs::{OpenFlags, Session, format};
+use lfs_fs::{Session, format};
 use std::alloc::Global;
 
 /// Saves settings. Wherever power is lost in it, the next start reads the old ones or these.
@@ -64,16 +64,13 @@ pub fn settings_survive_any_losses()
 ///
 /// # Errors
 ///
-/// `NoEnt` where no settings were saved, and those of `open`, `size`, `read` and `close`.
+/// Those of [`read_file`], `NoEnt` where no settings were saved.
 pub fn read_settings<D: BlockDevice>(
     session: &mut Session<D>,
     alloc: Global,
 ) -> Result<Vec<u8>, Error>
     ensures { IfOk result (λ bytes. (s : SessionState) → (system_state session.old).state ≡ Healthy s → settings_in s.tree ≡ Some bytes.items) }
 {
-    let reader = session.open(alloc, b"/settings", OpenFlags::READ)?;
-    let size = session.size(reader)?;
-    let bytes = session.read(alloc, reader, size)?;
-    session.close(alloc, reader)?;
+    let bytes = read_file(session, alloc, b"/settings")?;
     Ok(bytes)
 }

@@ -1,36 +1,14 @@
-use Rattle.std.proofs.Common.{refl, ap, ◌∙◌}
-use Rattle.lfs_fs.proofs.Users.{lives}
-use Rattle.saved_files.proofs.Parts.{works_live, works_then, call_works}
-use Rattle.saved_files.proofs.Counts.{open_counts, read_counts, close_counts, counts}
+use Rattle.std.proofs.Common.{ap, ◌∙◌}
+use Rattle.lfs_fs.specs.SessionView.{system_state}
 use Rattle.saved_files.specs.Counter.{number_of}
+use Rattle.saved_files.proofs.Counts.{look_counts, counts}
 use Rattle.saved_files.proofs.counter.read_counter.Goals as goal
 
-pub returns-in_err-reader-clause-survives : goal.returns-in_err-reader-clause-survives
-returns-in_err-reader-clause-survives g c = open_counts c.args.session.now c.open.new.self _ c.open.ensures
-
-pub returns-in_err-reader-clause-lived : goal.returns-in_err-reader-clause-lived
-returns-in_err-reader-clause-lived g c = lives _ _ _ _ c.open.ensures
-
 pub returns-in_err-bytes-clause-survives : goal.returns-in_err-bytes-clause-survives
-returns-in_err-bytes-clause-survives g c = read_counts c.args.session.now c.open.new.self c.in_ok-reader.reader c.in_ok-reader.ensures c.read.new.self _ c.read.ensures.call
-
-pub returns-in_err-bytes-clause-lived : goal.returns-in_err-bytes-clause-lived
-returns-in_err-bytes-clause-lived g c = works_live (call_works _ _ _ _ refl c.in_ok-reader.ensures) (lives _ _ _ _ c.read.ensures.call)
-
-pub returns-in_err-close-clause-survives : goal.returns-in_err-close-clause-survives
-returns-in_err-close-clause-survives g c = close_counts c.args.session.now c.open.new.self c.in_ok-reader.reader c.in_ok-reader.ensures c.read.new.self c.in_ok-bytes.bytes.items c.in_ok-bytes.ensures.call c.close.new.self _ c.close.ensures
-
-pub returns-in_err-close-clause-lived : goal.returns-in_err-close-clause-lived
-returns-in_err-close-clause-lived g c = works_live (works_then _ _ _ (call_works _ _ _ _ refl c.in_ok-reader.ensures) (call_works _ _ _ _ refl c.in_ok-bytes.ensures.call)) (lives _ _ _ _ c.close.ensures)
+returns-in_err-bytes-clause-survives g c = look_counts (system_state c.args.session.now) (system_state c.read_file.new.session) c.read_file.ensures.survives
 
 pub returns-clause-survives : goal.returns-clause-survives
-returns-clause-survives g c = close_counts c.args.session.now c.open.new.self c.in_ok-reader.reader c.in_ok-reader.ensures c.read.new.self c.in_ok-bytes.bytes.items c.in_ok-bytes.ensures.call c.close.new.self _ c.in_ok-close.ensures
-
-pub returns-clause-lived : goal.returns-clause-lived
-returns-clause-lived g c = works_live (works_then _ _ _ (call_works _ _ _ _ refl c.in_ok-reader.ensures) (call_works _ _ _ _ refl c.in_ok-bytes.ensures.call)) (lives _ _ _ _ c.in_ok-close.ensures)
-
-pub returns-clause-works : goal.returns-clause-works
-returns-clause-works g c = works_then _ _ _ (call_works _ _ _ _ refl c.in_ok-reader.ensures) (works_then _ _ _ (call_works _ _ _ _ refl c.in_ok-bytes.ensures.call) (call_works _ _ _ _ refl c.in_ok-close.ensures))
+returns-clause-survives g c = look_counts (system_state c.args.session.now) (system_state c.read_file.new.session) c.in_ok-bytes.ensures.survives
 
 pub returns-clause-is : goal.returns-clause-is
-returns-clause-is g c = counts c.args.session.now c.open.new.self c.in_ok-reader.reader c.in_ok-reader.ensures c.read.new.self c.in_ok-bytes.bytes.items c.in_ok-bytes.ensures.call c.close.new.self c.in_ok-close.ensures _ (c.number_of.ensures ∙ ap number_of c.deref.ensures.value)
+returns-clause-is g c = counts (system_state c.args.session.now) (system_state c.read_file.new.session) c.in_ok-bytes.bytes.items _ (c.number_of.ensures ∙ ap number_of c.deref.ensures.value) c.in_ok-bytes.ensures.read

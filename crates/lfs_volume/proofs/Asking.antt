@@ -15,7 +15,7 @@ use Rattle.lfs_volume.specs.declared.handles.Handle.{Handle}
 use Rattle.lfs_volume.specs.Calls.{Call, Tell, call_result, unless_refused}
 use Rattle.lfs_volume.specs.SessionCalls.{AreQuietCalls, error_result}
 use Rattle.lfs_volume.specs.Volume.{Volume, VolumeView, entry_at, volume_of}
-use Rattle.lfs_volume.specs.VolumeCalls.{IsFoundHandle, IsReplied, IsSameVolume, IsSoundVolume, IsVolumeCall, IsWorking}
+use Rattle.lfs_volume.specs.VolumeCalls.{IsFoundHandle, IsReplied, IsSameVolume, IsSoundVolume, IsWorkingCall, IsWorking}
 use Rattle.lfs_volume.proofs.Steps.{done, healthy_view}
 use Rattle.lfs_volume.proofs.Saving.{count_not_refused, one_quiet}
 
@@ -83,10 +83,3 @@ tell_is v handle o around e = ap (λ x. unless_refused (refuse_if (is_none x) Ba
 
 pub tell_found : (v : VolumeView) (handle : ℕ) (h : Handle) → IsWorking v.session × (entry_at v.handles handle ≡ Some h) → IsReplied v (Tell handle) (ops.Count h.position) v
 tell_found v handle h (working, found) = asked_call v v (Tell handle) (ops.Count h.position) working refl (λ around same. tell_is v handle (Some h) around found)
-
-pub tell_error : (v : VolumeView) (handle : ℕ) (r : Result ℕ Error) (e : Error) → IsErrAnd r (λ f. f ≡ e) → IsSoundVolume v → IsFoundHandle v handle (Err e) → IsVolumeCall v (Tell handle) (reply_from ops.Count r) v
-tell_error v handle (Ok x) e is sound found = absurd is
-tell_error v handle (Err f) e is sound (inl (failed, not)) = absurd (let k : true ≡ false = sym not ∙ sound.idle.works in cc)
-tell_error v handle (Err f) e is sound (inr (bad, working, none)) =
-    subst (λ z. IsVolumeCall v (Tell handle) (reply_from {A = ℕ} ops.Count (Err z)) v) (sym (is ∙ bad))
-    (asked_call v v (Tell handle) (ops.Refused BadFile) working refl (λ around same. tell_is v handle None around none))

@@ -18,7 +18,7 @@ use Rattle.lfs_volume.specs.Opened.{IsIdle, reading_flags, writing_flags}
 use Rattle.lfs_volume.specs.Saves.{IsFileFound, found_tree}
 use Rattle.lfs_volume.specs.SessionCalls.{AreVolumeSteps, FailsInCalls, error_result}
 use Rattle.lfs_volume.specs.Volume.{NodeView, VolumeView, idle_session, volume_of}
-use Rattle.lfs_volume.specs.VolumeCalls.{IsReplied, IsSameVolume, IsSessionPart, IsSoundVolume, IsVolumeCall, IsWorking, WantsMemory}
+use Rattle.lfs_volume.specs.VolumeCalls.{IsReplied, IsSameVolume, IsSessionPart, IsSoundVolume, IsWorkingCall, IsWorking, WantsMemory}
 use Rattle.lfs_volume.proofs.NodeCalls.{open_when_idle}
 use Rattle.lfs_volume.proofs.Saving.{one_quiet}
 use Rattle.lfs_volume.proofs.Steps.{refusal_step, refused}
@@ -37,9 +37,6 @@ checks_are : (v : VolumeView) (path : List ℕ) (flags : FlagsOfOpen) (around : 
 checks_are v path flags around r allowed is = ap₂ (λ b x. first_refusal (refuse_if (not b) Invalid ∷ x ∷ [])) allowed is
 
 -- ---- errors
-
-pub open_failed : (e : Error) (v : VolumeView) (call : Call) → IsSoundVolume v → (e ≡ error.Failed) × (v.session.tree.failed ≡ true) → IsVolumeCall v call (error_result e) v
-open_failed e v call sound k = absurd (let z : true ≡ false = sym k.1 ∙ sound.idle.works in cc)
 
 pub open_forbidden : (v : VolumeView) (path : List ℕ) (flags : FlagsOfOpen) → IsWorking v.session → volume_flags_allowed flags ≡ false → IsReplied v (Open path flags) (ops.Refused Invalid) v
 open_forbidden v path flags working e =
@@ -61,10 +58,10 @@ open_part e old new path flags is call = inr (e, (is, record { before = []; next
 pub open_fails : (e : Error) (old new : SessionView) (path : List ℕ) (flags : FlagsOfOpen) → refusals.is_refusal e ≡ false → IsCall old (ops.Open path flags) (error_result e) new → FailsInCalls e old new
 open_fails e old new path flags not call = (not, (ops.Open path flags ∷ [], record { before = []; next = ops.Open path flags; others = []; are = refl; at = old; quiet = refl; ends = call }))
 
-pub open_ended : (e : Error) (old new : VolumeView) (path : List ℕ) (flags : FlagsOfOpen) → IsSoundVolume old → volume_flags_allowed flags ≡ true → IsCall old.session (ops.Open path (session_flags flags)) (error_result e) new.session → new.nodes ≡ old.nodes → new.handles ≡ old.handles → IsVolumeCall old (Open path flags) (error_result e) new
+pub open_ended : (e : Error) (old new : VolumeView) (path : List ℕ) (flags : FlagsOfOpen) → IsSoundVolume old → volume_flags_allowed flags ≡ true → IsCall old.session (ops.Open path (session_flags flags)) (error_result e) new.session → new.nodes ≡ old.nodes → new.handles ≡ old.handles → IsWorkingCall old (Open path flags) (error_result e) new
 open_ended e old new path flags sound allowed call nodes handles = go (refusals.is_refusal e) refl
   where
-    go : (b : Bool) → refusals.is_refusal e ≡ b → IsVolumeCall old (Open path flags) (error_result e) new
+    go : (b : Bool) → refusals.is_refusal e ≡ b → IsWorkingCall old (Open path flags) (error_result e) new
     go false is = failed_call e old new (Open path flags) (open_fails e old.session new.session path (session_flags flags) is call)
     go true is =
         let r = refused old.session (ops.Open path (session_flags flags)) (refusals.error_refusal e) new.session refl sound.idle.works (λ around. refl) (refusal_step old.session (ops.Open path (session_flags flags)) e new.session is call.answers) in
@@ -136,7 +133,7 @@ open_done old new path flags number allowed is o = record {
 -- ---- from what the parts of the call ensure
 
 pub open_ended_by : (e : Error) (old new : VolumeView) (path : List ℕ) (flags asked : FlagsOfOpen) → asked ≡ session_flags flags → IsSoundVolume old → volume_flags_allowed flags ≡ true
-    → (IsIdle old.session (shown_tree old.session.tree) → asked.truncate ≡ false → IsCall old.session (ops.Open path asked) (error_result e) new.session) → new.nodes ≡ old.nodes → new.handles ≡ old.handles → IsVolumeCall old (Open path flags) (error_result e) new
+    → (IsIdle old.session (shown_tree old.session.tree) → asked.truncate ≡ false → IsCall old.session (ops.Open path asked) (error_result e) new.session) → new.nodes ≡ old.nodes → new.handles ≡ old.handles → IsWorkingCall old (Open path flags) (error_result e) new
 open_ended_by e old new path flags asked is sound allowed ends nodes handles =
     open_ended e old new path flags sound allowed (subst (λ f. IsCall old.session (ops.Open path f) (error_result e) new.session) is (ends sound.idle (ap (λ (f : FlagsOfOpen). f.truncate) is ∙ uncut_flags flags))) nodes handles
 

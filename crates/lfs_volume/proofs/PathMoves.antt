@@ -26,7 +26,7 @@ use Rattle.lfs_volume.specs.Calls.{Perform, has_path, is_at_or_beneath, moved_no
 use Rattle.lfs_volume.specs.Hulls.{DiffersInHull}
 use Rattle.lfs_volume.specs.Opened.{IsIdle, LeadsToFile}
 use Rattle.lfs_volume.specs.Volume.{NodeView, VolumeView, entry_at, idle_session, loaded_node, node_bytes, stored_bytes, unlinked_node}
-use Rattle.lfs_volume.specs.VolumeCalls.{IsSound, IsSoundNode, IsSoundVolume, IsVolumeCall}
+use Rattle.lfs_volume.specs.VolumeCalls.{IsSound, IsSoundNode, IsSoundVolume, IsWorkingCall}
 use Rattle.lfs_volume.proofs.Entries.{no_entry, set_same}
 use Rattle.lfs_volume.proofs.MovedFiles.{IsFileAt, MayRename, NamesNodes, StaysFile, moved_stays, not_beneath_new, other_stays, parents_from, parents_of, removed_stays}
 use Rattle.lfs_volume.proofs.NodeTables.{HasPathOnce, entry_map, loaded_nodes, moved_table, unlinked_table}
@@ -539,7 +539,7 @@ kept_nodes t from to xs same =
     ∙ sym (ap (λ b. map (option_map (λ n. moved_node from to (cond b n (unlink_path t to n)))) xs) same)
 
 module _ (old new : VolumeView) (from to : List ℕ) (sound : IsSoundVolume old) (same : same_name from to ≡ true) (nodes : new.nodes ≡ old.nodes) (handles : new.handles ≡ old.handles) where
-  pub renamed_to_itself : {A : Type 0} (x : Result A Error) → IsCall old.session (ops.Rename from to) (reply_from (λ _. ops.Done) x) new.session → IsVolumeCall old (Perform (ops.Rename from to)) (reply_from (λ _. ops.Done) x) new
+  pub renamed_to_itself : {A : Type 0} (x : Result A Error) → IsCall old.session (ops.Rename from to) (reply_from (λ _. ops.Done) x) new.session → IsWorkingCall old (Perform (ops.Rename from to)) (reply_from (λ _. ops.Done) x) new
   renamed_to_itself (Ok x) call =
       accepted_after old old (length old.nodes) sound (ready_already old sound) (ops.Rename from to) (rename_on_entries from to) new ops.Done refl call (nodes ∙ kept_nodes (shown_tree old.session.tree) from to old.nodes same) handles
   renamed_to_itself (Err e) call = ended_after old old (length old.nodes) sound (ready_already old sound) (ops.Rename from to) (rename_on_entries from to) e new call nodes handles

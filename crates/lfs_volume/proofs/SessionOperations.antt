@@ -1,5 +1,5 @@
 -- Calls of a volume that are one operation of its session.
-use Rattle.std.proofs.Common.{inl, inr, ◌≡◌, Bool, true, false, cond, List, [], ◌∷◌, Option, Some, None, Result, Ok, Err, refl, sym, ap, subst, ◌∙◌}
+use Rattle.std.proofs.Common.{inl, inr, ◌≡◌, Bool, true, false, cond, not, List, [], ◌∷◌, Option, Some, None, Result, Ok, Err, refl, sym, ap, ap₂, subst, ◌∙◌}
 use Rattle.std.specs.Prelude.{◌⊎◌}
 use Rattle.lfs_device.specs.declared.error.Error.{Error}
 use Rattle.lfs_device.specs.declared.error.Error.TheVariants.{Corrupt, Io, NoMemory}
@@ -14,15 +14,15 @@ use Rattle.lfs_model.specs.session.Refusals.{operation_refusal}
 use Rattle.lfs_model.specs.session.Effects.{operation_effect, operation_result}
 use Rattle.lfs_model.specs.session.Effects as effects
 use Rattle.lfs_model.specs.session.Run.{ShowsTree, is_refusal}
-use Rattle.lfs_tree.specs.TreeState.{shown_tree}
+use Rattle.lfs_tree.specs.TreeState.{shown_tree, tree_summary}
 use Rattle.lfs_fs.specs.CallEffects.{IsCall}
 use Rattle.lfs_fs.specs.SessionView.{SessionFails, SessionView, system_state, viewed_session}
 use Rattle.lfs_volume.specs.declared.handles.Handle.{Handle}
-use Rattle.lfs_volume.specs.Calls.{Perform, call_result, handles_after, nodes_after, unless_refused}
+use Rattle.lfs_volume.specs.Calls.{Call, Perform, call_result, handles_after, nodes_after, unless_refused}
 use Rattle.lfs_volume.specs.Opened.{AreNoFiles}
 use Rattle.lfs_volume.specs.SessionCalls.{error_result}
 use Rattle.lfs_volume.specs.Volume.{NodeView, Volume, VolumeView, idle_session, volume_of}
-use Rattle.lfs_volume.specs.VolumeCalls.{IsSessionPart, IsSoundVolume, IsVolumeCall}
+use Rattle.lfs_volume.specs.VolumeCalls.{IsSessionPart, IsSound, IsSoundVolume, IsVolumeCall, IsWorkingCall}
 use Rattle.lfs_volume.proofs.Steps.{answered}
 use Rattle.lfs_volume.proofs.VolumeSteps.{same_as}
 
@@ -134,7 +134,7 @@ no_refusal e old new op f = go f.errors
     go (inr (inl k)) = ap refusals.is_refusal k
     go (inr (inr k)) = ap refusals.is_refusal k.0
 
-pub performed : (old new : VolumeView) (op : Operation) (x : Result Reply Error) → is_alone op ≡ true → IsSoundVolume old → IsCall old.session op x new.session → new.nodes ≡ old.nodes → new.handles ≡ old.handles → IsVolumeCall old (Perform op) x new
+pub performed : (old new : VolumeView) (op : Operation) (x : Result Reply Error) → is_alone op ≡ true → IsSoundVolume old → IsCall old.session op x new.session → new.nodes ≡ old.nodes → new.handles ≡ old.handles → IsWorkingCall old (Perform op) x new
 performed old new op (Ok reply) alone sound call nodes handles =
     let t = shown_tree old.session.tree in
     let other = not_remount op alone in
@@ -159,3 +159,42 @@ performed old new op (Ok reply) alone sound call nodes handles =
 performed old new op (Err e) alone sound call nodes handles =
     let not = no_refusal e old.session new.session op call.answers in
     inr (not, (op ∷ [], record { before = []; next = op; others = []; are = refl; at = old.session; quiet = refl; ends = subst (λ b. IsCall old.session op (cond b (Ok (ops.Refused (refusals.error_refusal e))) (Err e)) new.session) (sym not) call }))
+
+-- ---- a volume that may have failed
+
+-- a session that has failed says so, and nothing changes
+pub asked_failed : (old new : SessionView) (op : Operation) (x : Result Reply Error) → is_remount op ≡ false → IsCall old op x new → old.tree.failed ≡ true → (x ≡ Ok (ops.Refused ops.Failed)) × (new ≡ old)
+asked_failed old new op x other call failed = (
+  call.ends.failed failed other,
+  call.ends.at_once ops.Failed (ap (λ b. cond b (Some ops.Failed) (operation_refusal (tree_summary old.tree) (viewed_session old) op)) failed) (ap not other),
+)
+
+pub same_view : (old new : VolumeView) → new.session ≡ old.session → new.nodes ≡ old.nodes → new.handles ≡ old.handles → new ≡ old
+same_view old new session nodes handles = ap at session ∙ ap₂ with_tables nodes handles
+  where
+    at : SessionView → VolumeView
+    at h = record { session = h; nodes = new.nodes; handles = new.handles }
+
+    with_tables : List (Option NodeView) → List (Option Handle) → VolumeView
+    with_tables ns hs = record { session = old.session; nodes = ns; handles = hs }
+
+pub sound_same : (old new : VolumeView) → IsSound old → new.session ≡ old.session → new.nodes ≡ old.nodes → new.handles ≡ old.handles → IsSound new
+sound_same old new sound session nodes handles = subst IsSound (sym (same_view old new session nodes handles)) sound
+
+-- one operation of the session, that leaves the tables of a volume that has failed
+pub operation_call : (old new : VolumeView) (call : Call) (op : Operation) (x : Result Reply Error) → is_remount op ≡ false → IsCall old.session op x new.session → new.nodes ≡ old.nodes → new.handles ≡ old.handles → IsSound old → (IsSoundVolume old → IsWorkingCall old call x new) → IsVolumeCall old call x new
+operation_call old new call op x other does nodes handles sound is = record {
+  failed = λ f. (let k = asked_failed old.session new.session op x other does f in (k.0, same_view old new k.1 nodes handles));
+  works = λ w. is (sound w);
+}
+
+pub operation_keeps : (old new : VolumeView) (op : Operation) (x : Result Reply Error) → is_remount op ≡ false → IsCall old.session op x new.session → IsSound old → (IsSoundVolume old → IsSound new) → IsSound new
+operation_keeps old new op x other does sound keeps works = go old.session.tree.failed refl
+  where
+    go : (b : Bool) → old.session.tree.failed ≡ b → IsSoundVolume new
+    go false w = keeps (sound w) works
+    go true f = absurd (let k : true ≡ false = sym f ∙ sym (ap (λ (h : SessionView). h.tree.failed) (asked_failed old.session new.session op x other does f).1) ∙ works in cc)
+
+pub performed_call : (old new : VolumeView) (op : Operation) (x : Result Reply Error) → is_alone op ≡ true → IsSound old → IsCall old.session op x new.session → new.nodes ≡ old.nodes → new.handles ≡ old.handles → IsVolumeCall old (Perform op) x new
+performed_call old new op x alone sound call nodes handles =
+    operation_call old new (Perform op) op x (not_remount op alone) call nodes handles sound (λ s. performed old new op x alone s call nodes handles)

@@ -573,8 +573,7 @@ remounted_sound old new (Err e) call nodes handles works = absurd (let k : true 
 pub remounted : (old new : VolumeView) (x : Result Reply Error) → IsCall old.session ops.Remount x new.session → new.nodes ≡ [] → new.handles ≡ [] → IsRemount old x new
 remounted old new x call nodes handles = record {
   call = call;
-  nodes = nodes;
-  handles = handles;
+  closed = (nodes, handles);
   works = λ reply e. let s = remounted_state old.session new.session reply (subst (λ z. IsCall old.session ops.Remount z new.session) e call) in (s.0, s.1.1);
   failed = λ e k. not_remounted old.session new.session e (subst (λ z. IsCall old.session ops.Remount z new.session) k call);
 }

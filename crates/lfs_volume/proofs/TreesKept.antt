@@ -24,7 +24,7 @@ use Rattle.lfs_volume.specs.declared.handles.Handle.{Handle}
 use Rattle.lfs_volume.specs.Opened.{AreNoFiles, LeadsToFile}
 use Rattle.lfs_volume.specs.Volume.{NodeView, VolumeView, entry_at, stored_bytes}
 use Rattle.lfs_volume.specs.VolumeCalls.{IsSound, IsSoundVolume}
-use Rattle.lfs_volume.proofs.SessionOperations.{is_alone, no_refusal, not_remount, with_files}
+use Rattle.lfs_volume.proofs.SessionOperations.{is_alone, no_refusal, not_remount, operation_keeps, with_files}
 use Rattle.lfs_volume.proofs.Soundness.{failed_not_working, node_carried}
 use Rattle.lfs_volume.proofs.Steps.{answered, none_at, not_refused_if}
 
@@ -160,3 +160,7 @@ performed_sound old new op (Ok reply) alone sound call nodes handles works =
       named = λ j h e. subst (λ (ns : List (Option NodeView)). IsSome (entry_at ns h.node)) (sym nodes) (sound.named j h (ap (λ (hs : List (Option Handle)). entry_at hs j) (sym handles) ∙ e));
       apart = λ j l m n path p x y. sound.apart j l m n path p (ap (λ (ns : List (Option NodeView)). entry_at ns j) (sym nodes) ∙ x) (ap (λ (ns : List (Option NodeView)). entry_at ns l) (sym nodes) ∙ y);
     }
+
+pub performed_keeps : (old new : VolumeView) (op : Operation) (x : Result Reply Error) → is_alone op ≡ true → IsSound old → IsCall old.session op x new.session → new.nodes ≡ old.nodes → new.handles ≡ old.handles → IsSound new
+performed_keeps old new op x alone sound call nodes handles =
+    operation_keeps old new op x (not_remount op alone) call sound (λ s. performed_sound old new op x alone s call nodes handles)

@@ -21,7 +21,7 @@ use Rattle.lfs_volume.specs.Calls.{Perform, call_effect, call_result, handles_af
 use Rattle.lfs_volume.specs.Opened.{AreNoFiles, IsIdle}
 use Rattle.lfs_volume.specs.SessionCalls.{EndsInCall, error_result}
 use Rattle.lfs_volume.specs.Volume.{NodeView, Volume, VolumeView, entry_at, idle_session, loaded_node, node_bytes, volume_of}
-use Rattle.lfs_volume.specs.VolumeCalls.{IsLoadedAt, IsReplied, IsSameVolume, IsSound, IsSoundVolume, IsVolumeCall}
+use Rattle.lfs_volume.specs.VolumeCalls.{IsLoadedAt, IsReplied, IsSameVolume, IsSound, IsSoundVolume, IsWorkingCall}
 use Rattle.lfs_volume.proofs.Entries.{set_same}
 use Rattle.lfs_volume.proofs.SessionOperations.{with_files}
 use Rattle.lfs_volume.proofs.Soundness.{failed_not_working, handles_stay, loaded_sound, part_profile, sound_in_memory, sound_kept}
@@ -183,10 +183,10 @@ module _ (old mid : VolumeView) (place : ℕ) (sound : IsSoundVolume old) (r : I
         session_part = inr (e, (is, ends_in e new.session call));
       }
 
-  pub ended_after : (e : Error) (new : VolumeView) → IsCall mid.session op (error_result e) new.session → new.nodes ≡ mid.nodes → new.handles ≡ old.handles → IsVolumeCall old (Perform op) (error_result e) new
+  pub ended_after : (e : Error) (new : VolumeView) → IsCall mid.session op (error_result e) new.session → new.nodes ≡ mid.nodes → new.handles ≡ old.handles → IsWorkingCall old (Perform op) (error_result e) new
   ended_after e new call nodes handles = go (refusals.is_refusal e) refl
     where
-      go : (b : Bool) → refusals.is_refusal e ≡ b → IsVolumeCall old (Perform op) (error_result e) new
+      go : (b : Bool) → refusals.is_refusal e ≡ b → IsWorkingCall old (Perform op) (error_result e) new
       go true is = refusal_reply e old new (Perform op) is (refused_after e new is call nodes handles)
       go false not = failed_call e old new (Perform op) (not, (r.loaded.operations ++ op ∷ [], ends_in e new.session call))
 

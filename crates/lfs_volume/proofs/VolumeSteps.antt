@@ -18,12 +18,12 @@ use Rattle.lfs_tree.specs.TreeState.{shown_tree}
 use Rattle.lfs_fs.specs.Replies.{reply_from}
 use Rattle.lfs_fs.specs.SessionView.{SessionView}
 use Rattle.lfs_volume.specs.declared.handles.Handle.{Handle}
-use Rattle.lfs_volume.specs.Calls.{Call, Close, Read, Seek, Size, Sync, Truncate, Write, call_effect, call_refusal, call_result, close_effect, closed_nodes, closed_volume, handle_node, moved_handle, named, needs_sync, node_number, read_effect, stored_node, sync_node, sync_refusal, sync_tree, unless_refused, write_effect, write_too_big, written_size}
+use Rattle.lfs_volume.specs.Calls.{Call, Close, Read, Seek, Size, Sync, Tell, Truncate, Write, call_effect, call_refusal, call_result, close_effect, closed_nodes, closed_volume, handle_node, moved_handle, named, needs_sync, node_number, read_effect, stored_node, sync_node, sync_refusal, sync_tree, unless_refused, write_effect, write_too_big, written_size}
 use Rattle.lfs_volume.specs.Hulls.{resized_hull}
 use Rattle.lfs_volume.specs.Opened.{IsIdle, writing_flags}
 use Rattle.lfs_volume.specs.SessionCalls.{AreQuietCalls, AreVolumeSteps, FailsInCalls, error_result}
 use Rattle.lfs_volume.specs.Volume.{NodeView, Volume, VolumeView, entry_at, idle_session, loaded_node, node_bytes, resized_node, volume_of, with_position, write_place, written_node}
-use Rattle.lfs_volume.specs.VolumeCalls.{EndsSyncAt, FitsAt, IsDropped, IsTooLong, IsFoundHandle, IsLoadedAt, IsNodeRefused, IsNodeSynced, IsReadyToRead, IsReplied, IsSameNode, IsSameVolume, IsSessionPart, IsSoundNode, IsSoundVolume, IsSyncRefusal, IsSyncedAt, IsVolumeCall, IsWorking, WantsMemory}
+use Rattle.lfs_volume.specs.VolumeCalls.{EndsSyncAt, FitsAt, IsDropped, IsTooLong, IsFoundHandle, IsLoadedAt, IsNodeRefused, IsNodeSynced, IsReadyToRead, IsReplied, IsSameNode, IsSameVolume, IsSessionPart, IsSoundNode, IsSoundVolume, IsSyncRefusal, IsSyncedAt, IsVolumeCall, IsWorkingCall, IsWorking, WantsMemory}
 use Rattle.lfs_volume.proofs.Asking.{same_volume}
 use Rattle.lfs_volume.proofs.Entries.{changed_entry, entry_inside, entry_set, set_length, set_same, set_twice}
 use Rattle.lfs_volume.proofs.Steps.{done}
@@ -123,19 +123,37 @@ refused_at_once v call error working refuses = refused_call v v call error [] wo
 -- ---- errors
 
 -- an error that is passed on
-pub ended_call : {A : Type 0} (reply : A → Reply) (r : Result A Error) (e : Error) (old new : VolumeView) (call : Call) → IsErrAnd r (λ f. f ≡ e) → IsVolumeCall old call (error_result e) new → IsVolumeCall old call (reply_from reply r) new
+pub ended_call : {A : Type 0} (reply : A → Reply) (r : Result A Error) (e : Error) (old new : VolumeView) (call : Call) → IsErrAnd r (λ f. f ≡ e) → IsWorkingCall old call (error_result e) new → IsWorkingCall old call (reply_from reply r) new
 ended_call reply (Ok x) e old new call is h = absurd is
-ended_call reply (Err f) e old new call is h = subst (λ z. IsVolumeCall old call (error_result z) new) (sym is) h
+ended_call reply (Err f) e old new call is h = subst (λ z. IsWorkingCall old call (error_result z) new) (sym is) h
 
 -- the session failed
-pub failed_call : (e : Error) (old new : VolumeView) (call : Call) → FailsInCalls e old.session new.session → IsVolumeCall old call (error_result e) new
-failed_call e old new call (not, ends) = subst (λ b. IsVolumeCall old call (cond b (Ok (ops.Refused (refusals.error_refusal e))) (Err e)) new) (sym not) (inr (not, ends))
+pub failed_call : (e : Error) (old new : VolumeView) (call : Call) → FailsInCalls e old.session new.session → IsWorkingCall old call (error_result e) new
+failed_call e old new call (not, ends) = subst (λ b. IsWorkingCall old call (cond b (Ok (ops.Refused (refusals.error_refusal e))) (Err e)) new) (sym not) (inr (not, ends))
+
+-- ---- the whole relation
+
+not_both : {X : Type 0} (h : SessionView) → h.tree.failed ≡ true → h.tree.failed ≡ false → X
+not_both h failed works = absurd (let k : true ≡ false = sym failed ∙ works in cc)
+
+-- of a volume that works
+pub working_call : (old new : VolumeView) (call : Call) (r : Result Reply Error) → old.session.tree.failed ≡ false → IsWorkingCall old call r new → IsVolumeCall old call r new
+working_call old new call r works is = record { failed = λ f. not_both old.session f works; works = λ w. is }
+
+-- of one that has failed
+pub failed_reply : (e : Error) (v : VolumeView) (call : Call) → (e ≡ error.Failed) × (v.session.tree.failed ≡ true) → IsVolumeCall v call (error_result e) v
+failed_reply e v call (is, failed) = record { failed = λ f. (ap error_result is, refl); works = λ w. not_both v.session failed w }
 
 -- no handle has the number
-pub no_handle : (e : Error) (v : VolumeView) (handle : ℕ) (call : Call) → IsSoundVolume v → IsFoundHandle v handle (Err e) → ((around : DiskSummary) → entry_at v.handles handle ≡ None → call_refusal around (volume_of v) call ≡ Some BadFile) → IsVolumeCall v call (error_result e) v
-no_handle e v handle call sound (inl (failed, not)) refuses = absurd (let k : true ≡ false = sym not ∙ sound.idle.works in cc)
-no_handle e v handle call sound (inr (bad, working, none)) refuses =
-    subst (λ z. IsVolumeCall v call (error_result z) v) (sym bad) (refused_at_once v call BadFile working (λ around k. refuses around none))
+pub no_handle : (e : Error) (v : VolumeView) (handle : ℕ) (call : Call) → IsFoundHandle v handle (Err e) → ((around : DiskSummary) → entry_at v.handles handle ≡ None → call_refusal around (volume_of v) call ≡ Some BadFile) → IsVolumeCall v call (error_result e) v
+no_handle e v handle call (inl failed) refuses = failed_reply e v call failed
+no_handle e v handle call (inr (bad, working, none)) refuses =
+    working_call v v call (error_result e) working.0 (subst (λ z. IsWorkingCall v call (error_result z) v) (sym bad) (refused_at_once v call BadFile working (λ around k. refuses around none)))
+
+-- an error that is passed on
+pub passed_error : {A : Type 0} (reply : A → Reply) (r : Result A Error) (e : Error) (P : Result Reply Error → Type 0) → IsErrAnd r (λ f. f ≡ e) → P (error_result e) → P (reply_from reply r)
+passed_error reply (Ok x) e P is h = absurd is
+passed_error reply (Err f) e P is h = subst (λ z. P (error_result z)) (sym is) h
 
 pub wants_memory : (old new : VolumeView) (i : ℕ) → IsSoundVolume old → IsLoadedAt old.session old.nodes i new.session new.nodes → new.handles ≡ old.handles → WantsMemory old new
 wants_memory old new i sound l handles = record {
@@ -147,6 +165,11 @@ wants_memory old new i sound l handles = record {
 
 pub sound_at : (v : VolumeView) (i : ℕ) → IsSoundVolume v → (n : NodeView) → entry_at v.nodes i ≡ Some n → IsSoundNode v.session n
 sound_at v i sound n e = sound.nodes i n e
+
+-- ---- a position
+
+pub tell_none : (v : VolumeView) (handle : ℕ) (around : DiskSummary) → entry_at v.handles handle ≡ None → call_refusal around (volume_of v) (Tell handle) ≡ Some BadFile
+tell_none v handle around none = ap (λ (o : Option Handle). refuse_if (is_none o) BadFile) none
 
 -- ---- a size
 
@@ -424,13 +447,13 @@ sync_done old new handle h sound (working, found) s handles =
     subst (λ r. ((unless_refused r (volume_of old) (call_effect around (volume_of old) (Sync handle))).0 ≡ ops.Done) × IsSameVolume (unless_refused r (volume_of old) (call_effect around (volume_of old) (Sync handle))).1 (volume_of new))
     (sym (sync_checks old handle h k.0 None around found k.1 is)) (refl, subst (λ z. IsSameVolume z (volume_of new)) (synced_volume old new handle h k.0 found k.1 s handles) (same_volume (volume_of new))))
 
-pub refusal_reply : (e : Error) (old new : VolumeView) (call : Call) → refusals.is_refusal e ≡ true → IsReplied old call (ops.Refused (refusals.error_refusal e)) new → IsVolumeCall old call (error_result e) new
-refusal_reply e old new call is r = subst (λ b. IsVolumeCall old call (cond b (Ok (ops.Refused (refusals.error_refusal e))) (Err e)) new) (sym is) r
+pub refusal_reply : (e : Error) (old new : VolumeView) (call : Call) → refusals.is_refusal e ≡ true → IsReplied old call (ops.Refused (refusals.error_refusal e)) new → IsWorkingCall old call (error_result e) new
+refusal_reply e old new call is r = subst (λ b. IsWorkingCall old call (cond b (Ok (ops.Refused (refusals.error_refusal e))) (Err e)) new) (sym is) r
 
-pub sync_ended : (e : Error) (old new : VolumeView) (handle : ℕ) (h : Handle) → IsSoundVolume old → IsWorking old.session × (entry_at old.handles handle ≡ Some h) → EndsSyncAt e old.session old.nodes h.node new.session → new.nodes ≡ old.nodes → new.handles ≡ old.handles → IsVolumeCall old (Sync handle) (error_result e) new
+pub sync_ended : (e : Error) (old new : VolumeView) (handle : ℕ) (h : Handle) → IsSoundVolume old → IsWorking old.session × (entry_at old.handles handle ≡ Some h) → EndsSyncAt e old.session old.nodes h.node new.session → new.nodes ≡ old.nodes → new.handles ≡ old.handles → IsWorkingCall old (Sync handle) (error_result e) new
 sync_ended e old new handle h sound (working, found) s nodes handles = go s.ends
   where
-    go : IsNodeRefused e old.session s.node new.session ⊎ FailsInCalls e old.session new.session → IsVolumeCall old (Sync handle) (error_result e) new
+    go : IsNodeRefused e old.session s.node new.session ⊎ FailsInCalls e old.session new.session → IsWorkingCall old (Sync handle) (error_result e) new
     go (inr f) = failed_call e old new (Sync handle) f
     go (inl r) = refusal_reply e old new (Sync handle) r.is_one (replied_in_sync old new (Sync handle) (ops.Refused (refusals.error_refusal e)) s.node (Some (refusals.error_refusal e)) r.operations r.refused r.part (λ around is.
         subst (λ x. ((unless_refused x (volume_of old) (call_effect around (volume_of old) (Sync handle))).0 ≡ ops.Refused (refusals.error_refusal e)) × IsSameVolume (unless_refused x (volume_of old) (call_effect around (volume_of old) (Sync handle))).1 (volume_of new))
@@ -461,10 +484,10 @@ close_done old mid new handle h sound (working, found) s kept d =
     subst (λ z. (z.0 ≡ ops.Done) × IsSameVolume z.1 (volume_of new)) (sym (close_effect_is old handle h k.0 None around found k.1 is)) (refl, subst (λ z. IsSameVolume z (volume_of new)) ends (same_volume (volume_of new))))
 
 pub close_ended : (e : Error) (old mid new : VolumeView) (handle : ℕ) (h : Handle) → IsSoundVolume old → IsWorking old.session × (entry_at old.handles handle ≡ Some h) → EndsSyncAt e old.session old.nodes h.node mid.session → mid.nodes ≡ old.nodes → mid.handles ≡ old.handles → IsDropped mid handle h new
-    → IsVolumeCall old (Close handle) (error_result e) new
+    → IsWorkingCall old (Close handle) (error_result e) new
 close_ended e old mid new handle h sound (working, found) s nodes kept d = go s.ends
   where
-    go : IsNodeRefused e old.session s.node mid.session ⊎ FailsInCalls e old.session mid.session → IsVolumeCall old (Close handle) (error_result e) new
+    go : IsNodeRefused e old.session s.node mid.session ⊎ FailsInCalls e old.session mid.session → IsWorkingCall old (Close handle) (error_result e) new
     go (inr f) = failed_call e old new (Close handle) (subst (λ z. FailsInCalls e old.session z) (sym d.session) f)
     go (inl r) =
         let ends : volume_of new ≡ closed_volume handle (volume_of old) = dropped_volume mid new handle h (ap (λ (hs : List (Option Handle)). entry_at hs handle) kept ∙ found) d ∙ ap (closed_volume handle) (volume_equal (volume_of old) (volume_of mid) r.idle.shows nodes kept) in
@@ -477,17 +500,21 @@ close_ended e old mid new handle h sound (working, found) s nodes kept d = go s.
 pub of_whole : (parts whole : VolumeView) → parts ≡ whole → (P : VolumeView → Type 0) → (IsSoundVolume parts → P parts) → IsSoundVolume whole → P whole
 of_whole parts whole e P f sound = subst P e (f (subst IsSoundVolume (sym e) sound))
 
+-- a call of a volume that works
+pub call_in_parts : (parts whole new : VolumeView) (call : Call) (r : Result Reply Error) → parts ≡ whole → IsSoundVolume whole → (IsSoundVolume parts → IsWorkingCall parts call r new) → IsVolumeCall whole call r new
+call_in_parts parts whole new call r same sound f = working_call whole new call r sound.idle.works (of_whole parts whole same (λ v. IsWorkingCall v call r new) f sound)
+
 -- the session failed
-pub failed_parts : (e : Error) (parts whole new : VolumeView) (call : Call) → parts ≡ whole → (IsSoundVolume parts → FailsInCalls e parts.session new.session) → IsSoundVolume whole → IsVolumeCall whole call (error_result e) new
-failed_parts e parts whole new call same fails = of_whole parts whole same (λ v. IsVolumeCall v call (error_result e) new) (λ sound. failed_call e parts new call (fails sound))
+pub failed_parts : (e : Error) (parts whole new : VolumeView) (call : Call) → parts ≡ whole → (IsSoundVolume parts → FailsInCalls e parts.session new.session) → IsSoundVolume whole → IsWorkingCall whole call (error_result e) new
+failed_parts e parts whole new call same fails = of_whole parts whole same (λ v. IsWorkingCall v call (error_result e) new) (λ sound. failed_call e parts new call (fails sound))
 
 -- the volume wanted memory
-pub no_memory : (e : Error) (old new : VolumeView) (call : Call) → e ≡ error.NoMemory → WantsMemory old new → IsVolumeCall old call (error_result e) new
-no_memory e old new call is wants = subst (λ z. IsVolumeCall old call (error_result z) new) (sym is) (inl (refl, wants))
+pub no_memory : (e : Error) (old new : VolumeView) (call : Call) → e ≡ error.NoMemory → WantsMemory old new → IsWorkingCall old call (error_result e) new
+no_memory e old new call is wants = subst (λ z. IsWorkingCall old call (error_result z) new) (sym is) (inl (refl, wants))
 
 -- a refusal that is passed on
-pub passed_refusal : (e f : Error) (old new : VolumeView) (call : Call) → e ≡ f → IsVolumeCall old call (error_result f) new → IsVolumeCall old call (error_result e) new
-passed_refusal e f old new call is h = subst (λ z. IsVolumeCall old call (error_result z) new) (sym is) h
+pub passed_refusal : (e f : Error) (old new : VolumeView) (call : Call) → e ≡ f → IsWorkingCall old call (error_result f) new → IsWorkingCall old call (error_result e) new
+passed_refusal e f old new call is h = subst (λ z. IsWorkingCall old call (error_result z) new) (sym is) h
 
 pub not_then : (b : Bool) → not b ≡ true → b ≡ false
 not_then true e = absurd (cc)

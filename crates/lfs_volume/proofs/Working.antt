@@ -1,5 +1,5 @@
 -- A session works after calls that were answered.
-use Rattle.std.proofs.Common.{inl, inr, ◌≡◌, Bool, true, false, cond, List, [], ◌∷◌, Option, Some, None, refl, sym, ap, subst, ◌∙◌}
+use Rattle.std.proofs.Common.{inl, inr, ◌≡◌, Bool, true, false, cond, List, [], ◌∷◌, Option, Some, None, Ok, refl, sym, ap, subst, ◌∙◌}
 use Rattle.lfs_lookup.specs.RefusalErrors as refusals
 use Rattle.lfs_model.specs.tree.Tree.{Tree}
 use Rattle.lfs_model.specs.session.Operations as ops
@@ -10,7 +10,7 @@ use Rattle.lfs_fs.specs.SessionView.{SessionView, system_state}
 use Rattle.lfs_volume.specs.Calls.{Call}
 use Rattle.lfs_volume.specs.SessionCalls.{AreQuietCalls, AreVolumeSteps, IsAcceptedCall}
 use Rattle.lfs_volume.specs.Volume.{VolumeView}
-use Rattle.lfs_volume.specs.VolumeCalls.{IsReplied, IsSessionPart, IsSoundVolume}
+use Rattle.lfs_volume.specs.VolumeCalls.{IsReplied, IsSessionPart, IsVolumeCall}
 use Rattle.lfs_volume.proofs.Steps.{answered, refusal_step}
 
 accepted_works : (a b : SessionView) (op : Operation) → IsAcceptedCall a op b → a.tree.failed ≡ false → b.tree.failed ≡ false
@@ -44,5 +44,8 @@ part_works a b xs (inr (e, (is, k))) works =
     let step = refusal_step k.at k.next e b is k.ends.answers in
     (answered k.at k.next (ops.Refused (refusals.error_refusal e)) b (no_remount k.at b k.next (refusals.error_refusal e) step) (quiet_works a k.at k.before k.quiet works) step).works
 
-pub replied_works : (old new : VolumeView) (call : Call) (reply : Reply) → IsSoundVolume old → IsReplied old call reply new → new.session.tree.failed ≡ false
-replied_works old new call reply sound r = part_works old.session new.session r.operations r.session_part sound.idle.works
+pub replied_works : (old new : VolumeView) (call : Call) (reply : Reply) → old.session.tree.failed ≡ false → IsVolumeCall old call (Ok reply) new → new.session.tree.failed ≡ false
+replied_works old new call reply works is = go (is.works works)
+  where
+    go : IsReplied old call reply new → new.session.tree.failed ≡ false
+    go r = part_works old.session new.session r.operations r.session_part works

@@ -44,9 +44,13 @@ pub record IsSoundVolume (v : VolumeView) : Type 0 where
   pub named : (i : ℕ) (h : Handle) → entry_at v.handles i ≡ Some h → IsSome (entry_at v.nodes h.node)
   pub apart : (i j : ℕ) (n m : NodeView) (path other : List ℕ) → entry_at v.nodes i ≡ Some n → entry_at v.nodes j ≡ Some m → n.path ≡ Some path → m.path ≡ Some other → path_or_root path ≡ path_or_root other → i ≡ j
 
--- while the volume works
+-- what each volume keeps, while it works
 abbrev pub IsSound : VolumeView → Type 0
 IsSound v = v.session.tree.failed ≡ false → IsSoundVolume v
+
+-- no file is open in it, as after a mount
+abbrev pub HasNoHandles : VolumeView → Type 0
+HasNoHandles v = (v.nodes ≡ []) × (v.handles ≡ [])
 
 -- ---- how a call ends
 
@@ -90,18 +94,22 @@ pub record WantsMemory (old new : VolumeView) : Type 0 where
   pub calls : AreQuietCalls old.session operations new.session
 
 -- A reply; or the volume wanted memory, and works on as it was; or the session has failed in one of its operations.
-abbrev pub IsVolumeCall : VolumeView → Call → Result Reply Error → VolumeView → Type 0
-IsVolumeCall old call (Ok reply) new = IsReplied old call reply new
-IsVolumeCall old call (Err e) new =
+abbrev pub IsWorkingCall : VolumeView → Call → Result Reply Error → VolumeView → Type 0
+IsWorkingCall old call (Ok reply) new = IsReplied old call reply new
+IsWorkingCall old call (Err e) new =
     ((e ≡ NoMemory) × WantsMemory old new)
     ⊎ FailsInCalls e old.session new.session
+
+-- A call of a volume. One that has failed replies `Failed`, and nothing changes.
+pub record IsVolumeCall (old : VolumeView) (call : Call) (result : Result Reply Error) (new : VolumeView) : Type 0 where
+  pub failed : old.session.tree.failed ≡ true → (result ≡ Ok (ops.Refused ops.Failed)) × (new ≡ old)
+  pub works : old.session.tree.failed ≡ false → IsWorkingCall old call result new
 
 -- A remount closes all handles and remounts the session, whether the session had failed or not. Where it succeeds, the volume works
 -- and has the tree that the disk shows. Where it ends in an error, the volume has failed.
 pub record IsRemount (old : VolumeView) (result : Result Reply Error) (new : VolumeView) : Type 0 where
   pub call : IsCall old.session ops.Remount result new.session
-  pub nodes : new.nodes ≡ []
-  pub handles : new.handles ≡ []
+  pub closed : HasNoHandles new
   pub works : (reply : Reply) → result ≡ Ok reply → (new.session.tree.failed ≡ false) × ShowsTree new.session.tree.disk (Some (shown_tree new.session.tree))
   pub failed : (e : Error) → result ≡ Err e → new.session.tree.failed ≡ true
 
@@ -190,6 +198,7 @@ pub record EndsSyncAt (e : Error) (old : SessionView) (nodes : List (Option Node
 
 -- a handle that reads, and the volume once the handle's node is loaded
 pub record IsReadyToRead (old : VolumeView) (handle : ℕ) (h : Handle) (new : VolumeView) : Type 0 where
+  pub sound : IsSoundVolume old
   pub working : IsWorking old.session
   pub at : entry_at old.handles handle ≡ Some h
   pub reads : h.reads ≡ true

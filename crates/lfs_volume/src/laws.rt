@@ -1,6 +1,6 @@
 // What follows of the calls that a volume makes of its session.
 
-ghost use Rattle.std.specs.Prelude.{◌≡◌, ◌++◌, List, false};
+ghost use Rattle.std.specs.Prelude.{◌≡◌, ◌++◌, List, Ok, false};
 ghost use Rattle.lfs_device.specs.declared.error.Error.{Error};
 ghost use Rattle.lfs_lookup.specs.RefusalErrors.{is_refusal};
 ghost use Rattle.lfs_model.specs.session.Operations.{Operation, Reply};
@@ -14,7 +14,7 @@ ghost use Rattle.lfs_volume.specs.SessionCalls.{AreVolumeSteps, EndsInCall};
 ghost use Rattle.lfs_volume.specs.Calls.{Call};
 ghost use Rattle.lfs_volume.specs.Stops.{StopLeaves};
 ghost use Rattle.lfs_volume.specs.Volume.{VolumeView};
-ghost use Rattle.lfs_volume.specs.VolumeCalls.{IsReplied, IsSoundVolume};
+ghost use Rattle.lfs_volume.specs.VolumeCalls.{IsVolumeCall};
 
 /// The session's calls within one call of a volume are turns of the session's life. After them the
 /// session has the tree that its disk shows. A loss of power anywhere in them is survived, and so are
@@ -33,8 +33,7 @@ pub fn stop_in_volume_call_leaves_either_tree()
     ensures { (old new : SessionView) (operations : List Operation) → AreVolumeSteps old operations new → StopLeaves old new }
 {}
 
-/// A call that was replied to, even by a refusal, leaves a volume that works. So the next call meets a
-/// sound volume.
+/// A volume that works, and replied to a call, even by a refusal, works afterwards.
 pub fn replied_volume_works()
-    ensures { (old new : VolumeView) (call : Call) (reply : Reply) → IsSoundVolume old → IsReplied old call reply new → new.session.tree.failed ≡ false }
+    ensures { (old new : VolumeView) (call : Call) (reply : Reply) → old.session.tree.failed ≡ false → IsVolumeCall old call (Ok reply) new → new.session.tree.failed ≡ false }
 {}

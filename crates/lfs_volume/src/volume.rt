@@ -1,17 +1,29 @@
 // A volume, and its calls.
 
-ghost use Rattle.std.specs.Prelude.{◌≡◌, ◌+◌, ◌<◌, ◌≤◌, ◌^◌, ℕ, [], false, true, IfErr, IfOk, Ok, OnOk, Some, drop, length, map, take, unwrap_or};
-ghost use Rattle.lfs_model.specs.format.Disk.{profile_file_max};
+ghost use Rattle.std.specs.Prelude.{◌≡◌, ◌⊎◌, ◌+◌, ◌<◌, ◌≤◌, ◌^◌, ℕ, List, [], false, true, IfErr, IfOk, Ok, OnOk, Some, drop, length, map, take, unwrap_or};
+ghost use Rattle.lfs_model.specs.declared.order.NameOrder.{NameOrder};
+ghost use Rattle.lfs_model.specs.declared.order.NameOrder.TheVariants.{LongerFirst, ShorterFirst};
+ghost use Rattle.lfs_model.specs.format.Disk.{SameGeometry, ordered_disk, profile_file_max};
 ghost use Rattle.lfs_model.specs.format.Names.{same_name};
+ghost use Rattle.lfs_model.specs.format.Thread.{Pair, address_blocks, anchor_address};
+ghost use Rattle.lfs_model.specs.tree.Fresh.{empty_tree};
+ghost use Rattle.lfs_model.specs.tree.View.{IsAccepted};
 ghost use Rattle.lfs_model.specs.session.Operations as ops;
+ghost use Rattle.lfs_model.specs.session.State.{Healthy, mounted_session};
+ghost use Rattle.lfs_model.specs.crash.RepeatedPowerLoss.{IsMounted};
+ghost use Rattle.lfs_thread.specs.Kept.{disk_of_device, kept_in_order};
+ghost use Rattle.lfs_thread.specs.ThreadDevice.{GivesDeviceBack};
+ghost use Rattle.lfs_tree.specs.Formats.{IsFormatError, IsFormatted, WritesFirstTwo};
+ghost use Rattle.lfs_tree.specs.TreeState.{kept_thread};
 ghost use Rattle.lfs_fs.specs.FlagsView.{flags_view};
 ghost use Rattle.lfs_fs.specs.GstateView.{returned_gstate_reply};
 ghost use Rattle.lfs_fs.specs.Replies.{reply_from};
+ghost use Rattle.lfs_fs.specs.SessionView.{BeginsByMount, system_state};
 ghost use Rattle.lfs_lookup.specs.Finds.{listed_item_view, stat_view};
 ghost use Rattle.lfs_volume.specs.Calls as calls;
 ghost use Rattle.lfs_volume.specs.SessionCalls.{error_result};
 ghost use Rattle.lfs_volume.specs.Volume.{NodeView, VolumeView, entry_at};
-ghost use Rattle.lfs_volume.specs.VolumeCalls.{FitsAt, IsDropped, IsFoundHandle, IsReadyToRead, IsRemount, IsSound, IsSoundVolume, IsTooLong, IsVolumeCall, IsWorking};
+ghost use Rattle.lfs_volume.specs.VolumeCalls.{FitsAt, HasNoHandles, IsDropped, IsFoundHandle, IsReadyToRead, IsRemount, IsSoundVolume, IsTooLong, IsVolumeCall, IsWorking};
 
 use crate::bytes::{copied, copy_into};
 use crate::flags::{allows_volume_flags, session_flags, truncates};
@@ -49,16 +61,20 @@ pub struct Volume<D: BlockDevice> {
 
 impl<D: BlockDevice> Model for Volume<D> {
     ghost use Rattle.lfs_volume.specs.Volume.{VolumeView};
+    ghost use Rattle.lfs_volume.specs.VolumeCalls.{IsSound};
 
     ghost Value = { VolumeView };
 
     ghost view = { λ v. record { session = v.session; nodes = v.nodes.items; handles = v.handles.items } };
+
+    ghost invariant = { λ v. IsSound (record { session = v.session; nodes = v.nodes.items; handles = v.handles.items }) };
 }
 
 impl<D: BlockDevice> Volume<D> {
     // Returns `Failed` where the session has failed.
     fn check_works(&self) -> Result<(), Error>
         ensures works { OnOk result (IsWorking self.now.session) }
+        ensures sound { OnOk result (IsSoundVolume self.now) }
         ensures failed { IfErr result (λ e. (e ≡ Error.Failed) × (self.now.session.tree.failed ≡ true)) }
     {
         self.session.used_count()?;
@@ -67,7 +83,8 @@ impl<D: BlockDevice> Volume<D> {
 
     // Returns the handle of that number, in a volume that works.
     fn find_handle(&self, handle: u32) -> Result<Handle, Error>
-        ensures { IsFoundHandle self.now handle result }
+        ensures found { IsFoundHandle self.now handle result }
+        ensures sound { OnOk result (IsSoundVolume self.now) }
     {
         self.check_works()?;
         match handle_at(&self.handles, handle) {
@@ -85,8 +102,7 @@ impl<D: BlockDevice> Volume<D> {
     /// `Invalid` where the flags aren't allowed together; the refusals of a session's `open`, for
     /// writing where the file is to be written, but never `Busy`.
     pub fn open(&mut self, alloc: Global, path: &[u8], flags: OpenFlags) -> Result<u32, Error>
-        ensures call { IsSoundVolume self.old → IsVolumeCall self.old (calls.Open path.now (flags_view flags)) (reply_from ops.Opened result) self.new }
-        ensures sound { IsSoundVolume self.old → IsSound self.new }
+        ensures { IsVolumeCall self.old (calls.Open path.now (flags_view flags)) (reply_from ops.Opened result) self.new }
     {
         self.check_works()?;
         if !allows_volume_flags(flags) {
@@ -112,9 +128,8 @@ impl<D: BlockDevice> Volume<D> {
     // Returns the handle of that number, which is open for reading, with the bytes of its node in
     // memory.
     fn handle_to_read(&mut self, alloc: Global, handle: u32) -> Result<Handle, Error>
-        ensures found { IfOk result (λ h. IsSoundVolume self.old → IsReadyToRead self.old handle h self.new) }
-        ensures ended { IfErr result (λ e. (count : ℕ) → IsSoundVolume self.old → IsVolumeCall self.old (calls.Read handle count) (error_result e) self.new) }
-        ensures sound { IsSoundVolume self.old → IsSound self.new }
+        ensures found { IfOk result (λ h. IsReadyToRead self.old handle h self.new) }
+        ensures ended { IfErr result (λ e. (count : ℕ) → IsVolumeCall self.old (calls.Read handle count) (error_result e) self.new) }
     {
         let found = self.find_handle(handle)?;
         if !found.reads {
@@ -143,8 +158,7 @@ impl<D: BlockDevice> Volume<D> {
     ///
     /// `BadFile` where no handle of that number is open for reading.
     pub fn read(&mut self, alloc: Global, handle: u32, count: u32) -> Result<Vec<u8>, Error>
-        ensures call { IsSoundVolume self.old → IsVolumeCall self.old (calls.Read handle count) (reply_from (λ v. ops.Bytes v.items) result) self.new }
-        ensures sound { IsSoundVolume self.old → IsSound self.new }
+        ensures { IsVolumeCall self.old (calls.Read handle count) (reply_from (λ v. ops.Bytes v.items) result) self.new }
     {
         let found = self.handle_to_read(alloc, handle)?;
         let bytes = copied(alloc, self.bytes_at(found, count as usize))?;
@@ -160,10 +174,9 @@ impl<D: BlockDevice> Volume<D> {
     ///
     /// `BadFile` where no handle of that number is open for reading.
     pub fn read_into(&mut self, alloc: Global, handle: u32, buf: &mut [u8]) -> Result<usize, Error>
-        ensures call { IfOk result (λ n. IsSoundVolume self.old → IsVolumeCall self.old (calls.Read handle (length buf.old)) (Ok (ops.Bytes (take n buf.new))) self.new) }
+        ensures call { IfOk result (λ n. IsVolumeCall self.old (calls.Read handle (length buf.old)) (Ok (ops.Bytes (take n buf.new))) self.new) }
         ensures rest { IfOk result (λ n. drop n buf.new ≡ drop n buf.old) }
-        ensures ended { IfErr result (λ e. IsSoundVolume self.old → IsVolumeCall self.old (calls.Read handle (length buf.old)) (error_result e) self.new) }
-        ensures sound { IsSoundVolume self.old → IsSound self.new }
+        ensures ended { IfErr result (λ e. IsVolumeCall self.old (calls.Read handle (length buf.old)) (error_result e) self.new) }
     {
         let found = self.handle_to_read(alloc, handle)?;
         let bytes = self.bytes_at(found, buf.len());
@@ -199,8 +212,7 @@ impl<D: BlockDevice> Volume<D> {
     /// `BadFile` where no handle of that number is open for writing; `TooBig` where the file would
     /// have more bytes than the profile allows.
     pub fn write(&mut self, alloc: Global, handle: u32, bytes: &[u8]) -> Result<u32, Error>
-        ensures call { IsSoundVolume self.old → IsVolumeCall self.old (calls.Write handle bytes.now) (reply_from ops.Count result) self.new }
-        ensures sound { IsSoundVolume self.old → IsSound self.new }
+        ensures { IsVolumeCall self.old (calls.Write handle bytes.now) (reply_from ops.Count result) self.new }
     {
         let found = self.find_handle(handle)?;
         if !found.writes {
@@ -224,8 +236,7 @@ impl<D: BlockDevice> Volume<D> {
     /// `BadFile` where no handle has that number; `Invalid` for a position past the profile's longest
     /// file.
     pub fn seek(&mut self, handle: u32, position: u32) -> Result<(), Error>
-        ensures call { IsSoundVolume self.old → IsVolumeCall self.old (calls.Seek handle position) (reply_from (λ _. ops.Done) result) self.new }
-        ensures sound { IsSoundVolume self.old → IsSound self.new }
+        ensures { IsVolumeCall self.old (calls.Seek handle position) (reply_from (λ _. ops.Done) result) self.new }
     {
         self.find_handle(handle)?;
         if position > self.file_max() {
@@ -241,7 +252,7 @@ impl<D: BlockDevice> Volume<D> {
     ///
     /// `BadFile` where no handle has that number.
     pub fn position(&self, handle: u32) -> Result<u32, Error>
-        ensures { IsSoundVolume self.now → IsVolumeCall self.now (calls.Tell handle) (reply_from ops.Count result) self.now }
+        ensures { IsVolumeCall self.now (calls.Tell handle) (reply_from ops.Count result) self.now }
     {
         Ok(self.find_handle(handle)?.position)
     }
@@ -252,7 +263,7 @@ impl<D: BlockDevice> Volume<D> {
     ///
     /// `BadFile` where no handle has that number.
     pub fn size(&self, handle: u32) -> Result<u32, Error>
-        ensures { IsSoundVolume self.now → IsVolumeCall self.now (calls.Size handle) (reply_from ops.Count result) self.now }
+        ensures { IsVolumeCall self.now (calls.Size handle) (reply_from ops.Count result) self.now }
     {
         let found = self.find_handle(handle)?;
         match node_at(&self.nodes, found.node) {
@@ -268,8 +279,7 @@ impl<D: BlockDevice> Volume<D> {
     /// `BadFile` where no handle of that number is open for writing; `TooBig` where the size is more
     /// than the profile allows.
     pub fn truncate(&mut self, alloc: Global, handle: u32, size: u32) -> Result<(), Error>
-        ensures call { IsSoundVolume self.old → IsVolumeCall self.old (calls.Truncate handle size) (reply_from (λ _. ops.Done) result) self.new }
-        ensures sound { IsSoundVolume self.old → IsSound self.new }
+        ensures { IsVolumeCall self.old (calls.Truncate handle size) (reply_from (λ _. ops.Done) result) self.new }
     {
         let found = self.find_handle(handle)?;
         if !found.writes {
@@ -291,8 +301,7 @@ impl<D: BlockDevice> Volume<D> {
     /// `BadFile` where no handle has that number; `NoSpace` where fewer blocks are free than the file
     /// takes anew: two, and those of a list of its length.
     pub fn sync(&mut self, alloc: Global, handle: u32) -> Result<(), Error>
-        ensures call { IsSoundVolume self.old → IsVolumeCall self.old (calls.Sync handle) (reply_from (λ _. ops.Done) result) self.new }
-        ensures sound { IsSoundVolume self.old → IsSound self.new }
+        ensures { IsVolumeCall self.old (calls.Sync handle) (reply_from (λ _. ops.Done) result) self.new }
     {
         let found = self.find_handle(handle)?;
         sync_at(alloc, &mut self.session, &mut self.nodes, found.node)?;
@@ -306,8 +315,7 @@ impl<D: BlockDevice> Volume<D> {
     ///
     /// Errors are those of [`sync`](Volume::sync).
     pub fn close(&mut self, alloc: Global, handle: u32) -> Result<(), Error>
-        ensures call { IsSoundVolume self.old → IsVolumeCall self.old (calls.Close handle) (reply_from (λ _. ops.Done) result) self.new }
-        ensures sound { IsSoundVolume self.old → IsSound self.new }
+        ensures { IsVolumeCall self.old (calls.Close handle) (reply_from (λ _. ops.Done) result) self.new }
     {
         let found = self.find_handle(handle)?;
         match sync_at(alloc, &mut self.session, &mut self.nodes, found.node) {
@@ -336,8 +344,7 @@ impl<D: BlockDevice> Volume<D> {
     ///
     /// Errors are those of a session's `stat`.
     pub fn stat(&mut self, alloc: Global, path: &[u8]) -> Result<Stat, Error>
-        ensures call { IsSoundVolume self.old → IsVolumeCall self.old (calls.Perform (ops.Stat path.now)) (reply_from (λ stat. ops.StatIs (stat_view stat)) result) self.new }
-        ensures sound { IsSoundVolume self.old → IsSound self.new }
+        ensures { IsVolumeCall self.old (calls.Perform (ops.Stat path.now)) (reply_from (λ stat. ops.StatIs (stat_view stat)) result) self.new }
     {
         self.session.stat(alloc, path)
     }
@@ -348,8 +355,7 @@ impl<D: BlockDevice> Volume<D> {
     ///
     /// Errors are those of a session's `list`.
     pub fn list(&mut self, alloc: Global, path: &[u8]) -> Result<Vec<Item>, Error>
-        ensures call { IsSoundVolume self.old → IsVolumeCall self.old (calls.Perform (ops.ListAll path.now)) (reply_from (λ items. ops.Items (map listed_item_view items.items)) result) self.new }
-        ensures sound { IsSoundVolume self.old → IsSound self.new }
+        ensures { IsVolumeCall self.old (calls.Perform (ops.ListAll path.now)) (reply_from (λ items. ops.Items (map listed_item_view items.items)) result) self.new }
     {
         self.session.list(alloc, path)
     }
@@ -360,8 +366,7 @@ impl<D: BlockDevice> Volume<D> {
     ///
     /// Errors are those of a session's `get_attr`.
     pub fn get_attr(&mut self, alloc: Global, path: &[u8], kind: u8) -> Result<Vec<u8>, Error>
-        ensures call { IsSoundVolume self.old → IsVolumeCall self.old (calls.Perform (ops.GetAttr path.now kind)) (reply_from (λ v. ops.Bytes v.items) result) self.new }
-        ensures sound { IsSoundVolume self.old → IsSound self.new }
+        ensures { IsVolumeCall self.old (calls.Perform (ops.GetAttr path.now kind)) (reply_from (λ v. ops.Bytes v.items) result) self.new }
     {
         self.session.get_attr(alloc, path, kind)
     }
@@ -372,7 +377,7 @@ impl<D: BlockDevice> Volume<D> {
     ///
     /// `Failed` alone.
     pub fn gstate(&self) -> Result<Gstate, Error>
-        ensures { IsSoundVolume self.now → IsVolumeCall self.now (calls.Perform ops.AskGstate) (reply_from returned_gstate_reply result) self.now }
+        ensures { IsVolumeCall self.now (calls.Perform ops.AskGstate) (reply_from returned_gstate_reply result) self.now }
     {
         self.session.gstate()
     }
@@ -383,7 +388,7 @@ impl<D: BlockDevice> Volume<D> {
     ///
     /// `Invalid` where the image has no such block.
     pub fn is_used(&self, block: u32) -> Result<bool, Error>
-        ensures { IsSoundVolume self.now → IsVolumeCall self.now (calls.Perform (ops.IsUsed block)) (reply_from ops.Yes result) self.now }
+        ensures { IsVolumeCall self.now (calls.Perform (ops.IsUsed block)) (reply_from ops.Yes result) self.now }
     {
         self.session.is_used(block)
     }
@@ -394,7 +399,7 @@ impl<D: BlockDevice> Volume<D> {
     ///
     /// `Failed` alone.
     pub fn used_count(&self) -> Result<u32, Error>
-        ensures { IsSoundVolume self.now → IsVolumeCall self.now (calls.Perform ops.UsedCount) (reply_from ops.Count result) self.now }
+        ensures { IsVolumeCall self.now (calls.Perform ops.UsedCount) (reply_from ops.Count result) self.now }
     {
         self.session.used_count()
     }
@@ -405,8 +410,7 @@ impl<D: BlockDevice> Volume<D> {
     ///
     /// Errors are those of a session's `mkdir`.
     pub fn mkdir(&mut self, alloc: Global, path: &[u8]) -> Result<(), Error>
-        ensures call { IsSoundVolume self.old → IsVolumeCall self.old (calls.Perform (ops.Mkdir path.now)) (reply_from (λ _. ops.Done) result) self.new }
-        ensures sound { IsSoundVolume self.old → IsSound self.new }
+        ensures { IsVolumeCall self.old (calls.Perform (ops.Mkdir path.now)) (reply_from (λ _. ops.Done) result) self.new }
     {
         self.session.mkdir(alloc, path)
     }
@@ -423,8 +427,7 @@ impl<D: BlockDevice> Volume<D> {
         kind: u8,
         value: &[u8],
     ) -> Result<(), Error>
-        ensures call { IsSoundVolume self.old → IsVolumeCall self.old (calls.Perform (ops.SetAttr path.now kind value.now)) (reply_from (λ _. ops.Done) result) self.new }
-        ensures sound { IsSoundVolume self.old → IsSound self.new }
+        ensures { IsVolumeCall self.old (calls.Perform (ops.SetAttr path.now kind value.now)) (reply_from (λ _. ops.Done) result) self.new }
     {
         self.session.set_attr(alloc, path, kind, value)
     }
@@ -435,8 +438,7 @@ impl<D: BlockDevice> Volume<D> {
     ///
     /// Errors are those of a session's `remove_attr`.
     pub fn remove_attr(&mut self, alloc: Global, path: &[u8], kind: u8) -> Result<(), Error>
-        ensures call { IsSoundVolume self.old → IsVolumeCall self.old (calls.Perform (ops.RemoveAttr path.now kind)) (reply_from (λ _. ops.Done) result) self.new }
-        ensures sound { IsSoundVolume self.old → IsSound self.new }
+        ensures { IsVolumeCall self.old (calls.Perform (ops.RemoveAttr path.now kind)) (reply_from (λ _. ops.Done) result) self.new }
     {
         self.session.remove_attr(alloc, path, kind)
     }
@@ -447,8 +449,7 @@ impl<D: BlockDevice> Volume<D> {
     ///
     /// Errors are those of a session's `recover`.
     pub fn recover(&mut self, alloc: Global) -> Result<(), Error>
-        ensures call { IsSoundVolume self.old → IsVolumeCall self.old (calls.Perform ops.Recover) (reply_from (λ _. ops.Done) result) self.new }
-        ensures sound { IsSoundVolume self.old → IsSound self.new }
+        ensures { IsVolumeCall self.old (calls.Perform ops.Recover) (reply_from (λ _. ops.Done) result) self.new }
     {
         self.session.recover(alloc)
     }
@@ -460,8 +461,7 @@ impl<D: BlockDevice> Volume<D> {
     ///
     /// Errors are those of a session's `remove`, but never `Busy`.
     pub fn remove(&mut self, alloc: Global, path: &[u8]) -> Result<(), Error>
-        ensures call { IsSoundVolume self.old → IsVolumeCall self.old (calls.Perform (ops.Remove path.now)) (reply_from (λ _. ops.Done) result) self.new }
-        ensures sound { IsSoundVolume self.old → IsSound self.new }
+        ensures { IsVolumeCall self.old (calls.Perform (ops.Remove path.now)) (reply_from (λ _. ops.Done) result) self.new }
     {
         self.check_works()?;
         let place = node_with_path(&self.nodes, path);
@@ -478,8 +478,7 @@ impl<D: BlockDevice> Volume<D> {
     ///
     /// Errors are those of a session's `rename`, but never `Busy`.
     pub fn rename(&mut self, alloc: Global, from: &[u8], to: &[u8]) -> Result<(), Error>
-        ensures call { IsSoundVolume self.old → IsVolumeCall self.old (calls.Perform (ops.Rename from.now to.now)) (reply_from (λ _. ops.Done) result) self.new }
-        ensures sound { IsSoundVolume self.old → IsSound self.new }
+        ensures { IsVolumeCall self.old (calls.Perform (ops.Rename from.now to.now)) (reply_from (λ _. ops.Done) result) self.new }
     {
         if is_same_path(from, to) {
             return self.session.rename(alloc, from, to);
@@ -490,8 +489,7 @@ impl<D: BlockDevice> Volume<D> {
     // Gives an entry another path, which isn't its own.
     fn rename_apart(&mut self, alloc: Global, from: &[u8], to: &[u8]) -> Result<(), Error>
         requires { same_name from.now to.now ≡ false }
-        ensures call { IsSoundVolume self.old → IsVolumeCall self.old (calls.Perform (ops.Rename from.now to.now)) (reply_from (λ _. ops.Done) result) self.new }
-        ensures sound { IsSoundVolume self.old → IsSound self.new }
+        ensures { IsVolumeCall self.old (calls.Perform (ops.Rename from.now to.now)) (reply_from (λ _. ops.Done) result) self.new }
     {
         self.check_works()?;
         let place = node_with_path(&self.nodes, to);
@@ -509,8 +507,7 @@ impl<D: BlockDevice> Volume<D> {
     ///
     /// Errors are those of a session's `remount`.
     pub fn remount(&mut self, alloc: Global) -> Result<(), Error>
-        ensures call { IsRemount self.old (reply_from (λ _. ops.Done) result) self.new }
-        ensures sound { IsSound self.new }
+        ensures { IsRemount self.old (reply_from (λ _. ops.Done) result) self.new }
     {
         self.handles.clear();
         self.nodes.clear();
@@ -518,17 +515,25 @@ impl<D: BlockDevice> Volume<D> {
     }
 
     /// Borrows the device, as the last call left it.
-    pub fn device(&self) -> &D {
+    pub fn device(&self) -> &D
+        ensures disk { ordered_disk self.now.session.tree.disk.order (disk_of_device D.BlockDevice result.now) ≡ self.now.session.tree.disk }
+        ensures history { D.history result.now ≡ self.now.session.tree.history }
+    {
         self.session.device()
     }
 
     /// Ends the volume, and returns the device. Nothing is written: what wasn't synced is lost.
-    pub fn unmount(self) -> D {
+    pub fn unmount(self) -> D
+        ensures disk { ordered_disk self.session.tree.disk.order (disk_of_device D.BlockDevice result) ≡ self.session.tree.disk }
+        ensures history { D.history result ≡ self.session.tree.history }
+    {
         self.session.unmount()
     }
 }
 
+// Begins a volume over a session in which no file is open.
 fn begin<D: BlockDevice>(alloc: Global, session: Session<D>) -> Volume<D>
+    requires { session.files ≡ [] }
     ensures { result ≡ record { session = session; nodes = []; handles = [] } }
 {
     Volume {
@@ -538,13 +543,18 @@ fn begin<D: BlockDevice>(alloc: Global, session: Session<D>) -> Volume<D>
     }
 }
 
-/// Begins a volume over the image of a device, as `lfs_fs::mount` begins a session.
+/// Begins a volume over the image of a device, as `lfs_fs::mount` begins a session. No file is open.
 ///
 /// # Errors
 ///
 /// Errors are those of `lfs_fs::mount`.
 pub fn mount<D: BlockDevice>(alloc: Global, device: D) -> Result<Volume<D>, (D, Error)>
-    ensures { IfOk result (λ v. IsSoundVolume v) }
+    ensures begun { IfOk result (λ v. HasNoHandles v × BeginsByMount (ordered_disk v.session.tree.disk.order (disk_of_device D.BlockDevice device)) (D.history device) v.session) }
+    ensures state { IfOk result (λ v. IsMounted (ordered_disk v.session.tree.disk.order (disk_of_device D.BlockDevice device)) (system_state v.session)) }
+    ensures longer { IfOk result (λ v. v.session.tree.disk.order ≡ ShorterFirst → (ps : List Pair) → ¬ IsAccepted (ordered_disk LongerFirst (disk_of_device D.BlockDevice device)) ps) }
+    ensures corrupt { IfErr result (λ e. e.1 ≡ Error.Corrupt → (order : NameOrder) (ps : List Pair) → ¬ IsAccepted (ordered_disk order (disk_of_device D.BlockDevice device)) ps) }
+    ensures errors { IfErr result (λ e. (e.1 ≡ Error.Io) ⊎ (e.1 ≡ Error.Corrupt) ⊎ (e.1 ≡ Error.NoMemory)) }
+    ensures back { IfErr result (λ e. GivesDeviceBack D.BlockDevice device e.0 e.1) }
 {
     match lfs_fs::mount(alloc, device) {
         Ok(session) => Ok(begin(alloc, session)),
@@ -552,13 +562,18 @@ pub fn mount<D: BlockDevice>(alloc: Global, device: D) -> Result<Volume<D>, (D, 
     }
 }
 
-/// Makes an empty file system on a device, as `lfs_fs::format` does.
+/// Makes an empty file system on a device, as `lfs_fs::format` does, and begins a volume over it. No
+/// file is open.
 ///
 /// # Errors
 ///
 /// Errors are those of `lfs_fs::format`.
 pub fn format<D: BlockDevice>(alloc: Global, device: D) -> Result<Volume<D>, (D, Error)>
-    ensures { IfOk result (λ v. IsSoundVolume v) }
+    ensures formatted { IfOk result (λ v. HasNoHandles v × IsFormatted (kept_thread v.session.tree)) }
+    ensures state { IfOk result (λ v. (system_state v.session).state ≡ Healthy (mounted_session empty_tree)) }
+    ensures geometry { IfOk result (λ v. SameGeometry (ordered_disk LongerFirst (disk_of_device D.BlockDevice device)) v.session.tree.disk) }
+    ensures calls { IfOk result (λ v. WritesFirstTwo (kept_in_order D.BlockDevice LongerFirst device [] []) (kept_thread v.session.tree)) }
+    ensures back { IfErr result (λ e. IsFormatError D.BlockDevice (address_blocks anchor_address) device e.0 e.1) }
 {
     match lfs_fs::format(alloc, device) {
         Ok(session) => Ok(begin(alloc, session)),

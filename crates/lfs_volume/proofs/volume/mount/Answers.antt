@@ -1,7 +1,15 @@
-use Rattle.std.proofs.Common.{sym, subst}
-use Rattle.lfs_volume.specs.VolumeCalls.{IsSoundVolume}
-use Rattle.lfs_volume.proofs.Soundness.{empty_sound}
+use Rattle.std.proofs.Common.{◌≡◌, List, sym, subst}
+use Rattle.lfs_model.specs.declared.order.NameOrder.TheVariants.{LongerFirst, ShorterFirst}
+use Rattle.lfs_model.specs.format.Disk.{ordered_disk}
+use Rattle.lfs_model.specs.format.Thread.{Pair}
+use Rattle.lfs_model.specs.tree.View.{IsAccepted}
+use Rattle.lfs_thread.specs.Kept.{disk_of_device}
+use Rattle.lfs_volume.specs.Volume.{VolumeView}
 use Rattle.lfs_volume.proofs.volume.mount.Goals as goal
 
-pub returns-in-Ok : goal.returns-in-Ok
-returns-in-Ok g c = subst IsSoundVolume (sym c.begin.ensures) (empty_sound c.in-Ok.session c.in-Ok.ensures.begun.works c.in-Ok.ensures.begun.no_files)
+pub begin-requires : goal.begin-requires
+begin-requires g c = c.in-Ok.ensures.begun.no_files
+
+pub returns-in-Ok-clause-longer : goal.returns-in-Ok-clause-longer
+returns-in-Ok-clause-longer g c =
+    subst (λ (v : VolumeView). v.session.tree.disk.order ≡ ShorterFirst → (ps : List Pair) → IsAccepted (ordered_disk LongerFirst (disk_of_device g.D.BlockDevice c.args.device)) ps → ⊥) (sym c.begin.ensures) c.in-Ok.ensures.longer

@@ -1,23 +1,22 @@
-use Rattle.std.proofs.Common.{refl, map}
+use Rattle.std.proofs.Common.{refl, subst, map}
 use Rattle.lfs_lookup.specs.Finds.{listed_item_view}
 use Rattle.lfs_fs.specs.Replies.{reply_from}
 use Rattle.lfs_model.specs.session.Operations as ops
 use Rattle.lfs_volume.specs.Calls.{Perform}
 use Rattle.lfs_volume.specs.Volume.{VolumeView}
-use Rattle.lfs_volume.specs.VolumeCalls.{IsSound, IsVolumeCall}
-use Rattle.lfs_volume.proofs.SessionOperations.{performed}
-use Rattle.lfs_volume.proofs.TreesKept.{performed_sound}
-use Rattle.lfs_volume.proofs.VolumeSteps.{of_whole}
+use Rattle.lfs_volume.specs.VolumeCalls.{IsVolumeCall}
+use Rattle.lfs_volume.proofs.SessionOperations.{performed_call}
+use Rattle.lfs_volume.proofs.TreesKept.{performed_keeps}
 use Rattle.lfs_volume.proofs.volume.Volume.list.Goals as goal
 
-pub returns-clause-call : goal.returns-clause-call
-returns-clause-call g c =
+pub returns : goal.returns
+returns g c =
     let start : VolumeView = record { session = c.self.inside.session; nodes = c.self.inside.nodes.items; handles = c.self.inside.handles.items } in
     let new : VolumeView = record { session = c.list.new.self; nodes = c.self.inside.nodes.items; handles = c.self.inside.handles.items } in
-    of_whole start c.args.self.now c.self.view_is (λ v. IsVolumeCall v (Perform (ops.ListAll c.args.path.now)) (reply_from (λ items. ops.Items (map listed_item_view items.items)) c.list.result) new) (λ sound. performed start new (ops.ListAll c.args.path.now) (reply_from (λ items. ops.Items (map listed_item_view items.items)) c.list.result) refl sound c.list.ensures refl refl)
+    subst (λ v. IsVolumeCall v (Perform (ops.ListAll c.args.path.now)) (reply_from (λ items. ops.Items (map listed_item_view items.items)) c.list.result) new) c.self.view_is (performed_call start new (ops.ListAll c.args.path.now) (reply_from (λ items. ops.Items (map listed_item_view items.items)) c.list.result) refl c.self.invariant c.list.ensures refl refl)
 
-pub returns-clause-sound : goal.returns-clause-sound
-returns-clause-sound g c =
+pub invariant_of-self : goal.invariant_of-self
+invariant_of-self g c =
     let start : VolumeView = record { session = c.self.inside.session; nodes = c.self.inside.nodes.items; handles = c.self.inside.handles.items } in
     let new : VolumeView = record { session = c.list.new.self; nodes = c.self.inside.nodes.items; handles = c.self.inside.handles.items } in
-    of_whole start c.args.self.now c.self.view_is (λ v. IsSound new) (λ sound. performed_sound start new (ops.ListAll c.args.path.now) (reply_from (λ items. ops.Items (map listed_item_view items.items)) c.list.result) refl sound c.list.ensures refl refl)
+    performed_keeps start new (ops.ListAll c.args.path.now) (reply_from (λ items. ops.Items (map listed_item_view items.items)) c.list.result) refl c.self.invariant c.list.ensures refl refl

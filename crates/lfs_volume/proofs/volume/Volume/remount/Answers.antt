@@ -6,14 +6,14 @@ use Rattle.lfs_volume.specs.VolumeCalls.{IsRemount}
 use Rattle.lfs_volume.proofs.Soundness.{remounted, remounted_sound}
 use Rattle.lfs_volume.proofs.volume.Volume.remount.Goals as goal
 
-pub returns-clause-call : goal.returns-clause-call
-returns-clause-call g c =
+pub returns : goal.returns
+returns g c =
     let old : VolumeView = record { session = c.self.inside.session; nodes = c.self.inside.nodes.items; handles = c.self.inside.handles.items } in
     let new : VolumeView = record { session = c.remount.new.self; nodes = c.clear-2.new.self.items; handles = c.clear.new.self.items } in
     subst (λ v. IsRemount v (reply_from (λ _. ops.Done) c.remount.result) new) c.self.view_is (remounted old new (reply_from (λ _. ops.Done) c.remount.result) c.remount.ensures c.clear-2.ensures.items c.clear.ensures.items)
 
-pub returns-clause-sound : goal.returns-clause-sound
-returns-clause-sound g c =
+pub invariant_of-self : goal.invariant_of-self
+invariant_of-self g c =
     let old : VolumeView = record { session = c.self.inside.session; nodes = c.self.inside.nodes.items; handles = c.self.inside.handles.items } in
     let new : VolumeView = record { session = c.remount.new.self; nodes = c.clear-2.new.self.items; handles = c.clear.new.self.items } in
     remounted_sound old new (reply_from (λ _. ops.Done) c.remount.result) c.remount.ensures c.clear-2.ensures.items c.clear.ensures.items

@@ -5,39 +5,40 @@ use Rattle.lfs_volume.specs.Calls.{Sync}
 use Rattle.lfs_volume.specs.Volume.{VolumeView}
 use Rattle.lfs_volume.specs.VolumeCalls.{IsFoundHandle, IsReplied, IsSound, IsVolumeCall}
 use Rattle.lfs_volume.proofs.Soundness.{sound_after_sync, sound_if_working}
-use Rattle.lfs_volume.proofs.VolumeSteps.{ended_call, no_handle, of_whole, sync_done, sync_ended, sync_none}
+use Rattle.lfs_volume.proofs.VolumeSteps.{call_in_parts, ended_call, no_handle, of_whole, passed_error, sync_done, sync_ended, sync_none}
 use Rattle.lfs_volume.proofs.volume.Volume.sync.Goals as goal
 
-pub returns-in_err-found-clause-call : goal.returns-in_err-found-clause-call
-returns-in_err-found-clause-call g c sound =
-    ended_call (λ _. ops.Done) c.from_residual.result _ c.args.self.now c.args.self.now (Sync c.args.handle) c.from_residual.ensures.1 (no_handle _ c.args.self.now c.args.handle (Sync c.args.handle) sound c.in_err-found.ensures (λ around none. sync_none c.args.self.now c.args.handle around none))
+pub returns-in_err-found : goal.returns-in_err-found
+returns-in_err-found g c =
+    passed_error (λ _. ops.Done) c.from_residual.result _ (λ z. IsVolumeCall c.args.self.now (Sync c.args.handle) z c.args.self.now) c.from_residual.ensures.1
+    (no_handle _ c.args.self.now c.args.handle (Sync c.args.handle) c.in_err-found.ensures.found (λ around none. sync_none c.args.self.now c.args.handle around none))
 
-pub returns-in_err-sync_at-clause-call : goal.returns-in_err-sync_at-clause-call
-returns-in_err-sync_at-clause-call g c =
+pub returns-in_err-sync_at : goal.returns-in_err-sync_at
+returns-in_err-sync_at g c =
     let start : VolumeView = record { session = c.self.inside.session; nodes = c.self.inside.nodes.items; handles = c.self.inside.handles.items } in
     let new : VolumeView = record { session = c.sync_at.new.session; nodes = c.sync_at.new.nodes.items; handles = c.self.inside.handles.items } in
-    let found = subst (λ v. IsFoundHandle v c.args.handle (Ok c.in_ok-found.found)) (sym c.self.view_is) c.in_ok-found.ensures in
-    of_whole start c.args.self.now c.self.view_is (λ v. IsVolumeCall v (Sync c.args.handle) (reply_from (λ _. ops.Done) c.from_residual-in_err-sync_at.result) new) (λ sound.
+    let found = subst (λ v. IsFoundHandle v c.args.handle (Ok c.in_ok-found.found)) (sym c.self.view_is) c.in_ok-found.ensures.found in
+    call_in_parts start c.args.self.now new (Sync c.args.handle) (reply_from (λ _. ops.Done) c.from_residual-in_err-sync_at.result) c.self.view_is c.in_ok-found.ensures.sound (λ sound.
     ended_call (λ _. ops.Done) c.from_residual-in_err-sync_at.result _ start new (Sync c.args.handle) c.from_residual-in_err-sync_at.ensures.1
     (sync_ended _ start new c.args.handle c.in_ok-found.found sound found (c.in_err-sync_at.ensures.ended sound.idle (λ n e. sound.nodes c.in_ok-found.found.node n e)) c.in_err-sync_at.ensures.kept refl))
 
-pub returns-clause-call : goal.returns-clause-call
-returns-clause-call g c =
+pub returns : goal.returns
+returns g c =
     let start : VolumeView = record { session = c.self.inside.session; nodes = c.self.inside.nodes.items; handles = c.self.inside.handles.items } in
     let new : VolumeView = record { session = c.sync_at.new.session; nodes = c.sync_at.new.nodes.items; handles = c.self.inside.handles.items } in
-    let found = subst (λ v. IsFoundHandle v c.args.handle (Ok c.in_ok-found.found)) (sym c.self.view_is) c.in_ok-found.ensures in
-    of_whole start c.args.self.now c.self.view_is (λ v. IsReplied v (Sync c.args.handle) ops.Done new) (λ sound.
+    let found = subst (λ v. IsFoundHandle v c.args.handle (Ok c.in_ok-found.found)) (sym c.self.view_is) c.in_ok-found.ensures.found in
+    call_in_parts start c.args.self.now new (Sync c.args.handle) (Ok ops.Done) c.self.view_is c.in_ok-found.ensures.sound (λ sound.
     sync_done start new c.args.handle c.in_ok-found.found sound found (c.in_ok-sync_at.ensures.synced sound.idle (λ n e. sound.nodes c.in_ok-found.found.node n e)) refl)
 
-pub returns-in_err-sync_at-clause-sound : goal.returns-in_err-sync_at-clause-sound
-returns-in_err-sync_at-clause-sound g c =
+pub invariant_of-self : goal.invariant_of-self
+invariant_of-self g c =
     let start : VolumeView = record { session = c.self.inside.session; nodes = c.self.inside.nodes.items; handles = c.self.inside.handles.items } in
     let new : VolumeView = record { session = c.sync_at.new.session; nodes = c.sync_at.new.nodes.items; handles = c.self.inside.handles.items } in
-    of_whole start c.args.self.now c.self.view_is (λ v. IsSound new) (λ sound. sound_if_working _ start new c.in_ok-found.found.node sound (c.in_err-sync_at.ensures.ended sound.idle (λ n e. sound.nodes c.in_ok-found.found.node n e)) c.in_err-sync_at.ensures.kept refl)
+    of_whole start c.args.self.now c.self.view_is (λ v. IsSound new) (λ sound. sound_if_working _ start new c.in_ok-found.found.node sound (c.in_err-sync_at.ensures.ended sound.idle (λ n e. sound.nodes c.in_ok-found.found.node n e)) c.in_err-sync_at.ensures.kept refl) c.in_ok-found.ensures.sound
 
-pub returns-clause-sound : goal.returns-clause-sound
-returns-clause-sound g c =
+pub invariant_of-self-2 : goal.invariant_of-self-2
+invariant_of-self-2 g c =
     let start : VolumeView = record { session = c.self.inside.session; nodes = c.self.inside.nodes.items; handles = c.self.inside.handles.items } in
     let new : VolumeView = record { session = c.sync_at.new.session; nodes = c.sync_at.new.nodes.items; handles = c.self.inside.handles.items } in
-    let found = subst (λ v. IsFoundHandle v c.args.handle (Ok c.in_ok-found.found)) (sym c.self.view_is) c.in_ok-found.ensures in
-    of_whole start c.args.self.now c.self.view_is (λ v. IsSound new) (λ sound works. sound_after_sync start new c.args.handle c.in_ok-found.found sound found.1 (c.in_ok-sync_at.ensures.synced sound.idle (λ n e. sound.nodes c.in_ok-found.found.node n e)) refl)
+    let found = subst (λ v. IsFoundHandle v c.args.handle (Ok c.in_ok-found.found)) (sym c.self.view_is) c.in_ok-found.ensures.found in
+    of_whole start c.args.self.now c.self.view_is (λ v. IsSound new) (λ sound works. sound_after_sync start new c.args.handle c.in_ok-found.found sound found.1 (c.in_ok-sync_at.ensures.synced sound.idle (λ n e. sound.nodes c.in_ok-found.found.node n e)) refl) c.in_ok-found.ensures.sound

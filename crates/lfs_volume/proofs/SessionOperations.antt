@@ -18,7 +18,7 @@ use Rattle.lfs_tree.specs.TreeState.{shown_tree, tree_summary}
 use Rattle.lfs_fs.specs.CallEffects.{IsCall}
 use Rattle.lfs_fs.specs.SessionView.{SessionFails, SessionView, system_state, viewed_session}
 use Rattle.lfs_volume.specs.declared.handles.Handle.{Handle}
-use Rattle.lfs_volume.specs.Calls.{Call, Perform, call_result, handles_after, nodes_after, unless_refused}
+use Rattle.lfs_volume.specs.Calls.{Call, Perform, call_result, nodes_after, unless_refused}
 use Rattle.lfs_volume.specs.Opened.{AreNoFiles}
 use Rattle.lfs_volume.specs.SessionCalls.{error_result}
 use Rattle.lfs_volume.specs.Volume.{NodeView, Volume, VolumeView, idle_session, volume_of}
@@ -52,7 +52,6 @@ pub record LeavesTables (t : Tree) (around : DiskSummary) (files : OpenFilesByNu
   pub reply : (operation_effect around (with_files t files) op).0 ≡ (operation_effect around (idle_session t) op).0
   pub tree : (operation_effect around (with_files t files) op).1.tree ≡ (operation_effect around (idle_session t) op).1.tree
   pub nodes : (ns : List (Option NodeView)) → nodes_after t op ns ≡ ns
-  pub handles : (hs : List (Option Handle)) → handles_after op hs ≡ hs
 
 no_files : {X : Type 0} (f : OpenFilesByNumber → X) (files : OpenFilesByNumber) → f (None ∷ []) ≡ f [] → AreNoFiles files → f files ≡ f []
 no_files f files e (inl k) = ap f k
@@ -60,27 +59,26 @@ no_files f files e (inr k) = ap f k ∙ e
 
 leaves : (t : Tree) (around : DiskSummary) (files : OpenFilesByNumber) (op : Operation) → AreNoFiles files → is_remount op ≡ false → operation_refusal around (with_files t (None ∷ [])) op ≡ operation_refusal around (with_files t []) op
     → (operation_effect around (with_files t (None ∷ [])) op).0 ≡ (operation_effect around (with_files t []) op).0 → (operation_effect around (with_files t (None ∷ [])) op).1.tree ≡ (operation_effect around (with_files t []) op).1.tree
-    → ((ns : List (Option NodeView)) → nodes_after t op ns ≡ ns) → ((hs : List (Option Handle)) → handles_after op hs ≡ hs) → LeavesTables t around files op
-leaves t around files op n other refusal reply tree nodes handles = record {
+    → ((ns : List (Option NodeView)) → nodes_after t op ns ≡ ns) → LeavesTables t around files op
+leaves t around files op n other refusal reply tree nodes = record {
   other = other;
   refusal = no_files (λ fs. operation_refusal around (with_files t fs) op) files refusal n;
   reply = no_files (λ fs. (operation_effect around (with_files t fs) op).0) files reply n;
   tree = no_files (λ fs. (operation_effect around (with_files t fs) op).1.tree) files tree n;
   nodes = nodes;
-  handles = handles;
 }
 
 pub leaves_tables : (t : Tree) (around : DiskSummary) (files : OpenFilesByNumber) (op : Operation) → AreNoFiles files → is_alone op ≡ true → LeavesTables t around files op
-leaves_tables t around files (ops.Mkdir path) n is = leaves t around files (ops.Mkdir path) n refl refl refl refl (λ ns. refl) (λ hs. refl)
-leaves_tables t around files (ops.ListAll path) n is = leaves t around files (ops.ListAll path) n refl refl refl refl (λ ns. refl) (λ hs. refl)
-leaves_tables t around files (ops.Stat path) n is = leaves t around files (ops.Stat path) n refl refl refl refl (λ ns. refl) (λ hs. refl)
-leaves_tables t around files (ops.GetAttr path kind) n is = leaves t around files (ops.GetAttr path kind) n refl refl refl refl (λ ns. refl) (λ hs. refl)
-leaves_tables t around files (ops.SetAttr path kind bytes) n is = leaves t around files (ops.SetAttr path kind bytes) n refl refl refl refl (λ ns. refl) (λ hs. refl)
-leaves_tables t around files (ops.RemoveAttr path kind) n is = leaves t around files (ops.RemoveAttr path kind) n refl refl refl refl (λ ns. refl) (λ hs. refl)
-leaves_tables t around files ops.AskGstate n is = leaves t around files ops.AskGstate n refl refl refl refl (λ ns. refl) (λ hs. refl)
-leaves_tables t around files (ops.IsUsed block) n is = leaves t around files (ops.IsUsed block) n refl refl refl refl (λ ns. refl) (λ hs. refl)
-leaves_tables t around files ops.UsedCount n is = leaves t around files ops.UsedCount n refl refl refl refl (λ ns. refl) (λ hs. refl)
-leaves_tables t around files ops.Recover n is = leaves t around files ops.Recover n refl refl refl refl (λ ns. refl) (λ hs. refl)
+leaves_tables t around files (ops.Mkdir path) n is = leaves t around files (ops.Mkdir path) n refl refl refl refl (λ ns. refl)
+leaves_tables t around files (ops.ListAll path) n is = leaves t around files (ops.ListAll path) n refl refl refl refl (λ ns. refl)
+leaves_tables t around files (ops.Stat path) n is = leaves t around files (ops.Stat path) n refl refl refl refl (λ ns. refl)
+leaves_tables t around files (ops.GetAttr path kind) n is = leaves t around files (ops.GetAttr path kind) n refl refl refl refl (λ ns. refl)
+leaves_tables t around files (ops.SetAttr path kind bytes) n is = leaves t around files (ops.SetAttr path kind bytes) n refl refl refl refl (λ ns. refl)
+leaves_tables t around files (ops.RemoveAttr path kind) n is = leaves t around files (ops.RemoveAttr path kind) n refl refl refl refl (λ ns. refl)
+leaves_tables t around files ops.AskGstate n is = leaves t around files ops.AskGstate n refl refl refl refl (λ ns. refl)
+leaves_tables t around files (ops.IsUsed block) n is = leaves t around files (ops.IsUsed block) n refl refl refl refl (λ ns. refl)
+leaves_tables t around files ops.UsedCount n is = leaves t around files ops.UsedCount n refl refl refl refl (λ ns. refl)
+leaves_tables t around files ops.Recover n is = leaves t around files ops.Recover n refl refl refl refl (λ ns. refl)
 leaves_tables t around files op n is = absurd (cc)
 
 pub not_remount : (op : Operation) → is_alone op ≡ true → is_remount op ≡ false
@@ -141,7 +139,7 @@ performed old new op (Ok reply) alone sound call nodes handles =
     let a = answered old.session op reply new.session other sound.idle.works call.answers in
     let l = leaves_tables t a.around old.session.files op sound.idle.files alone in
     let r = result_is (operation_refusal a.around (viewed_session old.session) op) (operation_refusal a.around (idle_session t) op) (viewed_session old.session) (volume_of old) (operation_effect a.around (viewed_session old.session) op) (operation_effect a.around (idle_session t) op)
-    (nodes_after t op old.nodes) (handles_after op old.handles) l.refusal refl l.reply l.tree (l.nodes old.nodes) (l.handles old.handles) in
+    (nodes_after t op old.nodes) old.handles l.refusal refl l.reply l.tree (l.nodes old.nodes) refl in
     record {
       around = a.around;
       at = old.session;

@@ -17,7 +17,7 @@ use Rattle.lfs_tree.specs.TreeState.{shown_tree}
 use Rattle.lfs_fs.specs.CallEffects.{IsCall}
 use Rattle.lfs_fs.specs.SessionView.{SessionView, viewed_session}
 use Rattle.lfs_volume.specs.declared.handles.Handle.{Handle}
-use Rattle.lfs_volume.specs.Calls.{Perform, call_effect, call_result, handles_after, nodes_after, unless_refused}
+use Rattle.lfs_volume.specs.Calls.{Perform, call_effect, call_result, nodes_after, unless_refused}
 use Rattle.lfs_volume.specs.Opened.{AreNoFiles, IsIdle}
 use Rattle.lfs_volume.specs.SessionCalls.{EndsInCall, error_result}
 use Rattle.lfs_volume.specs.Volume.{NodeView, Volume, VolumeView, entry_at, idle_session, loaded_node, node_bytes, volume_of}
@@ -61,7 +61,6 @@ pub record IsOnEntries (op : Operation) : Type 0 where
   pub other : is_remount op ≡ false
   pub proper : (around : DiskSummary) (s : Session) → is_refusal (operation_effect around s op).0 ≡ false
   pub changes : (t : Tree) (around : DiskSummary) (files : OpenFilesByNumber) → AreNoFiles files → ChangesTree t around files op
-  pub handles : (hs : List (Option Handle)) → handles_after op hs ≡ hs
 
 without_files : {X : Type 0} (f : OpenFilesByNumber → X) (files : OpenFilesByNumber) → f (None ∷ []) ≡ f [] → AreNoFiles files → f files ≡ f []
 without_files f files e (inl k) = ap f k
@@ -72,7 +71,6 @@ remove_on_entries path = record {
   other = refl;
   proper = λ around s. refl;
   changes = λ t around files n. record { refusal = without_files (λ fs. operation_refusal around (with_files t fs) (ops.Remove path)) files refl n; reply = refl; tree = refl; same_files = refl };
-  handles = λ hs. refl;
 }
 
 pub rename_on_entries : (from to : List ℕ) → IsOnEntries (ops.Rename from to)
@@ -80,7 +78,6 @@ rename_on_entries from to = record {
   other = refl;
   proper = λ around s. refl;
   changes = λ t around files n. record { refusal = without_files (λ fs. operation_refusal around (with_files t fs) (ops.Rename from to)) files refl n; reply = refl; tree = refl; same_files = refl };
-  handles = λ hs. refl;
 }
 
 module _ (old mid : VolumeView) (place : ℕ) (sound : IsSoundVolume old) (r : IsReady old mid place) (op : Operation) (o : IsOnEntries op) where
@@ -129,7 +126,7 @@ module _ (old mid : VolumeView) (place : ℕ) (sound : IsSoundVolume old) (r : I
         reply_is = subst (λ (tree : Tree). (call_result d.around (record { tree = tree; nodes = old.nodes; handles = old.handles }) (Perform op)).0 ≡ reply) r.loaded.idle.shows
             (ap (λ (z : Reply × Volume). z.0) result ∙ sym c.reply ∙ ap (λ (z : Reply × Session). z.0) d.is);
         next = subst (λ (tree : Tree). IsSameVolume (call_result d.around (record { tree = tree; nodes = old.nodes; handles = old.handles }) (Perform op)).1 (volume_of new)) r.loaded.idle.shows
-            (subst (λ (z : Reply × Volume). IsSameVolume z.1 (volume_of new)) (sym result) (same_as (call_effect d.around (started t) (Perform op)).1 (volume_of new) (tree_after new.session reply d) nodes (handles ∙ sym (o.handles old.handles))));
+            (subst (λ (z : Reply × Volume). IsSameVolume z.1 (volume_of new)) (sym result) (same_as (call_effect d.around (started t) (Perform op)).1 (volume_of new) (tree_after new.session reply d) nodes handles));
         operations = r.loaded.operations ++ op ∷ [];
         session_part = inl (inr (record {
           before = r.loaded.operations;

@@ -216,15 +216,11 @@ with_paths [] nodes = nodes
 with_paths (path ∷ paths) [] = []
 with_paths (path ∷ paths) (node ∷ nodes) = option_map (with_path path) node ∷ with_paths paths nodes
 
+-- what an operation of the session makes of open files
 abbrev pub nodes_after : Tree → Operation → List (Option NodeView) → List (Option NodeView)
 nodes_after tree (ops.Remove path) nodes = map (option_map (unlink_path tree path)) nodes
 nodes_after tree (ops.Rename old new) nodes = map (option_map (λ n. moved_node old new (if same_name old new then n else unlink_path tree new n))) nodes
-nodes_after tree ops.Remount nodes = []
 nodes_after tree _ nodes = nodes
-
-abbrev pub handles_after : Operation → List (Option Handle) → List (Option Handle)
-handles_after ops.Remount handles = []
-handles_after _ handles = handles
 
 -- ---- a call that no check refuses
 
@@ -269,7 +265,7 @@ call_effect around v (Perform op) = (
   record {
     tree = (operation_effect around (idle_session v.tree) op).1.tree;
     nodes = nodes_after v.tree op v.nodes;
-    handles = handles_after op v.handles;
+    handles = v.handles;
   },
 )
 

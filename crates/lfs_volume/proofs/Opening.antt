@@ -43,9 +43,10 @@ open_forbidden v path flags working e =
     refused_at_once v (Open path flags) Invalid working (λ around k. ap (λ b. first_refusal (refuse_if (not b) Invalid ∷ operation_refusal around (idle_session (shown_tree v.session.tree)) (ops.Open path (session_flags flags)) ∷ [])) e)
 
 -- nothing has changed
-pub wants_own_memory : (old new : VolumeView) → new.session ≡ old.session → new.nodes ≡ old.nodes → new.handles ≡ old.handles → WantsMemory old new
-wants_own_memory old new session nodes handles = record {
-  works = ap (λ (s : SessionView). s.tree.failed) session;
+pub wants_own_memory : (old new : VolumeView) (path : List ℕ) (flags : FlagsOfOpen) → IsSoundVolume old → new.session ≡ old.session → new.nodes ≡ old.nodes → new.handles ≡ old.handles → WantsMemory old (Open path flags) new
+wants_own_memory old new path flags sound session nodes handles = record {
+  may = refl;
+  works = ap (λ (s : SessionView). s.tree.failed) session ∙ sound.idle.works;
   same = same_as (volume_of old) (volume_of new) (ap (λ (s : SessionView). shown_tree s.tree) session) nodes handles;
   operations = [];
   calls = sym session;

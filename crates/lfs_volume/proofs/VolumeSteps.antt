@@ -18,7 +18,7 @@ use Rattle.lfs_tree.specs.TreeState.{shown_tree}
 use Rattle.lfs_fs.specs.Replies.{reply_from}
 use Rattle.lfs_fs.specs.SessionView.{SessionView}
 use Rattle.lfs_volume.specs.declared.handles.Handle.{Handle}
-use Rattle.lfs_volume.specs.Calls.{Call, Close, Read, Seek, Size, Sync, Tell, Truncate, Write, call_effect, call_refusal, call_result, close_effect, closed_nodes, closed_volume, handle_node, moved_handle, named, needs_sync, node_number, read_effect, stored_node, sync_node, sync_refusal, sync_tree, unless_refused, write_effect, write_too_big, written_size}
+use Rattle.lfs_volume.specs.Calls.{Call, Close, Read, Seek, Size, Sync, Tell, Truncate, Write, call_effect, call_refusal, call_result, close_effect, closed_nodes, closed_volume, handle_node, lengthens, may_want_memory, moved_handle, named, needs_sync, node_number, read_effect, stored_node, sync_node, sync_refusal, sync_tree, unless_refused, write_effect, write_lengthens, write_too_big, written_size}
 use Rattle.lfs_volume.specs.Hulls.{resized_hull}
 use Rattle.lfs_volume.specs.Opened.{IsIdle, writing_flags}
 use Rattle.lfs_volume.specs.SessionCalls.{AreQuietCalls, AreVolumeSteps, FailsInCalls, error_result}
@@ -155,9 +155,10 @@ pub passed_error : {A : Type 0} (reply : A → Reply) (r : Result A Error) (e : 
 passed_error reply (Ok x) e P is h = absurd is
 passed_error reply (Err f) e P is h = subst (λ z. P (error_result z)) (sym is) h
 
-pub wants_memory : (old new : VolumeView) (i : ℕ) → IsSoundVolume old → IsLoadedAt old.session old.nodes i new.session new.nodes → new.handles ≡ old.handles → WantsMemory old new
-wants_memory old new i sound l handles = record {
-  works = l.idle.works ∙ sym sound.idle.works;
+pub wants_memory : (old new : VolumeView) (call : Call) (i : ℕ) → IsLoadedAt old.session old.nodes i new.session new.nodes → new.handles ≡ old.handles → may_want_memory (volume_of old) call ≡ true → WantsMemory old call new
+wants_memory old new call i l handles may = record {
+  may = may;
+  works = l.idle.works;
   same = same_when_loaded old new i l handles;
   operations = l.operations;
   calls = l.calls;
@@ -378,13 +379,34 @@ truncate_done old mid new handle size h sound (working, found) is small l kept r
           (sym (ap (λ (o : Option Handle). unwrap_or (option_map (λ (x : Handle). x.node) o) (length old.nodes)) found)) (resized_volume old mid new size h.node s.0 s.1 l kept session handles are),
     ))
 
+-- ---- memory
+
+-- the size of a node stays as it is loaded
+size_before : (old new : SessionView) (nodes loaded : List (Option NodeView)) (i size : ℕ) (n : NodeView) → entry_at nodes i ≡ Some n → IsLoadedAt old nodes i new loaded → IfSome (entry_at loaded i) (λ m. m.size < size) → n.size < size
+size_before old new nodes loaded i size n at l more = subst (λ (o : Option NodeView). IfSome o (λ m. m.size < size)) (loaded_entry old new nodes loaded i n at l) more
+
+handle_node_is : (v : VolumeView) (handle : ℕ) (h : Handle) (n : NodeView) → entry_at v.handles handle ≡ Some h → entry_at v.nodes h.node ≡ Some n → handle_node (volume_of v) handle ≡ Some n
+handle_node_is v handle h n found at = ap (λ (o : Option Handle). option_and_then (λ (x : Handle). entry_at v.nodes x.node) o) found ∙ at
+
+pub truncate_may : (old mid : VolumeView) (handle size : ℕ) (h : Handle) → IsSoundVolume old → IsWorking old.session × (entry_at old.handles handle ≡ Some h) → IsLoadedAt old.session old.nodes h.node mid.session mid.nodes → IfSome (entry_at mid.nodes h.node) (λ n. n.size < size)
+    → may_want_memory (volume_of old) (Truncate handle size) ≡ true
+truncate_may old mid handle size h sound (working, found) l more =
+    let s = some_from (entry_at old.nodes h.node) (sound.named handle h found) in
+    ap (λ (o : Option NodeView). lengthens o size) (handle_node_is old handle h s.0 found s.1) ∙ lt-ltb s.0.size size (size_before old.session mid.session old.nodes mid.nodes h.node size s.0 s.1 l more)
+
+pub write_may : (old mid : VolumeView) (handle at : ℕ) (bytes : List ℕ) (h : Handle) → IsSoundVolume old → IsWorking old.session × (entry_at old.handles handle ≡ Some h) → FitsAt old h (length bytes) at → IsLoadedAt old.session old.nodes h.node mid.session mid.nodes
+    → IfSome (entry_at mid.nodes h.node) (λ n. n.size < at + length bytes) → may_want_memory (volume_of old) (Write handle bytes) ≡ true
+write_may old mid handle at bytes h sound (working, found) fits l more =
+    let s = some_from (entry_at old.nodes h.node) (sound.named handle h found) in
+    let f = subst (λ o. IfSome o (λ n. (at ≡ write_place h n) × (max n.size (at + length bytes) ≤ profile_file_max old.session.tree.disk.profile))) s.1 fits in
+    let less : s.0.size < at + length bytes = size_before old.session mid.session old.nodes mid.nodes h.node (at + length bytes) s.0 s.1 l more in
+    ap₂ (λ (o : Option Handle) (m : Option NodeView). write_lengthens o m bytes) found (handle_node_is old handle h s.0 found s.1)
+    ∙ lt-ltb s.0.size (write_place h s.0 + length bytes) (subst (λ (k : ℕ). s.0.size < k + length bytes) f.0 less)
+
 -- ---- a sync
 
 pub sync_none : (v : VolumeView) (handle : ℕ) (around : DiskSummary) → entry_at v.handles handle ≡ None → call_refusal around (volume_of v) (Sync handle) ≡ Some BadFile
 sync_none v handle around none = ap (λ (o : Option Handle). first_refusal (refuse_if (is_none o) BadFile ∷ sync_refusal around (shown_tree v.session.tree) (option_and_then (λ (x : Handle). entry_at v.nodes x.node) o) ∷ [])) none
-
-handle_node_is : (v : VolumeView) (handle : ℕ) (h : Handle) (n : NodeView) → entry_at v.handles handle ≡ Some h → entry_at v.nodes h.node ≡ Some n → handle_node (volume_of v) handle ≡ Some n
-handle_node_is v handle h n found at = ap (λ (o : Option Handle). option_and_then (λ (x : Handle). entry_at v.nodes x.node) o) found ∙ at
 
 sync_checks : (v : VolumeView) (handle : ℕ) (h : Handle) (n : NodeView) (r : Option Refusal) (around : DiskSummary) → entry_at v.handles handle ≡ Some h → entry_at v.nodes h.node ≡ Some n → sync_refusal around (shown_tree v.session.tree) (Some n) ≡ r → call_refusal around (volume_of v) (Sync handle) ≡ first_refusal (None ∷ r ∷ [])
 sync_checks v handle h n r around found at is =
@@ -509,7 +531,7 @@ pub failed_parts : (e : Error) (parts whole new : VolumeView) (call : Call) → 
 failed_parts e parts whole new call same fails = of_whole parts whole same (λ v. IsWorkingCall v call (error_result e) new) (λ sound. failed_call e parts new call (fails sound))
 
 -- the volume wanted memory
-pub no_memory : (e : Error) (old new : VolumeView) (call : Call) → e ≡ error.NoMemory → WantsMemory old new → IsWorkingCall old call (error_result e) new
+pub no_memory : (e : Error) (old new : VolumeView) (call : Call) → e ≡ error.NoMemory → WantsMemory old call new → IsWorkingCall old call (error_result e) new
 no_memory e old new call is wants = subst (λ z. IsWorkingCall old call (error_result z) new) (sym is) (inl (refl, wants))
 
 -- a refusal that is passed on

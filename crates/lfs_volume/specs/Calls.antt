@@ -1,5 +1,5 @@
 -- Calls of a volume: which check refuses each, and what it replies and changes where none does.
-use Rattle.std.specs.Prelude.{ℕ, ◌+◌, ◌==◌, nat_lt, max, Bool, false, not, ◌&&◌, ◌||◌, if◌then◌else◌, List, [], ◌∷◌, ◌++◌, length, take, drop, map, slice_set, Option, Some, None, is_some, is_none, nat_eq, unwrap_or}
+use Rattle.std.specs.Prelude.{ℕ, ◌+◌, ◌==◌, nat_lt, max, Bool, true, false, not, ◌&&◌, ◌||◌, if◌then◌else◌, List, [], ◌∷◌, ◌++◌, length, take, drop, map, slice_set, Option, Some, None, is_some, is_none, nat_eq, unwrap_or}
 use Rattle.std.specs.List.{list_any, position_or_len, starts_with}
 use Rattle.std.specs.Option.{option_map, option_and_then}
 use Rattle.lfs_model.specs.format.Names.{same_name, slash_byte}
@@ -25,7 +25,7 @@ pub data Call : Type 0 where
   Truncate : (handle size : ℕ) → Call
   Sync : (handle : ℕ) → Call
   Close : (handle : ℕ) → Call
-  -- an operation of the session that is about no open file's number
+  -- an operation of the session that is about no open file's number, and no remount
   Perform : (operation : Operation) → Call
 
 -- ---- flags
@@ -121,6 +121,27 @@ call_refusal around v (Sync handle) = first_refusal (
     ∷ [])
 call_refusal around v (Close handle) = refuse_if (is_none (entry_at v.handles handle)) BadFile
 call_refusal around v (Perform op) = operation_refusal around (idle_session v.tree) op
+
+-- ---- memory
+
+-- the file of the node gets longer
+abbrev pub lengthens : Option NodeView → ℕ → Bool
+lengthens None size = false
+lengthens (Some n) size = nat_lt n.size size
+
+abbrev pub write_lengthens : Option Handle → Option NodeView → List ℕ → Bool
+write_lengthens (Some h) (Some n) bytes = nat_lt n.size (write_place h n + length bytes)
+write_lengthens h n bytes = false
+
+-- A call may want memory of the volume's own: for a handle and a node, for bytes that are returned, for a file that gets longer,
+-- and for paths that move.
+abbrev pub may_want_memory : Volume → Call → Bool
+may_want_memory v (Open path flags) = true
+may_want_memory v (Read handle count) = true
+may_want_memory v (Write handle bytes) = write_lengthens (entry_at v.handles handle) (handle_node v handle) bytes
+may_want_memory v (Truncate handle size) = lengthens (handle_node v handle) size
+may_want_memory v (Perform (ops.Rename old new)) = not (same_name old new)
+may_want_memory v _ = false
 
 -- ---- effects
 

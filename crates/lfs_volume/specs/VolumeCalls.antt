@@ -19,7 +19,7 @@ use Rattle.lfs_tree.specs.TreeState.{shown_tree}
 use Rattle.lfs_fs.specs.CallEffects.{IsCall}
 use Rattle.lfs_fs.specs.SessionView.{SessionView}
 use Rattle.lfs_volume.specs.declared.handles.Handle.{Handle}
-use Rattle.lfs_volume.specs.Calls.{Call, call_result, named, needs_sync, stored_node, sync_refusal, sync_tree}
+use Rattle.lfs_volume.specs.Calls.{Call, call_result, may_want_memory, named, needs_sync, stored_node, sync_refusal, sync_tree}
 use Rattle.lfs_volume.specs.Hulls.{DiffersInHull}
 use Rattle.lfs_volume.specs.Opened.{IsIdle, LeadsToFile}
 use Rattle.lfs_volume.specs.SessionCalls.{AreQuietCalls, AreVolumeSteps, EndsInCall, FailsInCalls}
@@ -86,9 +86,10 @@ pub record IsReplied (old : VolumeView) (call : Call) (reply : Reply) (new : Vol
   pub operations : List Operation
   pub session_part : IsSessionPart old.session operations new.session
 
--- The volume wanted memory of its own. It works on as it was, and the session kept its tree.
-pub record WantsMemory (old new : VolumeView) : Type 0 where
-  pub works : new.session.tree.failed ≡ old.session.tree.failed
+-- The volume wanted memory of its own, in a call that may. It works on as it was, and the session kept its tree.
+pub record WantsMemory (old : VolumeView) (call : Call) (new : VolumeView) : Type 0 where
+  pub may : may_want_memory (volume_of old) call ≡ true
+  pub works : new.session.tree.failed ≡ false
   pub same : IsSameVolume (volume_of old) (volume_of new)
   pub operations : List Operation
   pub calls : AreQuietCalls old.session operations new.session
@@ -97,7 +98,7 @@ pub record WantsMemory (old new : VolumeView) : Type 0 where
 abbrev pub IsWorkingCall : VolumeView → Call → Result Reply Error → VolumeView → Type 0
 IsWorkingCall old call (Ok reply) new = IsReplied old call reply new
 IsWorkingCall old call (Err e) new =
-    ((e ≡ NoMemory) × WantsMemory old new)
+    ((e ≡ NoMemory) × WantsMemory old call new)
     ⊎ FailsInCalls e old.session new.session
 
 -- A call of a volume. One that has failed replies `Failed`, and nothing changes.

@@ -11,6 +11,7 @@ use std::alloc::{AllocError, Global};
 pub(crate) fn resize_bytes(contents: &mut Vec<u8>, size: usize) -> Result<(), AllocError>
     ensures ok { OnOk result (contents.new.items ≡ take size (zero_padded size contents.old.items)) }
     ensures err { OnErr result (contents.new.items ≡ contents.old.items) }
+    ensures full { OnErr result (length contents.old.items < size) }
 {
     contents.resize(size, 0)
 }
@@ -28,6 +29,7 @@ pub(crate) fn write_bytes(contents: &mut Vec<u8>, at: usize, bytes: &[u8]) -> Re
     requires { at + length bytes.now < 2 ^ 63 }
     ensures ok { OnOk result (contents.new.items ≡ written_contents contents.old.items at bytes.now) }
     ensures err { OnErr result (contents.new.items ≡ contents.old.items) }
+    ensures full { OnErr result (length contents.old.items < at + length bytes.now) }
 {
     let end = at + bytes.len();
     if contents.len() < end {

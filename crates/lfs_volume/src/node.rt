@@ -118,6 +118,7 @@ impl Node {
         requires { at + length bytes.now < 2 ^ 31 }
         ensures ok { OnOk result (IsSome self.old.contents → self.new ≡ written_node at bytes.now (unwrap_or self.old.contents []) self.old) }
         ensures err { OnErr result (self.new ≡ self.old) }
+        ensures full { OnErr result (self.old.size < at + length bytes.now) }
     {
         let Some(contents) = &mut self.contents else {
             return Ok(());
@@ -136,6 +137,7 @@ impl Node {
     pub(crate) fn resize(&mut self, size: u32) -> Result<(), AllocError>
         ensures ok { OnOk result (IsSome self.old.contents → self.new ≡ resized_node size (unwrap_or self.old.contents []) self.old) }
         ensures err { OnErr result (self.new ≡ self.old) }
+        ensures full { OnErr result (self.old.size < size) }
     {
         let Some(contents) = &mut self.contents else {
             return Ok(());

@@ -1,6 +1,6 @@
 // The open files of a volume.
 
-ghost use Rattle.std.specs.Prelude.{◌≡◌, ◌+◌, ◌<◌, ◌≤◌, ◌^◌, [], if◌then◌else◌, IfErr, IfOk, OnErr, OnOk, List, ℕ, None, Some, drop, false, length, map, slice_set, take, unwrap_or, vec_capacity, vec_len};
+ghost use Rattle.std.specs.Prelude.{◌≡◌, ◌+◌, ◌<◌, ◌≤◌, ◌^◌, [], if◌then◌else◌, IfErr, IfOk, IfSome, OnErr, OnOk, List, ℕ, None, Some, drop, false, length, map, slice_set, take, unwrap_or, vec_capacity, vec_len};
 ghost use Rattle.std.specs.List.{position_or_len};
 ghost use Rattle.std.specs.Option.{option_and_then, option_map};
 ghost use Rattle.lfs_tree.specs.TreeState.{shown_tree};
@@ -210,6 +210,7 @@ pub(crate) fn write_at(
     ensures ok { OnOk result ((n : NodeView) (old : List ℕ) → entry_at nodes.old.items number ≡ Some n → n.contents ≡ Some old → nodes.new.items ≡ slice_set nodes.old.items number (Some (written_node at bytes.now old n))) }
     ensures none { IfErr result (λ e. e ≡ Error.NoMemory) }
     ensures err { OnErr result (nodes.new.items ≡ nodes.old.items) }
+    ensures full { OnErr result (IfSome (entry_at nodes.old.items number) (λ n. n.size < at + length bytes.now)) }
 {
     if number >= nodes.len() {
         return Ok(());
@@ -232,6 +233,7 @@ pub(crate) fn resize_at(
     ensures ok { OnOk result ((n : NodeView) (old : List ℕ) → entry_at nodes.old.items number ≡ Some n → n.contents ≡ Some old → nodes.new.items ≡ slice_set nodes.old.items number (Some (resized_node size old n))) }
     ensures none { IfErr result (λ e. e ≡ Error.NoMemory) }
     ensures err { OnErr result (nodes.new.items ≡ nodes.old.items) }
+    ensures full { OnErr result (IfSome (entry_at nodes.old.items number) (λ n. n.size < size)) }
 {
     if number >= nodes.len() {
         return Ok(());

@@ -27,7 +27,7 @@ returns-in_err-reserve_entry g c =
     let new : VolumeView = record { session = c.self.inside.session; nodes = c.self.inside.nodes.items; handles = c.reserve_entry.new.entries.items } in
     call_in_parts start c.args.self.now new (Open c.args.path.now (flags_view c.args.flags)) (reply_from ops.Opened c.from_residual-in_err-reserve_entry.result) c.self.view_is c.in_ok-check_works.ensures.sound (λ sound.
     ended_call ops.Opened c.from_residual-in_err-reserve_entry.result _ start new (Open c.args.path.now (flags_view c.args.flags)) c.from_residual-in_err-reserve_entry.ensures.1
-    (no_memory _ start new (Open c.args.path.now (flags_view c.args.flags)) c.in_err-reserve_entry.ensures.none (wants_own_memory start new refl refl c.reserve_entry.ensures.same)))
+    (no_memory _ start new (Open c.args.path.now (flags_view c.args.flags)) c.in_err-reserve_entry.ensures.none (wants_own_memory start new c.args.path.now (flags_view c.args.flags) sound refl refl c.reserve_entry.ensures.same)))
 
 pub returns-in_err-reserve_entry-2 : goal.returns-in_err-reserve_entry-2
 returns-in_err-reserve_entry-2 g c =
@@ -35,7 +35,7 @@ returns-in_err-reserve_entry-2 g c =
     let new : VolumeView = record { session = c.self.inside.session; nodes = c.reserve_entry-2.new.entries.items; handles = c.reserve_entry.new.entries.items } in
     call_in_parts start c.args.self.now new (Open c.args.path.now (flags_view c.args.flags)) (reply_from ops.Opened c.from_residual-in_err-reserve_entry-2.result) c.self.view_is c.in_ok-check_works.ensures.sound (λ sound.
     ended_call ops.Opened c.from_residual-in_err-reserve_entry-2.result _ start new (Open c.args.path.now (flags_view c.args.flags)) c.from_residual-in_err-reserve_entry-2.ensures.1
-    (no_memory _ start new (Open c.args.path.now (flags_view c.args.flags)) c.in_err-reserve_entry-2.ensures.none (wants_own_memory start new refl c.reserve_entry-2.ensures.same c.reserve_entry.ensures.same)))
+    (no_memory _ start new (Open c.args.path.now (flags_view c.args.flags)) c.in_err-reserve_entry-2.ensures.none (wants_own_memory start new c.args.path.now (flags_view c.args.flags) sound refl c.reserve_entry-2.ensures.same c.reserve_entry.ensures.same)))
 
 pub returns-in_err-own_path : goal.returns-in_err-own_path
 returns-in_err-own_path g c =
@@ -43,7 +43,7 @@ returns-in_err-own_path g c =
     let new : VolumeView = record { session = c.self.inside.session; nodes = c.reserve_entry-2.new.entries.items; handles = c.reserve_entry.new.entries.items } in
     call_in_parts start c.args.self.now new (Open c.args.path.now (flags_view c.args.flags)) (reply_from ops.Opened c.from_residual-in_err-own_path.result) c.self.view_is c.in_ok-check_works.ensures.sound (λ sound.
     ended_call ops.Opened c.from_residual-in_err-own_path.result _ start new (Open c.args.path.now (flags_view c.args.flags)) c.from_residual-in_err-own_path.ensures.1
-    (no_memory _ start new (Open c.args.path.now (flags_view c.args.flags)) c.in_err-own_path.ensures.none (wants_own_memory start new refl c.reserve_entry-2.ensures.same c.reserve_entry.ensures.same)))
+    (no_memory _ start new (Open c.args.path.now (flags_view c.args.flags)) c.in_err-own_path.ensures.none (wants_own_memory start new c.args.path.now (flags_view c.args.flags) sound refl c.reserve_entry-2.ensures.same c.reserve_entry.ensures.same)))
 
 pub returns-in_err-number : goal.returns-in_err-number
 returns-in_err-number g c =
@@ -51,7 +51,7 @@ returns-in_err-number g c =
     let new : VolumeView = record { session = c.self.inside.session; nodes = c.reserve_entry-2.new.entries.items; handles = c.reserve_entry.new.entries.items } in
     call_in_parts start c.args.self.now new (Open c.args.path.now (flags_view c.args.flags)) (reply_from ops.Opened c.from_residual-in_err-number.result) c.self.view_is c.in_ok-check_works.ensures.sound (λ sound.
     ended_call ops.Opened c.from_residual-in_err-number.result _ start new (Open c.args.path.now (flags_view c.args.flags)) c.from_residual-in_err-number.ensures.1
-    (no_memory _ start new (Open c.args.path.now (flags_view c.args.flags)) c.in_err-number.ensures.none (wants_own_memory start new refl c.reserve_entry-2.ensures.same c.reserve_entry.ensures.same)))
+    (no_memory _ start new (Open c.args.path.now (flags_view c.args.flags)) c.in_err-number.ensures.none (wants_own_memory start new c.args.path.now (flags_view c.args.flags) sound refl c.reserve_entry-2.ensures.same c.reserve_entry.ensures.same)))
 
 pub returns-in_err-size : goal.returns-in_err-size
 returns-in_err-size g c =

@@ -17,7 +17,7 @@ returns-in_err-bytes g c =
     let ready = c.in_ok-found.ensures.found in
     working_call c.args.self.now c.handle_to_read.new.self (Read c.args.handle c.args.count) (reply_from (λ v. ops.Bytes v.items) c.from_residual-in_err-bytes.result) ready.sound.idle.works
     (ended_call (λ v. ops.Bytes v.items) c.from_residual-in_err-bytes.result _ c.args.self.now c.handle_to_read.new.self (Read c.args.handle c.args.count) c.from_residual-in_err-bytes.ensures.1
-    (no_memory _ c.args.self.now c.handle_to_read.new.self (Read c.args.handle c.args.count) c.in_err-bytes.ensures.none (wants_memory c.args.self.now c.handle_to_read.new.self c.in_ok-found.found.node ready.sound ready.loaded ready.handles)))
+    (no_memory _ c.args.self.now c.handle_to_read.new.self (Read c.args.handle c.args.count) c.in_err-bytes.ensures.none (wants_memory c.args.self.now c.handle_to_read.new.self (Read c.args.handle c.args.count) c.in_ok-found.found.node ready.loaded ready.handles refl)))
 
 pub returns : goal.returns
 returns g c =

@@ -1,4 +1,4 @@
-use Rattle.std.proofs.Common.{refl, sym, ap, ◌≡◌, ◌∙◌, List, Option, map, true, false, Ok}
+use Rattle.std.proofs.Common.{refl, sym, ap, ◌≡◌, ◌∙◌, List, Option, map, not, true, false, Ok}
 use Rattle.std.specs.Option.{option_and_then, option_map}
 use Rattle.lfs_tree.specs.TreeState.{shown_tree}
 use Rattle.std.specs.List.{position_or_len}
@@ -82,7 +82,7 @@ returns-in_err-paths g c =
     let new : VolumeView = record { session = c.load_at.new.session; nodes = c.load_at.new.nodes.items; handles = c.self.inside.handles.items } in
     call_in_parts start c.args.self.now new (Perform (ops.Rename c.args.from.now c.args.to.now)) (reply_from (λ _. ops.Done) c.from_residual-in_err-paths.result) c.self.view_is c.in_ok-check_works.ensures.sound (λ sound.
     ended_call (λ _. ops.Done) c.from_residual-in_err-paths.result _ start new (Perform (ops.Rename c.args.from.now c.args.to.now)) c.from_residual-in_err-paths.ensures.1
-    (no_memory _ start new (Perform (ops.Rename c.args.from.now c.args.to.now)) refl (wants_memory start new c.node_with_path-place.result sound (c.in_ok-load_at.ensures.loaded sound.idle (λ n e. sound.nodes c.node_with_path-place.result n e)) refl)))
+    (no_memory _ start new (Perform (ops.Rename c.args.from.now c.args.to.now)) refl (wants_memory start new (Perform (ops.Rename c.args.from.now c.args.to.now)) c.node_with_path-place.result (c.in_ok-load_at.ensures.loaded sound.idle (λ n e. sound.nodes c.node_with_path-place.result n e)) refl (ap not c.requires))))
 
 pub invariant_of-self-in_err-paths : goal.invariant_of-self-in_err-paths
 invariant_of-self-in_err-paths g c =

@@ -6,7 +6,7 @@ use Rattle.lfs_volume.specs.Calls.{Truncate}
 use Rattle.lfs_volume.specs.Volume.{VolumeView}
 use Rattle.lfs_volume.specs.VolumeCalls.{IsFoundHandle, IsReplied, IsSound, IsVolumeCall}
 use Rattle.lfs_volume.proofs.Soundness.{failed_not_working, handles_stay, sound_loaded, sound_resized}
-use Rattle.lfs_volume.proofs.VolumeSteps.{call_in_parts, ended_call, failed_parts, loaded_kept, no_handle, no_memory, not_else, not_then, of_whole, passed_error, truncate_done, truncate_forbidden, truncate_none, truncate_too_long, wants_memory, working_call}
+use Rattle.lfs_volume.proofs.VolumeSteps.{call_in_parts, ended_call, failed_parts, loaded_kept, no_handle, no_memory, not_else, not_then, of_whole, passed_error, truncate_done, truncate_forbidden, truncate_may, truncate_none, truncate_too_long, wants_memory, working_call}
 use Rattle.lfs_volume.proofs.volume.Volume.truncate.Goals as goal
 
 pub returns-in_err-found : goal.returns-in_err-found
@@ -37,11 +37,15 @@ returns-in_err-load_at g c =
 pub returns-in_err-resize_at : goal.returns-in_err-resize_at
 returns-in_err-resize_at g c =
     let start : VolumeView = record { session = c.self.inside.session; nodes = c.self.inside.nodes.items; handles = c.self.inside.handles.items } in
+    let mid : VolumeView = record { session = c.load_at.new.session; nodes = c.load_at.new.nodes.items; handles = c.self.inside.handles.items } in
     let new : VolumeView = record { session = c.load_at.new.session; nodes = c.resize_at.new.nodes.items; handles = c.self.inside.handles.items } in
+    let found = subst (λ v. IsFoundHandle v c.args.handle (Ok c.in_ok-found.found)) (sym c.self.view_is) c.in_ok-found.ensures.found in
     call_in_parts start c.args.self.now new (Truncate c.args.handle c.args.size) (reply_from (λ _. ops.Done) c.from_residual-in_err-resize_at.result) c.self.view_is c.in_ok-found.ensures.sound (λ sound.
+    let loaded = c.in_ok-load_at.ensures.loaded sound.idle (λ n e. sound.nodes c.in_ok-found.found.node n e) in
     ended_call (λ _. ops.Done) c.from_residual-in_err-resize_at.result _ start new (Truncate c.args.handle c.args.size) c.from_residual-in_err-resize_at.ensures.1
     (no_memory _ start new (Truncate c.args.handle c.args.size) c.in_err-resize_at.ensures.none
-    (wants_memory start new c.in_ok-found.found.node sound (loaded_kept start.session new.session start.nodes c.load_at.new.nodes.items new.nodes c.in_ok-found.found.node c.in_err-resize_at.ensures.err (c.in_ok-load_at.ensures.loaded sound.idle (λ n e. sound.nodes c.in_ok-found.found.node n e))) refl)))
+    (wants_memory start new (Truncate c.args.handle c.args.size) c.in_ok-found.found.node (loaded_kept start.session new.session start.nodes c.load_at.new.nodes.items new.nodes c.in_ok-found.found.node c.in_err-resize_at.ensures.err loaded) refl
+    (truncate_may start mid c.args.handle c.args.size c.in_ok-found.found sound found loaded c.in_err-resize_at.ensures.full))))
 
 pub returns : goal.returns
 returns g c =

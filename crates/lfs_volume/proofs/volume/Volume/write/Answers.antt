@@ -6,7 +6,7 @@ use Rattle.lfs_volume.specs.Calls.{Write}
 use Rattle.lfs_volume.specs.Volume.{VolumeView}
 use Rattle.lfs_volume.specs.VolumeCalls.{FitsAt, IsFoundHandle, IsReplied, IsSound, IsVolumeCall}
 use Rattle.lfs_volume.proofs.Soundness.{failed_not_working, handles_move, handles_stay, sound_loaded, sound_written}
-use Rattle.lfs_volume.proofs.VolumeSteps.{call_in_parts, ended_call, failed_parts, loaded_kept, no_handle, no_memory, not_else, not_then, of_whole, passed_error, passed_refusal, wants_memory, working_call, write_done, write_forbidden, write_none, write_nothing, write_too_long}
+use Rattle.lfs_volume.proofs.VolumeSteps.{call_in_parts, ended_call, failed_parts, loaded_kept, no_handle, no_memory, not_else, not_then, of_whole, passed_error, passed_refusal, wants_memory, write_may, working_call, write_done, write_forbidden, write_none, write_nothing, write_too_long}
 use Rattle.lfs_volume.proofs.volume.Volume.write.Goals as goal
 
 pub returns-in_err-found : goal.returns-in_err-found
@@ -44,11 +44,16 @@ returns-in_err-load_at g c =
 pub returns-in_err-write_at : goal.returns-in_err-write_at
 returns-in_err-write_at g c =
     let start : VolumeView = record { session = c.self.inside.session; nodes = c.self.inside.nodes.items; handles = c.self.inside.handles.items } in
+    let mid : VolumeView = record { session = c.load_at.new.session; nodes = c.load_at.new.nodes.items; handles = c.self.inside.handles.items } in
     let new : VolumeView = record { session = c.load_at.new.session; nodes = c.write_at.new.nodes.items; handles = c.self.inside.handles.items } in
+    let found = subst (λ v. IsFoundHandle v c.args.handle (Ok c.in_ok-found.found)) (sym c.self.view_is) c.in_ok-found.ensures.found in
+    let fits = subst (λ v. FitsAt v c.in_ok-found.found (length c.args.bytes.now) c.in_ok-at.at) (sym c.self.view_is) c.in_ok-at.ensures.fits in
     call_in_parts start c.args.self.now new (Write c.args.handle c.args.bytes.now) (reply_from ops.Count c.from_residual-in_err-write_at.result) c.self.view_is c.in_ok-found.ensures.sound (λ sound.
+    let loaded = c.in_ok-load_at.ensures.loaded sound.idle (λ n e. sound.nodes c.in_ok-found.found.node n e) in
     ended_call ops.Count c.from_residual-in_err-write_at.result _ start new (Write c.args.handle c.args.bytes.now) c.from_residual-in_err-write_at.ensures.1
     (no_memory _ start new (Write c.args.handle c.args.bytes.now) c.in_err-write_at.ensures.none
-    (wants_memory start new c.in_ok-found.found.node sound (loaded_kept start.session new.session start.nodes c.load_at.new.nodes.items new.nodes c.in_ok-found.found.node c.in_err-write_at.ensures.err (c.in_ok-load_at.ensures.loaded sound.idle (λ n e. sound.nodes c.in_ok-found.found.node n e))) refl)))
+    (wants_memory start new (Write c.args.handle c.args.bytes.now) c.in_ok-found.found.node (loaded_kept start.session new.session start.nodes c.load_at.new.nodes.items new.nodes c.in_ok-found.found.node c.in_err-write_at.ensures.err loaded) refl
+    (write_may start mid c.args.handle c.in_ok-at.at c.args.bytes.now c.in_ok-found.found sound found fits loaded c.in_err-write_at.ensures.full))))
 
 pub returns : goal.returns
 returns g c =

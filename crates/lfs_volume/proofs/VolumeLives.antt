@@ -1,5 +1,5 @@
 -- The calls of a session within a volume's call, as turns of the session's life.
-use Rattle.std.proofs.Common.{inl, inr, ◌≡◌, ◌&&◌, ◌||◌, Bool, true, false, cond, map, List, [], ◌∷◌, ◌++◌, Option, Some, None, Ok, Err, refl, sym, ap, subst, ◌∙◌, append_assoc}
+use Rattle.std.proofs.Common.{inl, inr, ◌≡◌, ◌&&◌, ◌||◌, Bool, true, false, cond, map, List, [], ◌∷◌, ◌++◌, Option, Some, Result, Ok, Err, refl, sym, ap, ap₂, subst, ◌∙◌, append_assoc}
 use Rattle.std.specs.Prelude.{◌⊎◌}
 use Rattle.std.proofs.lemmas.List.{append-nil, map-append}
 use Rattle.lfs_device.specs.declared.error.Error.{Error}
@@ -8,43 +8,57 @@ use Rattle.lfs_tree.specs.TreeState.{shown_tree}
 use Rattle.lfs_model.specs.format.Disk.{Disk, ordered_disk}
 use Rattle.lfs_model.specs.tree.Tree.{Tree}
 use Rattle.lfs_model.specs.session.Operations as ops
-use Rattle.lfs_model.specs.session.Operations.{Operation, Refusal, Reply}
+use Rattle.lfs_model.specs.session.Operations.{Operation, Reply}
 use Rattle.lfs_model.specs.session.Session.{DiskSummary, Session}
-use Rattle.lfs_model.specs.session.State.{HasFailed, Healthy}
-use Rattle.lfs_model.specs.session.Refusals.{operation_refusal}
-use Rattle.lfs_model.specs.session.Effects.{operation_effect, operation_result, unless_refused}
+use Rattle.lfs_model.specs.session.State.{HasFailed, Healthy, is_remount}
+use Rattle.lfs_model.specs.session.Effects.{operation_result}
 use Rattle.lfs_model.specs.session.Run.{HealthyHasDiskTree, SystemState}
 use Rattle.lfs_model.specs.crash.Lives.{Turn, IsLife, IsLifeOfRun, IsRunInTurns, all_answered, answered, failed, fails_last, is_last}
 use Rattle.lfs_model.specs.crash.LifeHeadline.{LifeMatchesDisk}
 use Rattle.lfs_model.specs.crash.RepeatedPowerLoss.{LossInLife, LossInOperation, MeetsRunPremises}
 use Rattle.lfs_model.proofs.JoinedLives.{lives_joined}
-use Rattle.lfs_model.proofs.LivedOn.{life_matches}
+use Rattle.lfs_model.proofs.LivedOn.{life_agrees, life_matches}
 use Rattle.lfs_model.proofs.LivesSurvived.{life_is_safe, life_survives}
 use Rattle.lfs_model.proofs.RunTurns.{answered_last, none_inside}
+use Rattle.lfs_model.proofs.Surviving.{same_surroundings}
 use Rattle.lfs_fs.specs.CallEffects.{IsCall}
 use Rattle.lfs_fs.specs.SessionView.{SessionView, system_state, viewed_session}
 use Rattle.lfs_fs.specs.Turns.{IsSafeRun}
 use Rattle.lfs_fs.proofs.SessionTurns.{call_turn}
-use Rattle.lfs_volume.specs.SessionCalls.{AreQuietCalls, AreVolumeSteps, EndsInCall, IsAcceptedCall}
+use Rattle.lfs_volume.specs.Calls.{Call}
+use Rattle.lfs_volume.specs.SessionCalls.{AreQuietCalls, AreVolumeSteps, EndsInCall, FailsInCalls, IsAcceptedCall}
 use Rattle.lfs_volume.specs.Stops.{StopLeaves}
-use Rattle.lfs_volume.proofs.Steps.{IsDone, done, healthy_view, same_session}
+use Rattle.lfs_volume.specs.Volume.{VolumeView}
+use Rattle.lfs_volume.specs.VolumeCalls.{IsReplied, IsSessionPart, IsVolumeCall, IsWorkingCall}
+use Rattle.lfs_volume.proofs.Steps.{IsAnswered, healthy_view, refusal_step, same_session}
+use Rattle.lfs_volume.proofs.Steps as definitions
+use Rattle.lfs_volume.proofs.Working.{no_remount}
 
--- ---- calls that were accepted
+-- ---- calls that were answered
 
--- the calls were accepted one after another, and each left such a tree
-abbrev AreAccepted : (Tree → Type 0) → SessionView → List Operation → SessionView → Type 0
-AreAccepted P old [] new = old ≡ new
-AreAccepted P old (op ∷ operations) new = (next : SessionView) × (IsAcceptedCall old op next × (P (shown_tree next.tree) × AreAccepted P next operations new))
+-- the session replied, maybe by a refusal
+record IsAnsweredCall (old : SessionView) (op : Operation) (new : SessionView) : Type 0 where
+  reply : Reply
+  call : IsCall old op (Ok reply) new
+  other : is_remount op ≡ false
 
-quiet_accepted : (P : Tree → Type 0) (old : SessionView) (operations : List Operation) (new : SessionView) → P (shown_tree old.tree) → AreQuietCalls old operations new → AreAccepted P old operations new
-quiet_accepted P old [] new p h = h
-quiet_accepted P old (op ∷ operations) new p (next, (one, same, rest)) =
+answered_one : (old new : SessionView) (op : Operation) → IsAcceptedCall old op new → IsAnsweredCall old op new
+answered_one old new op one = record { reply = one.reply; call = one.call; other = one.other }
+
+-- the calls were answered one after another, and each left such a tree
+abbrev AreAnswered : (Tree → Type 0) → SessionView → List Operation → SessionView → Type 0
+AreAnswered P old [] new = old ≡ new
+AreAnswered P old (op ∷ operations) new = (next : SessionView) × (IsAnsweredCall old op next × (P (shown_tree next.tree) × AreAnswered P next operations new))
+
+quiet_answered : (P : Tree → Type 0) (old : SessionView) (operations : List Operation) (new : SessionView) → P (shown_tree old.tree) → AreQuietCalls old operations new → AreAnswered P old operations new
+quiet_answered P old [] new p h = h
+quiet_answered P old (op ∷ operations) new p (next, (one, same, rest)) =
     let q : P (shown_tree next.tree) = subst P (sym same) p in
-    (next, (one, (q, quiet_accepted P next operations new q rest)))
+    (next, (answered_one old next op one, (q, quiet_answered P next operations new q rest)))
 
-accepted_joined : (P : Tree → Type 0) (a : SessionView) (xs : List Operation) (b : SessionView) (ys : List Operation) (c : SessionView) → AreAccepted P a xs b → AreAccepted P b ys c → AreAccepted P a (xs ++ ys) c
-accepted_joined P a [] b ys c h k = subst (λ z. AreAccepted P z ys c) (sym h) k
-accepted_joined P a (op ∷ xs) b ys c (next, (one, (p, rest))) k = (next, (one, (p, accepted_joined P next xs b ys c rest k)))
+answered_joined : (P : Tree → Type 0) (a : SessionView) (xs : List Operation) (b : SessionView) (ys : List Operation) (c : SessionView) → AreAnswered P a xs b → AreAnswered P b ys c → AreAnswered P a (xs ++ ys) c
+answered_joined P a [] b ys c h k = subst (λ z. AreAnswered P z ys c) (sym h) k
+answered_joined P a (op ∷ xs) b ys c (next, (one, (p, rest))) k = (next, (one, (p, answered_joined P next xs b ys c rest k)))
 
 quiet_tree : (old : SessionView) (operations : List Operation) (new : SessionView) → AreQuietCalls old operations new → shown_tree new.tree ≡ shown_tree old.tree
 quiet_tree old [] new h = ap (λ (z : SessionView). shown_tree z.tree) (sym h)
@@ -53,9 +67,9 @@ quiet_tree old (op ∷ operations) new (next, (one, same, rest)) = quiet_tree ne
 abbrev IsEither : Tree → Tree → Tree → Type 0
 IsEither before after tree = (tree ≡ before) ⊎ (tree ≡ after)
 
-steps_accepted : (old new : SessionView) (operations : List Operation) → AreVolumeSteps old operations new → AreAccepted (IsEither (shown_tree old.tree) (shown_tree new.tree)) old operations new
-steps_accepted old new operations (inl quiet) = quiet_accepted (IsEither (shown_tree old.tree) (shown_tree new.tree)) old operations new (inl refl) quiet
-steps_accepted old new operations (inr c) = subst (λ z. AreAccepted either old z new) (sym c.are) (accepted_joined either old c.before c.first (c.change ∷ c.after) new (quiet_accepted either old c.before c.first (inl refl) c.quiet) rest)
+steps_answered_all : (old new : SessionView) (operations : List Operation) → AreVolumeSteps old operations new → AreAnswered (IsEither (shown_tree old.tree) (shown_tree new.tree)) old operations new
+steps_answered_all old new operations (inl quiet) = quiet_answered (IsEither (shown_tree old.tree) (shown_tree new.tree)) old operations new (inl refl) quiet
+steps_answered_all old new operations (inr c) = subst (λ z. AreAnswered either old z new) (sym c.are) (answered_joined either old c.before c.first (c.change ∷ c.after) new (quiet_answered either old c.before c.first (inl refl) c.quiet) rest)
   where
     either : Tree → Type 0
     either = IsEither (shown_tree old.tree) (shown_tree new.tree)
@@ -63,16 +77,34 @@ steps_accepted old new operations (inr c) = subst (λ z. AreAccepted either old 
     changed : either (shown_tree c.second.tree)
     changed = inr (sym (quiet_tree c.second c.after new c.rest))
 
-    rest : AreAccepted either c.first (c.change ∷ c.after) new
-    rest = (c.second, (c.changed, (changed, quiet_accepted either c.second c.after new changed c.rest)))
+    rest : AreAnswered either c.first (c.change ∷ c.after) new
+    rest = (c.second, (answered_one c.first c.second c.change c.changed, (changed, quiet_answered either c.second c.after new changed c.rest)))
+
+-- what the session did where it replied: it accepted all, or refused the last one
+part_answered : (old new : SessionView) (operations : List Operation) → IsSessionPart old operations new → (xs : List Operation) × AreAnswered (IsEither (shown_tree old.tree) (shown_tree new.tree)) old xs new
+part_answered old new operations (inl steps) = (operations, steps_answered_all old new operations steps)
+part_answered old new operations (inr (e, (is, k))) = (
+  k.before ++ k.next ∷ [],
+  answered_joined either old k.before k.at (k.next ∷ []) new (quiet_answered either old k.before k.at (inl refl) k.quiet) (new, (one, (inr refl, refl))),
+)
+  where
+    either : Tree → Type 0
+    either = IsEither (shown_tree old.tree) (shown_tree new.tree)
+
+    one : IsAnsweredCall k.at k.next new
+    one = record {
+      reply = ops.Refused (refusals.error_refusal e);
+      call = subst (λ b. IsCall k.at k.next (cond b (Ok (ops.Refused (refusals.error_refusal e))) (Err e)) new) is k.ends;
+      other = no_remount k.at new k.next (refusals.error_refusal e) (refusal_step k.at k.next e new is k.ends.answers);
+    }
 
 -- ---- their turns
 
-abbrev turns_of : (P : Tree → Type 0) (old : SessionView) (operations : List Operation) (new : SessionView) → AreAccepted P old operations new → List Turn
+abbrev turns_of : (P : Tree → Type 0) (old : SessionView) (operations : List Operation) (new : SessionView) → AreAnswered P old operations new → List Turn
 turns_of P old [] new h = []
 turns_of P old (op ∷ operations) new (next, (one, (p, rest))) = answered op one.reply (system_state next) ∷ turns_of P next operations new rest
 
-abbrev replies_of : (P : Tree → Type 0) (old : SessionView) (operations : List Operation) (new : SessionView) → AreAccepted P old operations new → List Reply
+abbrev replies_of : (P : Tree → Type 0) (old : SessionView) (operations : List Operation) (new : SessionView) → AreAnswered P old operations new → List Reply
 replies_of P old [] new h = []
 replies_of P old (op ∷ operations) new (next, (one, (p, rest))) = one.reply ∷ replies_of P next operations new rest
 
@@ -89,7 +121,7 @@ record IsAnsweredLife (from : SystemState) (turns : List Turn) (operations : Lis
   replied : map reply_of turns ≡ map Some replies
   all : all_answered turns ≡ true
 
-accepted_lived : (P : Tree → Type 0) (old : SessionView) (operations : List Operation) (new : SessionView) (h : AreAccepted P old operations new) →
+accepted_lived : (P : Tree → Type 0) (old : SessionView) (operations : List Operation) (new : SessionView) (h : AreAnswered P old operations new) →
     IsAnsweredLife (system_state old) (turns_of P old operations new h) operations (replies_of P old operations new h) (system_state new)
 accepted_lived P old [] new h = record { lived = ap system_state h; did = refl; replied = refl; all = refl }
 accepted_lived P old (op ∷ operations) new (next, (one, (p, rest))) =
@@ -105,9 +137,9 @@ abbrev EitherOf : SessionView → SessionView → Tree → Type 0
 EitherOf old new = IsEither (shown_tree old.tree) (shown_tree new.tree)
 
 steps_answered : (old new : SessionView) (operations : List Operation) (steps : AreVolumeSteps old operations new) →
-    let h = steps_accepted old new operations steps in
+    let h = steps_answered_all old new operations steps in
     IsAnsweredLife (system_state old) (turns_of (EitherOf old new) old operations new h) operations (replies_of (EitherOf old new) old operations new h) (system_state new)
-steps_answered old new operations steps = accepted_lived (EitherOf old new) old operations new (steps_accepted old new operations steps)
+steps_answered old new operations steps = accepted_lived (EitherOf old new) old operations new (steps_answered_all old new operations steps)
 
 life_of_run : (from : SystemState) (turns : List Turn) (operations : List Operation) (replies : List Reply) (to : SystemState) → IsAnsweredLife from turns operations replies to → IsLifeOfRun from operations replies to
 life_of_run from turns operations replies to r = record { turns = turns; lived = r.lived; did = r.did; replied = r.replied }
@@ -123,7 +155,7 @@ steps_match from turns old new operations known lived steps =
 
 pub steps_survive : (old new : SessionView) (operations : List Operation) → AreVolumeSteps old operations new → MeetsRunPremises (system_state old) (system_state new) → IsSafeRun (system_state old) operations (system_state new)
 steps_survive old new operations steps may =
-    let turns = turns_of (EitherOf old new) old operations new (steps_accepted old new operations steps) in
+    let turns = turns_of (EitherOf old new) old operations new (steps_answered_all old new operations steps) in
     let r = steps_answered old new operations steps in
     record {
       turns = turns;
@@ -163,8 +195,8 @@ steps_fail e old new operations k is = (
     call : IsCall k.at k.next (Err e) new
     call = subst (λ b. IsCall k.at k.next (cond b (Ok (ops.Refused (refusals.error_refusal e))) (Err e)) new) is k.ends
 
-    accepted : AreAccepted (EitherOf old k.at) old k.before k.at
-    accepted = steps_accepted old k.at k.before (inl k.quiet)
+    accepted : AreAnswered (EitherOf old k.at) old k.before k.at
+    accepted = steps_answered_all old k.at k.before (inl k.quiet)
 
     turns : List Turn
     turns = turns_of (EitherOf old k.at) old k.before k.at accepted
@@ -173,22 +205,6 @@ steps_fail e old new operations k is = (
     r = accepted_lived (EitherOf old k.at) old k.before k.at accepted
 
 -- ---- a stop in one call
-
--- what an operation makes of a session doesn't depend on the disk
-same_effect : (around other : DiskSummary) (s : Session) (op : Operation) → (operation_effect around s op).1 ≡ (operation_effect other s op).1
-same_effect around other s (ops.Open path flags) = refl
-same_effect around other s (ops.Read fd count) = refl
-same_effect around other s (ops.Write fd bytes) = refl
-same_effect around other s (ops.Seek fd position) = refl
-same_effect around other s (ops.Truncate fd size) = refl
-same_effect around other s (ops.Sync fd) = refl
-same_effect around other s (ops.Close fd) = refl
-same_effect around other s (ops.Mkdir path) = refl
-same_effect around other s (ops.Remove path) = refl
-same_effect around other s (ops.Rename old new) = refl
-same_effect around other s (ops.SetAttr path kind bytes) = refl
-same_effect around other s (ops.RemoveAttr path kind) = refl
-same_effect around other s _ = refl
 
 works_if_healthy : (h : SessionView) (s : Session) → (system_state h).state ≡ Healthy s → h.tree.failed ≡ false
 works_if_healthy h s e = go h.tree.failed refl e
@@ -200,30 +216,22 @@ works_if_healthy h s e = go h.tree.failed refl e
 viewed_if_healthy : (h : SessionView) (s : Session) → (system_state h).state ≡ Healthy s → s ≡ viewed_session h
 viewed_if_healthy h s e = same_session s (viewed_session h) (sym e ∙ healthy_view h (works_if_healthy h s e))
 
--- refused or applied, the tree is the one from before or the one from after
-either_result : (at next : SessionView) (op : Operation) (reply : Reply) (d : IsDone at op reply next) (around : DiskSummary) → EitherOf at next (operation_result around (viewed_session at) op).1.tree
-either_result at next op reply d around = go (operation_refusal around (viewed_session at) op)
-  where
-    go : (r : Option Refusal) → EitherOf at next (unless_refused r (viewed_session at) (operation_effect around (viewed_session at) op)).1.tree
-    go (Some error) = inl refl
-    go None = inr (ap (λ (z : Session). z.tree) (same_effect around d.around (viewed_session at) op ∙ ap (λ (z : Reply × Session). z.1) d.is))
-
-in_call : (at : SessionView) (op : Operation) (next : SessionView) → IsAcceptedCall at op next → (to : SystemState) (left : Disk) (tree : Tree) → LossInOperation (system_state at) op to left tree → EitherOf at next tree
+-- the disk has one summary, so the tree is the one from before or the one from after
+in_call : (at : SessionView) (op : Operation) (next : SessionView) → IsAnsweredCall at op next → (to : SystemState) (left : Disk) (tree : Tree) → LossInOperation (system_state at) op to left tree → EitherOf at next tree
 in_call at op next one to left tree loss = go loss.either
   where
     same : loss.session ≡ viewed_session at
     same = viewed_if_healthy at loss.session loss.work.healthy
 
-    d : IsDone at op one.reply next
-    d = done at op one.reply next one.other (works_if_healthy at loss.session loss.work.healthy) one.accepted one.call.answers
+    d : IsAnswered at op one.reply next
+    d = definitions.answered at op one.reply next one.other (works_if_healthy at loss.session loss.work.healthy) one.call.answers
 
-    result : EitherOf at next (operation_result loss.around (viewed_session at) op).1.tree → tree ≡ (operation_result loss.around loss.session op).1.tree → EitherOf at next tree
-    result (inl k) e = inl (e ∙ ap (λ s. (operation_result loss.around s op).1.tree) same ∙ k)
-    result (inr k) e = inr (e ∙ ap (λ s. (operation_result loss.around s op).1.tree) same ∙ k)
+    around : loss.around ≡ d.around
+    around = same_surroundings at.tree.disk loss.pairs d.pairs loss.around d.around loss.work.accepted d.accepted loss.work.surrounds d.surrounds
 
     go : (tree ≡ loss.session.tree) ⊎ (tree ≡ (operation_result loss.around loss.session op).1.tree) → EitherOf at next tree
     go (inl e) = inl (e ∙ ap (λ (s : Session). s.tree) same)
-    go (inr e) = result (either_result at next op one.reply d loss.around) e
+    go (inr e) = inr (e ∙ ap₂ (λ (a : DiskSummary) (s : Session). (operation_result a s op).1.tree) around same ∙ ap (λ (z : Reply × Session). z.1.tree) d.is)
 
 -- ---- a stop in several
 
@@ -232,7 +240,7 @@ module _ (P : Tree → Type 0) (left : Disk) (tree : Tree) where
   one_of at next p q (inl e) = subst P (sym e) p
   one_of at next p q (inr e) = subst P (sym e) q
 
-  in_turn : (at : SystemState) (turns : List Turn) (old : SessionView) (operations : List Operation) (new : SessionView) → P (shown_tree old.tree) → (h : AreAccepted P old operations new) (cut : Turn) (others : List Turn)
+  in_turn : (at : SystemState) (turns : List Turn) (old : SessionView) (operations : List Operation) (new : SessionView) → P (shown_tree old.tree) → (h : AreAnswered P old operations new) (cut : Turn) (others : List Turn)
       → turns_of P old operations new h ≡ turns ++ cut ∷ others → IsLife (system_state old) turns at → LossInOperation at cut.op cut.to left tree → P tree
   in_turn at [] old [] new p h cut others are lived loss = absurd (cc)
   in_turn at (turn ∷ turns) old [] new p h cut others are lived loss = absurd (cc)
@@ -256,15 +264,47 @@ module _ (P : Tree → Type 0) (left : Disk) (tree : Tree) where
       tail_of [] = []
       tail_of (x ∷ xs) = xs
 
-in_life : (old new : SessionView) (operations : List Operation) (h : AreAccepted (EitherOf old new) old operations new) (left : Disk) (tree : Tree) →
+in_life : (old new : SessionView) (operations : List Operation) (h : AreAnswered (EitherOf old new) old operations new) (left : Disk) (tree : Tree) →
     LossInLife (system_state old) (turns_of (EitherOf old new) old operations new h) (system_state new) left tree → EitherOf old new tree
 in_life old new operations h left tree (inl loss) = in_turn (EitherOf old new) left tree loss.at loss.done old operations new (inl refl) h loss.cut loss.others loss.are loss.lived loss.loss
 in_life old new operations h left tree (inr loss) = inr (loss.is ∙ ap (λ (s : Session). s.tree) (viewed_if_healthy new loss.session loss.healthy))
 
-pub stop_leaves : (old new : SessionView) (operations : List Operation) → AreVolumeSteps old operations new → StopLeaves old new
-stop_leaves old new operations steps may left stop =
-    let h = steps_accepted old new operations steps in
+stop_in_answered : (old new : SessionView) (operations : List Operation) → AreAnswered (EitherOf old new) old operations new → StopLeaves old new
+stop_in_answered old new operations h may left stop =
     let turns = turns_of (EitherOf old new) old operations new h in
-    let r = steps_answered old new operations steps in
+    let r = accepted_lived (EitherOf old new) old operations new h in
     let s = life_survives (system_state old) turns (system_state new) left r.lived (none_inside (system_state old) turns (answered_last turns r.all)) may stop in
     record { order = s.order; tree = s.tree; is = in_life old new operations h (ordered_disk s.order left) s.tree s.cut; safe = s.safe }
+
+pub stop_leaves : (old new : SessionView) (operations : List Operation) → AreVolumeSteps old operations new → StopLeaves old new
+stop_leaves old new operations steps = stop_in_answered old new operations (steps_answered_all old new operations steps)
+
+-- ---- a call of a volume
+
+pub stop_in_reply : (old new : VolumeView) (call : Call) (reply : Reply) → old.session.tree.failed ≡ false → IsVolumeCall old call (Ok reply) new → StopLeaves old.session new.session
+stop_in_reply old new call reply works is = go (is.works works)
+  where
+    go : IsReplied old call reply new → StopLeaves old.session new.session
+    go r = (let part = part_answered old.session new.session r.operations r.session_part in stop_in_answered old.session new.session part.0 part.1)
+
+answered_life : (old new : SessionView) (operations : List Operation) → AreAnswered (EitherOf old new) old operations new → (turns : List Turn) × IsLife (system_state old) turns (system_state new)
+answered_life old new operations h = (turns_of (EitherOf old new) old operations new h, (accepted_lived (EitherOf old new) old operations new h).lived)
+
+-- calls that were answered, and then one that ended in an error
+failed_life : (e : Error) (old new : SessionView) → FailsInCalls e old new → (turns : List Turn) × IsLife (system_state old) turns (system_state new)
+failed_life e old new (not, (operations, k)) = (let r = steps_fail e old new operations k not in (r.0, r.1.lived))
+
+working_life : (old new : VolumeView) (call : Call) (r : Result Reply Error) → IsWorkingCall old call r new → (turns : List Turn) × IsLife (system_state old.session) turns (system_state new.session)
+working_life old new call (Ok reply) r = (let part = part_answered old.session new.session r.operations r.session_part in answered_life old.session new.session part.0 part.1)
+working_life old new call (Err e) (inl (none, wants)) = answered_life old.session new.session wants.operations (quiet_answered (EitherOf old.session new.session) old.session wants.operations new.session (inl refl) wants.calls)
+working_life old new call (Err e) (inr fails) = failed_life e old.session new.session fails
+
+pub call_lives : (old new : VolumeView) (call : Call) (r : Result Reply Error) → IsVolumeCall old call r new → (turns : List Turn) × IsLife (system_state old.session) turns (system_state new.session)
+call_lives old new call r is = go old.session.tree.failed refl
+  where
+    go : (b : Bool) → old.session.tree.failed ≡ b → (turns : List Turn) × IsLife (system_state old.session) turns (system_state new.session)
+    go true failed = ([], ap (λ (v : VolumeView). system_state v.session) (sym (is.failed failed).1))
+    go false works = working_life old new call r (is.works works)
+
+pub call_shows : (old new : VolumeView) (call : Call) (r : Result Reply Error) → IsVolumeCall old call r new → HealthyHasDiskTree old.session.tree.disk (system_state old.session).state → HealthyHasDiskTree new.session.tree.disk (system_state new.session).state
+call_shows old new call r is known = (let life = call_lives old new call r is in life_agrees life.0 (system_state old.session) (system_state new.session) life.1 known)

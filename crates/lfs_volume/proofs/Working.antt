@@ -25,7 +25,7 @@ steps_work a b xs (inl quiet) works = quiet_works a b xs quiet works
 steps_work a b xs (inr c) works = quiet_works c.second b c.after c.rest (accepted_works c.first c.second c.change c.changed (quiet_works a c.first c.before c.quiet works))
 
 -- no remount is refused
-no_remount : (a b : SessionView) (op : Operation) (error : Refusal) → IsStep (system_state a) op (ops.Refused error) (system_state b) → is_remount op ≡ false
+pub no_remount : (a b : SessionView) (op : Operation) (error : Refusal) → IsStep (system_state a) op (ops.Refused error) (system_state b) → is_remount op ≡ false
 no_remount a b op error step = go (is_remount op) refl
   where
     done_or_none : (shown : Option Tree) → remount_result shown ≡ (Some (ops.Refused error), (system_state b).state) → false ≡ true

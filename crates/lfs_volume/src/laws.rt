@@ -1,6 +1,6 @@
 // What follows of the calls that a volume makes of its session.
 
-ghost use Rattle.std.specs.Prelude.{◌≡◌, ◌++◌, List, Ok, false};
+ghost use Rattle.std.specs.Prelude.{◌≡◌, ◌++◌, List, Ok, Result, false};
 ghost use Rattle.lfs_device.specs.declared.error.Error.{Error};
 ghost use Rattle.lfs_lookup.specs.RefusalErrors.{is_refusal};
 ghost use Rattle.lfs_model.specs.session.Operations.{Operation, Reply};
@@ -16,10 +16,12 @@ ghost use Rattle.lfs_volume.specs.Stops.{StopLeaves};
 ghost use Rattle.lfs_volume.specs.Volume.{VolumeView};
 ghost use Rattle.lfs_volume.specs.VolumeCalls.{IsVolumeCall};
 
-/// The session's calls within one call of a volume are turns of the session's life. After them the
-/// session has the tree that its disk shows. A loss of power anywhere in them is survived, and so are
-/// any number of losses after it. Where the session failed, the operations before were answered.
+/// The session's calls within a call of a volume are turns of the session's life, also where the
+/// volume failed in it. After any of them a volume that works has the tree that its disk shows. A loss
+/// of power anywhere in them is survived, and so are any number of losses after it.
 pub fn volume_calls_are_lives()
+    ensures call { (old new : VolumeView) (call : Call) (result : Result Reply Error) → IsVolumeCall old call result new → (turns : List Turn) × IsLife (system_state old.session) turns (system_state new.session) }
+    ensures shows { (old new : VolumeView) (call : Call) (result : Result Reply Error) → IsVolumeCall old call result new → HealthyHasDiskTree old.session.tree.disk (system_state old.session).state → HealthyHasDiskTree new.session.tree.disk (system_state new.session).state }
     ensures lived { (old new : SessionView) (operations : List Operation) → AreVolumeSteps old operations new → (replies : List Reply) × IsLifeOfRun (system_state old) operations replies (system_state new) }
     ensures headline { (from : SystemState) (turns : List Turn) (old new : SessionView) (operations : List Operation) → HealthyHasDiskTree from.disk from.state → IsLife from turns (system_state old) → AreVolumeSteps old operations new
         → (replies : List Reply) × ((life : IsLifeOfRun (system_state old) operations replies (system_state new)) × LifeMatchesDisk from (turns ++ life.turns) (system_state new)) }
@@ -27,10 +29,11 @@ pub fn volume_calls_are_lives()
     ensures ended { (e : Error) (old new : SessionView) (operations : List Operation) → EndsInCall e old operations new → is_refusal e ≡ false → (turns : List Turn) × IsRunInTurns (system_state old) operations turns (system_state new) }
 {}
 
-/// Wherever power is lost in the session's calls within a call of a volume, the disk that is left has
-/// the tree from before the volume's call, or the one from after it.
+/// Wherever power is lost in a call that a volume replied to, the disk that is left has the tree from
+/// before the call, or the one from after it.
 pub fn stop_in_volume_call_leaves_either_tree()
-    ensures { (old new : SessionView) (operations : List Operation) → AreVolumeSteps old operations new → StopLeaves old new }
+    ensures call { (old new : VolumeView) (call : Call) (reply : Reply) → old.session.tree.failed ≡ false → IsVolumeCall old call (Ok reply) new → StopLeaves old.session new.session }
+    ensures steps { (old new : SessionView) (operations : List Operation) → AreVolumeSteps old operations new → StopLeaves old new }
 {}
 
 /// A volume that works, and replied to a call, even by a refusal, works afterwards.

@@ -1,21 +1,20 @@
 -- Calls of a volume that ask the session for no more than whether it works.
-use Rattle.std.proofs.Common.{inl, inr, ℕ, ◌≡◌, Bool, true, false, cond, [], ◌∷◌, Option, Some, None, Result, Ok, Err, refl, sym, ap, subst, ◌∙◌}
-use Rattle.std.specs.Prelude.{is_err, is_none, unwrap_or, IsErrAnd}
+use Rattle.std.proofs.Common.{inl, ℕ, ◌≡◌, Bool, true, false, cond, [], ◌∷◌, Option, Some, Result, Ok, Err, refl, sym, ap, subst, ◌∙◌}
+use Rattle.std.specs.Prelude.{is_err, is_none, unwrap_or}
 use Rattle.std.specs.Option.{option_map}
 use Rattle.lfs_device.specs.declared.error.Error.{Error}
 use Rattle.lfs_device.specs.declared.error.Error.TheVariants.{Failed}
 use Rattle.lfs_lookup.specs.RefusalErrors as refusals
 use Rattle.lfs_model.specs.session.Operations as ops
-use Rattle.lfs_model.specs.session.Operations.{BadFile, Operation, Refusal, Reply}
+use Rattle.lfs_model.specs.session.Operations.{BadFile, Reply}
 use Rattle.lfs_model.specs.session.Session.{DiskSummary, refuse_if}
 use Rattle.lfs_fs.specs.CallEffects.{IsCall}
-use Rattle.lfs_fs.specs.Replies.{reply_from}
 use Rattle.lfs_fs.specs.SessionView.{SessionView, viewed_session}
 use Rattle.lfs_volume.specs.declared.handles.Handle.{Handle}
 use Rattle.lfs_volume.specs.Calls.{Call, Tell, call_result, unless_refused}
 use Rattle.lfs_volume.specs.SessionCalls.{AreQuietCalls, error_result}
 use Rattle.lfs_volume.specs.Volume.{Volume, VolumeView, entry_at, volume_of}
-use Rattle.lfs_volume.specs.VolumeCalls.{IsFoundHandle, IsReplied, IsSameVolume, IsSoundVolume, IsWorkingCall, IsWorking}
+use Rattle.lfs_volume.specs.VolumeCalls.{IsReplied, IsSameVolume, IsWorking}
 use Rattle.lfs_volume.proofs.Steps.{done, healthy_view}
 use Rattle.lfs_volume.proofs.Saving.{count_not_refused, one_quiet}
 

@@ -13,6 +13,7 @@ pub mod Opening
 pub mod PathBytes
 pub mod PathMoves
 pub mod PutEntries
+pub mod Reading
 pub mod Saving
 pub mod SessionOperations
 pub mod Soundness

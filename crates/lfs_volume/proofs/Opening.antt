@@ -2,7 +2,6 @@
 use Rattle.std.proofs.Common.{inl, inr, ℕ, ◌≡◌, not, Bool, true, false, cond, List, [], ◌∷◌, length, Option, Some, None, refl, sym, ap, ap₂, subst, ◌∙◌}
 use Rattle.std.specs.Option.{option_or}
 use Rattle.lfs_device.specs.declared.error.Error.{Error}
-use Rattle.lfs_device.specs.declared.error.Error.TheVariants as error
 use Rattle.lfs_lookup.specs.RefusalErrors as refusals
 use Rattle.lfs_model.specs.session.Operations as ops
 use Rattle.lfs_model.specs.session.Operations.{FlagsOfOpen, Invalid, Refusal}
@@ -13,7 +12,7 @@ use Rattle.lfs_tree.specs.TreeState.{shown_tree}
 use Rattle.lfs_fs.specs.CallEffects.{IsCall}
 use Rattle.lfs_fs.specs.SessionView.{SessionView}
 use Rattle.lfs_volume.specs.declared.handles.Handle.{Handle}
-use Rattle.lfs_volume.specs.Calls.{Call, Open, call_effect, call_refusal, free_entry, new_handle, node_of_path, open_volume, opened_nodes, session_flags, unless_refused, volume_flags_allowed, with_entry}
+use Rattle.lfs_volume.specs.Calls.{Open, call_effect, call_refusal, free_entry, new_handle, node_of_path, open_volume, opened_nodes, session_flags, unless_refused, volume_flags_allowed, with_entry}
 use Rattle.lfs_volume.specs.Opened.{IsIdle, reading_flags, writing_flags}
 use Rattle.lfs_volume.specs.Saves.{IsFileFound, found_tree}
 use Rattle.lfs_volume.specs.SessionCalls.{AreVolumeSteps, FailsInCalls, error_result}

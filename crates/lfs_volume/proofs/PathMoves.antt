@@ -11,7 +11,7 @@ use Rattle.lfs_model.specs.tree.Shown.{all_entries, struct_list_bytes}
 use Rattle.lfs_model.specs.format.Thread.{root_address}
 use Rattle.lfs_model.specs.tree.Tree.{Path, Tree, root_slot}
 use Rattle.lfs_model.specs.session.Operations as ops
-use Rattle.lfs_model.specs.session.Operations.{Busy, EntryFull, Invalid, IsDir, NameTooLong, NoEnt, NoSpace, NotDir, NotEmpty, ReadOnly, Refusal, Reply, parse_path, path_bytes}
+use Rattle.lfs_model.specs.session.Operations.{Busy, EntryFull, Invalid, IsDir, NameTooLong, NoEnt, NoSpace, NotDir, NotEmpty, ReadOnly, Refusal, parse_path, path_bytes}
 use Rattle.lfs_model.specs.session.Session.{DiskSummary, exceeds_charge, has_long_name, has_open_file, lacks_room, parents_refusal, refuse_if}
 use Rattle.lfs_model.specs.session.Refusals.{is_root_path, operation_refusal, path_or_root, path_unusable}
 use Rattle.lfs_model.specs.session.TreeEdits.{directory_names, file_bytes, is_beneath, is_directory, is_file, last_name, names_with, names_without, node_attributes_of, node_with_names, parent_path, same_path, tree_removing, tree_renaming, tree_with_change, tree_with_subtree, without_prefix}

@@ -11,7 +11,7 @@ use Rattle.lfs_model.specs.session.Operations.{Operation, Refusal, Reply}
 use Rattle.lfs_model.specs.session.Session.{DiskSummary, OpenFilesByNumber, Session}
 use Rattle.lfs_model.specs.session.State.{is_remount}
 use Rattle.lfs_model.specs.session.Refusals.{operation_refusal}
-use Rattle.lfs_model.specs.session.Effects.{operation_effect, operation_result}
+use Rattle.lfs_model.specs.session.Effects.{operation_effect}
 use Rattle.lfs_model.specs.session.Effects as effects
 use Rattle.lfs_model.specs.session.Run.{ShowsTree, is_refusal}
 use Rattle.lfs_tree.specs.TreeState.{shown_tree, tree_summary}

@@ -7,7 +7,7 @@ use Rattle.lfs_lookup.specs.RefusalErrors as refusals
 use Rattle.lfs_model.specs.format.Disk.{ordered_disk}
 use Rattle.lfs_model.specs.tree.Tree.{Tree}
 use Rattle.lfs_model.specs.session.Operations as ops
-use Rattle.lfs_model.specs.session.Operations.{Operation, Refusal, Reply}
+use Rattle.lfs_model.specs.session.Operations.{Operation, Reply}
 use Rattle.lfs_model.specs.session.Session.{DiskSummary, OpenFilesByNumber, Session}
 use Rattle.lfs_model.specs.session.State.{is_remount}
 use Rattle.lfs_model.specs.session.Refusals.{operation_refusal}
@@ -16,7 +16,6 @@ use Rattle.lfs_model.specs.session.Run.{is_refusal}
 use Rattle.lfs_tree.specs.TreeState.{shown_tree}
 use Rattle.lfs_fs.specs.CallEffects.{IsCall}
 use Rattle.lfs_fs.specs.SessionView.{SessionView, viewed_session}
-use Rattle.lfs_volume.specs.declared.handles.Handle.{Handle}
 use Rattle.lfs_volume.specs.Calls.{Perform, call_effect, call_result, nodes_after, unless_refused}
 use Rattle.lfs_volume.specs.Opened.{AreNoFiles, IsIdle}
 use Rattle.lfs_volume.specs.SessionCalls.{EndsInCall, error_result}

@@ -52,6 +52,10 @@ IsSound v = v.session.tree.failed ≡ false → IsSoundVolume v
 abbrev pub HasNoHandles : VolumeView → Type 0
 HasNoHandles v = (v.nodes ≡ []) × (v.handles ≡ [])
 
+-- open files and handles stay
+abbrev pub HasSameTables : VolumeView → VolumeView → Type 0
+HasSameTables old new = (new.nodes ≡ old.nodes) × (new.handles ≡ old.handles)
+
 -- ---- how a call ends
 
 -- the same node, whose bytes may have come into memory

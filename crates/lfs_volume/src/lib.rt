@@ -9,6 +9,7 @@ mod handles;
 mod hull;
 mod laws;
 mod loads;
+mod mounts;
 mod node;
 mod nodes;
 mod saves;
@@ -19,5 +20,9 @@ pub use laws::{
     replied_volume_works, stop_in_volume_call_leaves_either_tree, volume_calls_are_lives,
 };
 pub use lfs_device::Error;
-pub use lfs_fs::{Gstate, Item, Kind, OpenFlags, Stat};
-pub use volume::{Volume, format, mount};
+pub use lfs_fs::{
+    Gstate, Item, Kind, NameOrder, OpenFlags, OtherLimit, Profile, ProfileBreach, Profiled, Stat,
+    Superblock,
+};
+pub use mounts::{format, format_ordered, mount, mount_with_limits};
+pub use volume::Volume;

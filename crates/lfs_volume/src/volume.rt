@@ -1,29 +1,23 @@
 // A volume, and its calls.
 
-ghost use Rattle.std.specs.Prelude.{◌≡◌, ◌⊎◌, ◌+◌, ◌<◌, ◌≤◌, ◌^◌, ℕ, List, [], false, true, IfErr, IfOk, Ok, OnOk, Some, drop, length, map, take, unwrap_or};
-ghost use Rattle.lfs_model.specs.declared.order.NameOrder.{NameOrder};
-ghost use Rattle.lfs_model.specs.declared.order.NameOrder.TheVariants.{LongerFirst, ShorterFirst};
-ghost use Rattle.lfs_model.specs.format.Disk.{SameGeometry, ordered_disk, profile_file_max};
+ghost use Rattle.std.specs.Prelude.{◌≡◌, ◌↔◌, ◌+◌, ◌<◌, ◌≤◌, ◌^◌, ℕ, [], false, true, IfErr, IfOk, IsTrue, MatchResult, Ok, OnOk, Some, drop, length, map, take, unwrap_or};
+ghost use Rattle.lfs_model.specs.format.Disk.{ordered_disk, profile_file_max};
 ghost use Rattle.lfs_model.specs.format.Names.{same_name};
-ghost use Rattle.lfs_model.specs.format.Thread.{Pair, address_blocks, anchor_address};
-ghost use Rattle.lfs_model.specs.tree.Fresh.{empty_tree};
-ghost use Rattle.lfs_model.specs.tree.View.{IsAccepted};
+ghost use Rattle.lfs_model.specs.tree.Profile.{image_fields};
+ghost use Rattle.lfs_model.specs.session.History.{read_count};
 ghost use Rattle.lfs_model.specs.session.Operations as ops;
-ghost use Rattle.lfs_model.specs.session.State.{Healthy, mounted_session};
-ghost use Rattle.lfs_model.specs.crash.RepeatedPowerLoss.{IsMounted};
-ghost use Rattle.lfs_thread.specs.Kept.{disk_of_device, kept_in_order};
-ghost use Rattle.lfs_thread.specs.ThreadDevice.{GivesDeviceBack};
-ghost use Rattle.lfs_tree.specs.Formats.{IsFormatError, IsFormatted, WritesFirstTwo};
-ghost use Rattle.lfs_tree.specs.TreeState.{kept_thread};
+ghost use Rattle.lfs_tag.specs.FieldsView.{superblock_view};
+ghost use Rattle.lfs_thread.specs.Kept.{disk_of_device};
 ghost use Rattle.lfs_fs.specs.FlagsView.{flags_view};
 ghost use Rattle.lfs_fs.specs.GstateView.{returned_gstate_reply};
+ghost use Rattle.lfs_fs.specs.ImageLimits.{FailedByRead, OnlyReadsSession};
+ghost use Rattle.lfs_fs.specs.ReadOnly.{IsReadOnlyReason, MayWrite};
 ghost use Rattle.lfs_fs.specs.Replies.{reply_from};
-ghost use Rattle.lfs_fs.specs.SessionView.{BeginsByMount, system_state};
 ghost use Rattle.lfs_lookup.specs.Finds.{listed_item_view, stat_view};
 ghost use Rattle.lfs_volume.specs.Calls as calls;
 ghost use Rattle.lfs_volume.specs.SessionCalls.{error_result};
 ghost use Rattle.lfs_volume.specs.Volume.{NodeView, VolumeView, entry_at};
-ghost use Rattle.lfs_volume.specs.VolumeCalls.{FitsAt, HasNoHandles, IsDropped, IsFoundHandle, IsReadyToRead, IsRemount, IsSoundVolume, IsTooLong, IsVolumeCall, IsWorking};
+ghost use Rattle.lfs_volume.specs.VolumeCalls.{FitsAt, HasSameTables, IsDropped, IsFoundHandle, IsReadyToRead, IsRemount, IsSoundVolume, IsTooLong, IsVolumeCall, IsWorking};
 
 use crate::bytes::{copied, copy_into};
 use crate::flags::{allows_volume_flags, session_flags, truncates};
@@ -37,7 +31,7 @@ use crate::nodes::{
     resize_at, sync_at, unlink_path, write_at, write_place,
 };
 use lfs_device::{BlockDevice, Error};
-use lfs_fs::{Gstate, Item, OpenFlags, Session, Stat};
+use lfs_fs::{Gstate, Item, NameOrder, OpenFlags, ProfileBreach, Session, Stat, Superblock};
 use std::alloc::Global;
 use std::marker::Model;
 
@@ -168,14 +162,14 @@ impl<D: BlockDevice> Volume<D> {
     }
 
     /// Reads the bytes of a file into a buffer, as [`read`](Volume::read) does. Returns how many
-    /// these are; the rest of the buffer stays.
+    /// these are; the rest of the buffer stays, and all of it after an error.
     ///
     /// # Errors
     ///
     /// `BadFile` where no handle of that number is open for reading.
     pub fn read_into(&mut self, alloc: Global, handle: u32, buf: &mut [u8]) -> Result<usize, Error>
         ensures call { IfOk result (λ n. IsVolumeCall self.old (calls.Read handle (length buf.old)) (Ok (ops.Bytes (take n buf.new))) self.new) }
-        ensures rest { IfOk result (λ n. drop n buf.new ≡ drop n buf.old) }
+        ensures rest { MatchResult result (λ n. (n ≤ length buf.old) × (drop n buf.new ≡ drop n buf.old)) (λ _. buf.new ≡ buf.old) }
         ensures ended { IfErr result (λ e. IsVolumeCall self.old (calls.Read handle (length buf.old)) (error_result e) self.new) }
     {
         let found = self.handle_to_read(alloc, handle)?;
@@ -514,6 +508,64 @@ impl<D: BlockDevice> Volume<D> {
         self.session.remount(alloc)
     }
 
+    /// Returns whether the volume has failed. Then each call but [`remount`](Volume::remount) returns
+    /// `Failed`. Makes no call of the device.
+    pub fn has_failed(&self) -> bool
+        ensures { result ≡ self.now.session.tree.failed }
+    {
+        self.session.has_failed()
+    }
+
+    /// Returns whether files may be written: the volume hasn't failed, and its image is in the writing
+    /// profile. Then no call is refused as `ReadOnly`. Makes no call of the device.
+    pub fn is_writable(&self) -> bool
+        ensures { IsTrue result ↔ MayWrite self.now.session }
+    {
+        self.session.is_writable()
+    }
+
+    /// Returns why the image is read only, as `read_only_reason` of a session does: None exactly if the
+    /// volume may write, and then no call of the device is made.
+    ///
+    /// # Errors
+    ///
+    /// `Failed` in a failed volume. `Io` if a read failed, and `NoMemory` if memory isn't granted; the
+    /// volume has failed after either.
+    pub fn read_only_reason(&mut self, alloc: Global) -> Result<Option<ProfileBreach>, Error>
+        ensures is { IfOk result (IsReadOnlyReason self.old.session) }
+        ensures read { OnOk result (OnlyReadsSession self.old.session self.new.session) }
+        ensures failed { IfErr result (FailedByRead self.old.session self.new.session) }
+        ensures silent { MayWrite self.old.session → self.new ≡ self.old }
+        ensures tables { HasSameTables self.old self.new }
+    {
+        self.session.read_only_reason(alloc)
+    }
+
+    /// Returns the order in which the image's directories have their names. A list doesn't depend on
+    /// it: there the shorter name always comes first.
+    pub fn order(&self) -> NameOrder
+        ensures { result ≡ self.now.session.tree.disk.order }
+    {
+        self.session.order()
+    }
+
+    /// Returns the image's superblock: the version, the sizes of the device and the limits that the
+    /// image has. The call takes at most one read.
+    ///
+    /// # Errors
+    ///
+    /// `Failed` in a failed volume. `Io` if the read failed, and `NoMemory` if memory isn't granted; the
+    /// volume has failed after either.
+    pub fn superblock(&mut self, alloc: Global) -> Result<Superblock, Error>
+        ensures is { IfOk result (λ f. image_fields self.old.session.tree.pairs ≡ Some (superblock_view f)) }
+        ensures read { OnOk result (OnlyReadsSession self.old.session self.new.session) }
+        ensures failed { IfErr result (FailedByRead self.old.session self.new.session) }
+        ensures few { read_count self.new.session.tree.history ≤ read_count self.old.session.tree.history + 1 }
+        ensures tables { HasSameTables self.old self.new }
+    {
+        self.session.superblock(alloc)
+    }
+
     /// Borrows the device, as the last call left it.
     pub fn device(&self) -> &D
         ensures disk { ordered_disk self.now.session.tree.disk.order (disk_of_device D.BlockDevice result.now) ≡ self.now.session.tree.disk }
@@ -532,7 +584,7 @@ impl<D: BlockDevice> Volume<D> {
 }
 
 // Begins a volume over a session in which no file is open.
-fn begin<D: BlockDevice>(alloc: Global, session: Session<D>) -> Volume<D>
+pub(crate) fn begin<D: BlockDevice>(alloc: Global, session: Session<D>) -> Volume<D>
     requires { session.files ≡ [] }
     ensures { result ≡ record { session = session; nodes = []; handles = [] } }
 {
@@ -540,43 +592,5 @@ fn begin<D: BlockDevice>(alloc: Global, session: Session<D>) -> Volume<D>
         session,
         nodes: Vec::new(alloc),
         handles: Vec::new(alloc),
-    }
-}
-
-/// Begins a volume over the image of a device, as `lfs_fs::mount` begins a session. No file is open.
-///
-/// # Errors
-///
-/// Errors are those of `lfs_fs::mount`.
-pub fn mount<D: BlockDevice>(alloc: Global, device: D) -> Result<Volume<D>, (D, Error)>
-    ensures begun { IfOk result (λ v. HasNoHandles v × BeginsByMount (ordered_disk v.session.tree.disk.order (disk_of_device D.BlockDevice device)) (D.history device) v.session) }
-    ensures state { IfOk result (λ v. IsMounted (ordered_disk v.session.tree.disk.order (disk_of_device D.BlockDevice device)) (system_state v.session)) }
-    ensures longer { IfOk result (λ v. v.session.tree.disk.order ≡ ShorterFirst → (ps : List Pair) → ¬ IsAccepted (ordered_disk LongerFirst (disk_of_device D.BlockDevice device)) ps) }
-    ensures corrupt { IfErr result (λ e. e.1 ≡ Error.Corrupt → (order : NameOrder) (ps : List Pair) → ¬ IsAccepted (ordered_disk order (disk_of_device D.BlockDevice device)) ps) }
-    ensures errors { IfErr result (λ e. (e.1 ≡ Error.Io) ⊎ (e.1 ≡ Error.Corrupt) ⊎ (e.1 ≡ Error.NoMemory)) }
-    ensures back { IfErr result (λ e. GivesDeviceBack D.BlockDevice device e.0 e.1) }
-{
-    match lfs_fs::mount(alloc, device) {
-        Ok(session) => Ok(begin(alloc, session)),
-        Err(back) => Err(back),
-    }
-}
-
-/// Makes an empty file system on a device, as `lfs_fs::format` does, and begins a volume over it. No
-/// file is open.
-///
-/// # Errors
-///
-/// Errors are those of `lfs_fs::format`.
-pub fn format<D: BlockDevice>(alloc: Global, device: D) -> Result<Volume<D>, (D, Error)>
-    ensures formatted { IfOk result (λ v. HasNoHandles v × IsFormatted (kept_thread v.session.tree)) }
-    ensures state { IfOk result (λ v. (system_state v.session).state ≡ Healthy (mounted_session empty_tree)) }
-    ensures geometry { IfOk result (λ v. SameGeometry (ordered_disk LongerFirst (disk_of_device D.BlockDevice device)) v.session.tree.disk) }
-    ensures calls { IfOk result (λ v. WritesFirstTwo (kept_in_order D.BlockDevice LongerFirst device [] []) (kept_thread v.session.tree)) }
-    ensures back { IfErr result (λ e. IsFormatError D.BlockDevice (address_blocks anchor_address) device e.0 e.1) }
-{
-    match lfs_fs::format(alloc, device) {
-        Ok(session) => Ok(begin(alloc, session)),
-        Err(back) => Err(back),
     }
 }

@@ -3,7 +3,7 @@ use Rattle.lfs_model.specs.session.Operations as ops
 use Rattle.lfs_volume.specs.Calls.{Close}
 use Rattle.lfs_volume.specs.SessionCalls.{error_result}
 use Rattle.lfs_volume.specs.Volume.{VolumeView}
-use Rattle.lfs_volume.specs.VolumeCalls.{IsFoundHandle, IsReplied, IsSound, IsVolumeCall}
+use Rattle.lfs_volume.specs.VolumeCalls.{IsFoundHandle, IsSound, IsVolumeCall}
 use Rattle.lfs_volume.proofs.Soundness.{sound_after_sync, sound_if_working}
 use Rattle.lfs_volume.proofs.VolumeSteps.{call_in_parts, close_done, close_ended, close_none, no_handle, of_whole, passed_error}
 use Rattle.lfs_volume.proofs.volume.Volume.close.Goals as goal

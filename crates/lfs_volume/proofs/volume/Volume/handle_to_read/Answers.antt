@@ -3,7 +3,7 @@ use Rattle.lfs_model.specs.session.Operations as ops
 use Rattle.lfs_volume.specs.Calls.{Read}
 use Rattle.lfs_volume.specs.SessionCalls.{error_result}
 use Rattle.lfs_volume.specs.Volume.{VolumeView}
-use Rattle.lfs_volume.specs.VolumeCalls.{IsFoundHandle, IsReadyToRead, IsSound, IsVolumeCall}
+use Rattle.lfs_volume.specs.VolumeCalls.{IsFoundHandle, IsReadyToRead, IsSound}
 use Rattle.lfs_volume.proofs.Soundness.{failed_not_working, handles_stay, sound_loaded}
 use Rattle.lfs_volume.proofs.Steps.{passed_err}
 use Rattle.lfs_volume.proofs.VolumeSteps.{call_in_parts, failed_call, no_handle, not_else, not_then, of_whole, read_forbidden, read_none, working_call}

@@ -5,7 +5,7 @@ use Rattle.lfs_model.specs.session.Operations as ops
 use Rattle.lfs_volume.specs.declared.handles.Handle.{Handle}
 use Rattle.lfs_volume.specs.Calls.{Open, free_entry, volume_flags_allowed}
 use Rattle.lfs_volume.specs.Volume.{VolumeView}
-use Rattle.lfs_volume.specs.VolumeCalls.{IsReplied, IsSound, IsVolumeCall}
+use Rattle.lfs_volume.specs.VolumeCalls.{IsSound, IsVolumeCall}
 use Rattle.lfs_volume.proofs.OpenedFiles.{sound_if_refused_by, sound_opened}
 use Rattle.lfs_volume.proofs.Opening.{open_done, open_ended_by, open_forbidden, opened_by, wants_own_memory}
 use Rattle.lfs_volume.proofs.SessionOperations.{sound_same}

@@ -4,7 +4,7 @@ use Rattle.lfs_fs.specs.Replies.{reply_from}
 use Rattle.lfs_model.specs.session.Operations as ops
 use Rattle.lfs_volume.specs.Calls.{Perform, has_path}
 use Rattle.lfs_volume.specs.Volume.{NodeView, VolumeView}
-use Rattle.lfs_volume.specs.VolumeCalls.{IsReplied, IsSound, IsSoundVolume, IsVolumeCall}
+use Rattle.lfs_volume.specs.VolumeCalls.{IsSound, IsSoundVolume, IsVolumeCall}
 use Rattle.lfs_volume.proofs.PathMoves.{sound_removed, unlinked_nodes}
 use Rattle.lfs_volume.proofs.Soundness.{failed_not_working}
 use Rattle.lfs_volume.proofs.Unlinking.{IsReady, accepted_after, ended_after, ended_sound, remove_on_entries}

@@ -3,7 +3,7 @@ use Rattle.lfs_model.specs.format.Disk.{profile_file_max}
 use Rattle.lfs_model.specs.session.Operations as ops
 use Rattle.lfs_volume.specs.Calls.{Seek}
 use Rattle.lfs_volume.specs.Volume.{VolumeView}
-use Rattle.lfs_volume.specs.VolumeCalls.{IsFoundHandle, IsReplied, IsSound, IsVolumeCall}
+use Rattle.lfs_volume.specs.VolumeCalls.{IsFoundHandle, IsSound, IsVolumeCall}
 use Rattle.lfs_volume.proofs.Soundness.{handles_move, sound_moved}
 use Rattle.lfs_volume.proofs.VolumeSteps.{call_in_parts, no_handle, of_whole, passed_error, seek_done, seek_none, seek_too_far, working_call}
 use Rattle.lfs_volume.proofs.volume.Volume.seek.Goals as goal

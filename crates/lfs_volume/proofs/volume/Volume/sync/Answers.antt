@@ -3,7 +3,7 @@ use Rattle.lfs_fs.specs.Replies.{reply_from}
 use Rattle.lfs_model.specs.session.Operations as ops
 use Rattle.lfs_volume.specs.Calls.{Sync}
 use Rattle.lfs_volume.specs.Volume.{VolumeView}
-use Rattle.lfs_volume.specs.VolumeCalls.{IsFoundHandle, IsReplied, IsSound, IsVolumeCall}
+use Rattle.lfs_volume.specs.VolumeCalls.{IsFoundHandle, IsSound, IsVolumeCall}
 use Rattle.lfs_volume.proofs.Soundness.{sound_after_sync, sound_if_working}
 use Rattle.lfs_volume.proofs.VolumeSteps.{call_in_parts, ended_call, no_handle, of_whole, passed_error, sync_done, sync_ended, sync_none}
 use Rattle.lfs_volume.proofs.volume.Volume.sync.Goals as goal

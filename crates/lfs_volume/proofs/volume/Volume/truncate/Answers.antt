@@ -4,7 +4,7 @@ use Rattle.lfs_model.specs.format.Disk.{profile_file_max}
 use Rattle.lfs_model.specs.session.Operations as ops
 use Rattle.lfs_volume.specs.Calls.{Truncate}
 use Rattle.lfs_volume.specs.Volume.{VolumeView}
-use Rattle.lfs_volume.specs.VolumeCalls.{IsFoundHandle, IsReplied, IsSound, IsVolumeCall}
+use Rattle.lfs_volume.specs.VolumeCalls.{IsFoundHandle, IsSound, IsVolumeCall}
 use Rattle.lfs_volume.proofs.Soundness.{failed_not_working, handles_stay, sound_loaded, sound_resized}
 use Rattle.lfs_volume.proofs.VolumeSteps.{call_in_parts, ended_call, failed_parts, loaded_kept, no_handle, no_memory, not_else, not_then, of_whole, passed_error, truncate_done, truncate_forbidden, truncate_may, truncate_none, truncate_too_long, wants_memory, working_call}
 use Rattle.lfs_volume.proofs.volume.Volume.truncate.Goals as goal

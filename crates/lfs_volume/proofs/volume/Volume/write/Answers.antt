@@ -4,7 +4,7 @@ use Rattle.lfs_fs.specs.Replies.{reply_from}
 use Rattle.lfs_model.specs.session.Operations as ops
 use Rattle.lfs_volume.specs.Calls.{Write}
 use Rattle.lfs_volume.specs.Volume.{VolumeView}
-use Rattle.lfs_volume.specs.VolumeCalls.{FitsAt, IsFoundHandle, IsReplied, IsSound, IsVolumeCall}
+use Rattle.lfs_volume.specs.VolumeCalls.{FitsAt, IsFoundHandle, IsSound, IsVolumeCall}
 use Rattle.lfs_volume.proofs.Soundness.{failed_not_working, handles_move, handles_stay, sound_loaded, sound_written}
 use Rattle.lfs_volume.proofs.VolumeSteps.{call_in_parts, ended_call, failed_parts, loaded_kept, no_handle, no_memory, not_else, not_then, of_whole, passed_error, passed_refusal, wants_memory, write_may, working_call, write_done, write_forbidden, write_none, write_nothing, write_too_long}
 use Rattle.lfs_volume.proofs.volume.Volume.write.Goals as goal

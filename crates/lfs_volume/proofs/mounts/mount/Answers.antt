@@ -5,7 +5,7 @@ use Rattle.lfs_model.specs.format.Thread.{Pair}
 use Rattle.lfs_model.specs.tree.View.{IsAccepted}
 use Rattle.lfs_thread.specs.Kept.{disk_of_device}
 use Rattle.lfs_volume.specs.Volume.{VolumeView}
-use Rattle.lfs_volume.proofs.volume.mount.Goals as goal
+use Rattle.lfs_volume.proofs.mounts.mount.Goals as goal
 
 pub begin-requires : goal.begin-requires
 begin-requires g c = c.in-Ok.ensures.begun.no_files

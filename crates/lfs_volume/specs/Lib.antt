@@ -1,4 +1,5 @@
 pub mod Calls
+pub mod Examples
 pub mod Hulls
 pub mod Nodes
 pub mod Opened

@@ -1,0 +1,161 @@
+// What the definitions of a volume say, by examples.
+
+ghost use Rattle.std.specs.Prelude.{◌≡◌, ◌≢◌, ◌∷◌, ◌++◌, ℕ, List, [], codes, false, length, replicate, true, None, Ok, Some};
+ghost use Rattle.lfs_model.specs.session.Operations as ops;
+ghost use Rattle.lfs_model.specs.session.Operations.{BadFile, Exist, Failed, Invalid, NoEnt, NoSpace, NotEmpty, TooBig};
+ghost use Rattle.lfs_model.specs.examples.Sessions.{creating_flags, read_flags, write_flags};
+ghost use Rattle.lfs_tree.specs.TreeState.{shown_tree};
+ghost use Rattle.lfs_fs.specs.SessionView.{SessionView};
+ghost use Rattle.lfs_volume.specs.declared.handles.Handle.{Handle};
+ghost use Rattle.lfs_volume.specs.declared.hull.Hull.{Hull};
+ghost use Rattle.lfs_volume.specs.Calls.{Call, Close, Open, Perform, Read, Seek, Size, Sync, Tell, Truncate, Write, may_want_memory, moved_path};
+ghost use Rattle.lfs_volume.specs.Examples.{fresh_volume, new_flags, one_open_file, volume_after, volume_replies};
+ghost use Rattle.lfs_volume.specs.Hulls.{DiffersInHull, DiffersWithin, hull_with, resized_hull};
+ghost use Rattle.lfs_volume.specs.Opened.{LeadsToFile};
+ghost use Rattle.lfs_volume.specs.Volume.{VolumeView, loaded_node, opened_node, resized_node, stored_bytes, unlinked_node, written_node};
+ghost use Rattle.lfs_volume.specs.VolumeCalls.{IsSoundNode, IsSoundVolume, IsVolumeCall};
+
+/// Reading, writing or both; create, truncate and append with writing, and exclusive with create.
+pub fn flags_of_volume_are_checked()
+    ensures { volume_replies 16
+        (Open (codes "/a") read_flags ∷ Open (codes "/a") (record read_flags { create = true })
+        ∷ Open (codes "/a") (record write_flags { exclusive = true }) ∷ Open (codes "/a") (record read_flags { unknown = true })
+        ∷ Open (codes "/a") (record creating_flags { exclusive = true }) ∷ Open (codes "/a") (record creating_flags { exclusive = true })
+        ∷ Open (codes "/a") (record write_flags { read = true; truncate = true }) ∷ [])
+        ≡ ops.Refused NoEnt ∷ ops.Refused Invalid ∷ ops.Refused Invalid ∷ ops.Refused Invalid ∷ ops.Opened 0 ∷ ops.Refused Exist
+        ∷ ops.Opened 1 ∷ [] }
+{}
+
+/// A handle has the least number that is free. One that isn't open is refused, and so is a call for
+/// which it isn't open.
+pub fn least_free_number_is_opened()
+    ensures { volume_replies 16
+        (Open (codes "/a") creating_flags ∷ Open (codes "/b") new_flags ∷ Open (codes "/a") read_flags ∷ Close 1
+        ∷ Open (codes "/c") new_flags ∷ Open (codes "/d") new_flags ∷ Close 7 ∷ Read 0 1 ∷ Write 2 (codes "x") ∷ Tell 7 ∷ [])
+        ≡ ops.Opened 0 ∷ ops.Opened 1 ∷ ops.Opened 2 ∷ ops.Done ∷ ops.Opened 1 ∷ ops.Opened 3
+        ∷ ops.Refused BadFile ∷ ops.Refused BadFile ∷ ops.Refused BadFile ∷ ops.Refused BadFile ∷ [] }
+{}
+
+/// Handles on one path see one contents, and have positions of their own. The tree has them after a
+/// sync.
+pub fn handles_share_one_contents()
+    ensures { volume_replies 16
+        (Open (codes "/a") new_flags ∷ Open (codes "/a") read_flags ∷ Write 0 (codes "hello") ∷ Read 1 2 ∷ Tell 0 ∷ Tell 1
+        ∷ Size 1 ∷ Perform (ops.Stat (codes "/a")) ∷ Sync 1 ∷ Perform (ops.Stat (codes "/a")) ∷ Seek 0 1 ∷ Write 0 (codes "u")
+        ∷ Seek 1 0 ∷ Read 1 9 ∷ Truncate 0 2 ∷ Size 1 ∷ [])
+        ≡ ops.Opened 0 ∷ ops.Opened 1 ∷ ops.Count 5 ∷ ops.Bytes (codes "he") ∷ ops.Count 5 ∷ ops.Count 2
+        ∷ ops.Count 5 ∷ ops.StatIs (Some 0) ∷ ops.Done ∷ ops.StatIs (Some 5) ∷ ops.Done ∷ ops.Count 1
+        ∷ ops.Done ∷ ops.Bytes (codes "hullo") ∷ ops.Done ∷ ops.Count 2 ∷ [] }
+{}
+
+/// Positions and sizes past the longest file are refused.
+pub fn positions_past_limit_are_refused()
+    ensures { volume_replies 16
+        (Open (codes "/a") new_flags ∷ Seek 0 2147483647 ∷ Seek 0 2147483648 ∷ Tell 0 ∷ Write 0 (codes "x") ∷ Write 0 []
+        ∷ Truncate 0 2147483648 ∷ Read 0 9 ∷ Size 0 ∷ [])
+        ≡ ops.Opened 0 ∷ ops.Done ∷ ops.Refused Invalid ∷ ops.Count 2147483647 ∷ ops.Refused TooBig ∷ ops.Count 0
+        ∷ ops.Refused TooBig ∷ ops.Bytes [] ∷ ops.Count 0 ∷ [] }
+{}
+
+/// Open files go with the directory that is renamed, and one whose name only begins so stays.
+pub fn open_files_go_with_directory()
+    ensures replies { volume_replies 16
+        (Perform (ops.Mkdir (codes "/d")) ∷ Open (codes "/d/a") new_flags ∷ Open (codes "/dd") new_flags ∷ Write 0 (codes "moved")
+        ∷ Write 1 (codes "stays") ∷ Perform (ops.Rename (codes "/d") (codes "/e")) ∷ Close 0 ∷ Close 1
+        ∷ Perform (ops.Stat (codes "/d/a")) ∷ Perform (ops.Stat (codes "/e/a")) ∷ Perform (ops.Stat (codes "/dd"))
+        ∷ Perform (ops.Remove (codes "/e")) ∷ [])
+        ≡ ops.Done ∷ ops.Opened 0 ∷ ops.Opened 1 ∷ ops.Count 5 ∷ ops.Count 5 ∷ ops.Done ∷ ops.Done ∷ ops.Done
+        ∷ ops.Refused NoEnt ∷ ops.StatIs (Some 5) ∷ ops.StatIs (Some 5) ∷ ops.Refused NotEmpty ∷ [] }
+    ensures moves { moved_path (codes "/d") (codes "/e") (opened_node (codes "/d/a") 0) ≡ Some (codes "/e/a") }
+    ensures itself { moved_path (codes "/d") (codes "/e") (opened_node (codes "/d") 0) ≡ Some (codes "/e") }
+    ensures stays { moved_path (codes "/d") (codes "/e") (opened_node (codes "/dd") 0) ≡ None }
+    ensures removed { moved_path (codes "/d") (codes "/e") (unlinked_node (opened_node (codes "/d") 0)) ≡ None }
+{}
+
+/// A removed file is read and written on by its handles, and no sync brings it back. So is one that
+/// was replaced.
+pub fn removed_file_stays_open()
+    ensures removed { volume_replies 16
+        (Open (codes "/a") new_flags ∷ Write 0 (codes "kept") ∷ Close 0 ∷ Open (codes "/a") new_flags ∷ Perform (ops.Remove (codes "/a"))
+        ∷ Perform (ops.Stat (codes "/a")) ∷ Read 0 9 ∷ Write 0 (codes "!") ∷ Sync 0 ∷ Perform (ops.Stat (codes "/a"))
+        ∷ Open (codes "/a") new_flags ∷ Size 0 ∷ Size 1 ∷ [])
+        ≡ ops.Opened 0 ∷ ops.Count 4 ∷ ops.Done ∷ ops.Opened 0 ∷ ops.Done
+        ∷ ops.Refused NoEnt ∷ ops.Bytes (codes "kept") ∷ ops.Count 1 ∷ ops.Done ∷ ops.Refused NoEnt
+        ∷ ops.Opened 1 ∷ ops.Count 5 ∷ ops.Count 0 ∷ [] }
+    ensures replaced { volume_replies 16
+        (Open (codes "/a") new_flags ∷ Write 0 (codes "new") ∷ Open (codes "/b") new_flags ∷ Write 1 (codes "older")
+        ∷ Perform (ops.Rename (codes "/a") (codes "/b")) ∷ Close 0 ∷ Close 1 ∷ Perform (ops.Stat (codes "/b"))
+        ∷ Perform (ops.Stat (codes "/a")) ∷ [])
+        ≡ ops.Opened 0 ∷ ops.Count 3 ∷ ops.Opened 1 ∷ ops.Count 5 ∷ ops.Done ∷ ops.Done ∷ ops.Done ∷ ops.StatIs (Some 3)
+        ∷ ops.Refused NoEnt ∷ [] }
+{}
+
+/// A sync needs two blocks, and those of a list of the file's length. Where it is refused, the bytes
+/// stay in memory; after a close they are lost.
+pub fn sync_without_room_is_refused()
+    ensures full { volume_replies 6
+        (Open (codes "/a") new_flags ∷ Write 0 (replicate 128 7) ∷ Write 0 (replicate 128 7) ∷ Sync 0 ∷ Write 0 (replicate 20 7) ∷ Sync 0
+        ∷ Perform (ops.Stat (codes "/a")) ∷ Size 0 ∷ Close 0 ∷ Size 0 ∷ Perform (ops.Stat (codes "/a")) ∷ [])
+        ≡ ops.Opened 0 ∷ ops.Count 128 ∷ ops.Count 128 ∷ ops.Refused NoSpace ∷ ops.Count 20 ∷ ops.Refused NoSpace
+        ∷ ops.StatIs (Some 0) ∷ ops.Count 276 ∷ ops.Refused NoSpace ∷ ops.Refused BadFile ∷ ops.StatIs (Some 0) ∷ [] }
+    ensures fits { volume_replies 6
+        (Open (codes "/a") new_flags ∷ Write 0 (replicate 128 7) ∷ Write 0 (replicate 124 7) ∷ Sync 0 ∷ Perform (ops.Stat (codes "/a")) ∷ [])
+        ≡ ops.Opened 0 ∷ ops.Count 128 ∷ ops.Count 124 ∷ ops.Done ∷ ops.StatIs (Some 252) ∷ [] }
+{}
+
+/// The hull grows by a write and a longer file, and is cut with the contents. Stored bytes differ
+/// from new ones in a hull, or behind it.
+pub fn changed_bytes_are_in_hull()
+    ensures first { hull_with None 3 5 ≡ record { from = 3; end = 5 } }
+    ensures grows { hull_with (Some (record { from = 3; end = 5 })) 7 9 ≡ record { from = 3; end = 9 } }
+    ensures longer { resized_hull (Some (record { from = 3; end = 5 })) 6 8 ≡ record { from = 3; end = 8 } }
+    ensures shorter { resized_hull (Some (record { from = 3; end = 5 })) 6 4 ≡ record { from = 3; end = 4 } }
+    ensures within { DiffersWithin (1 ∷ 2 ∷ 3 ∷ 4 ∷ []) (1 ∷ 2 ∷ 0 ∷ 4 ∷ []) (record { from = 2; end = 3 }) }
+    ensures behind { DiffersWithin (1 ∷ 2 ∷ 3 ∷ 4 ∷ []) (1 ∷ 2 ∷ 0 ∷ 5 ∷ []) (record { from = 2; end = 3 }) → ⊥ }
+    ensures same { DiffersInHull (1 ∷ 2 ∷ []) (1 ∷ 2 ∷ []) None }
+    ensures other { DiffersInHull (1 ∷ 2 ∷ []) (1 ∷ 3 ∷ []) None → ⊥ }
+{}
+
+/// What writes, cuts and removes make of an open file of four bytes.
+pub fn node_is_changed_in_memory()
+    ensures written { written_node 1 (codes "XY") (codes "abcd") (opened_node (codes "/a") 4) ≡ record { path = Some (codes "/a"); size = 4; contents = Some (codes "aXYd"); hull = Some (record { from = 1; end = 3 }) } }
+    ensures gap { written_node 5 (codes "X") (codes "abcd") (opened_node (codes "/a") 4) ≡ record { path = Some (codes "/a"); size = 6; contents = Some (codes "abcd" ++ 0 ∷ codes "X"); hull = Some (record { from = 4; end = 6 }) } }
+    ensures cut { resized_node 2 (codes "abcd") (opened_node (codes "/a") 4) ≡ record { path = Some (codes "/a"); size = 2; contents = Some (codes "ab"); hull = Some (record { from = 2; end = 2 }) } }
+    ensures unchanged { resized_node 4 (codes "abcd") (opened_node (codes "/a") 4) ≡ opened_node (codes "/a") 4 }
+    ensures removed { unlinked_node (loaded_node (codes "abcd") (opened_node (codes "/a") 4)) ≡ record { path = None; size = 4; contents = Some (codes "abcd"); hull = None } }
+{}
+
+/// Only a call that makes a handle, returns bytes, lengthens a file or moves paths may want memory of
+/// the volume's own.
+pub fn calls_that_want_memory()
+    ensures open { may_want_memory fresh_volume (Open (codes "/a") read_flags) ≡ true }
+    ensures longer { may_want_memory one_open_file (Write 0 (codes "abcde")) ≡ true }
+    ensures within { may_want_memory one_open_file (Write 0 (codes "abcd")) ≡ false }
+    ensures cut { may_want_memory one_open_file (Truncate 0 3) ≡ false }
+    ensures sync { may_want_memory one_open_file (Sync 0) ≡ false }
+    ensures rename { may_want_memory one_open_file (Perform (ops.Rename (codes "/a") (codes "/b"))) ≡ true }
+{}
+
+/// Of a volume that has failed each call replies `Failed`, and another reply isn't one of its calls.
+pub fn failed_volume_changes_nothing()
+    ensures refused { (v : VolumeView) (call : Call) → v.session.tree.failed ≡ true → IsVolumeCall v call (Ok (ops.Refused Failed)) v }
+    ensures other { (v w : VolumeView) (call : Call) → v.session.tree.failed ≡ true → IsVolumeCall v call (Ok ops.Done) w → ⊥ }
+{}
+
+/// A volume without open files is sound if its session is idle. One isn't with a handle of no node, or
+/// with a node that isn't in memory and has another size than its file.
+pub fn volume_is_sound_or_not()
+    ensures empty { (h : SessionView) → h.tree.failed ≡ false → h.files ≡ [] → IsSoundVolume (record { session = h; nodes = []; handles = [] }) }
+    ensures handle { (h : SessionView) (g : Handle) → IsSoundVolume (record { session = h; nodes = []; handles = Some g ∷ [] }) → ⊥ }
+    ensures size { (h : SessionView) (path : List ℕ) (size : ℕ) → length (stored_bytes (shown_tree h.tree) (Some path)) ≢ size → IsSoundNode h (opened_node path size) → ⊥ }
+    ensures hull { (h : SessionView) (path : List ℕ) (size : ℕ) (hull : Hull) → IsSoundNode h (record (opened_node path size) { hull = Some hull }) → ⊥ }
+{}
+
+/// A path leads to a file, or it doesn't.
+pub fn path_leads_to_file_or_not()
+    ensures file { LeadsToFile (volume_after 16 (Open (codes "/a") new_flags ∷ [])).tree (codes "/a") }
+    ensures none { LeadsToFile (volume_after 16 (Open (codes "/a") new_flags ∷ [])).tree (codes "/b") → ⊥ }
+    ensures root { LeadsToFile (volume_after 16 (Open (codes "/a") new_flags ∷ [])).tree (codes "/") → ⊥ }
+    ensures beneath { LeadsToFile (volume_after 16 (Open (codes "/a") new_flags ∷ [])).tree (codes "/a/b") → ⊥ }
+    ensures form { LeadsToFile (volume_after 16 (Open (codes "/a") new_flags ∷ [])).tree (codes "a") → ⊥ }
+{}

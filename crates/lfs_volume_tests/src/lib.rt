@@ -9,6 +9,8 @@ mod counts;
 #[cfg(test)]
 mod example;
 #[cfg(test)]
+mod other_calls;
+#[cfg(test)]
 mod paths;
 #[cfg(test)]
 mod rows;

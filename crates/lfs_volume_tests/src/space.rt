@@ -37,6 +37,27 @@ fn a_sync_without_room_changes_nothing(rt: HostRuntime) -> Result<(), Fail> {
     Ok(())
 }
 
+// A close that is refused frees the handle. Another handle still has the bytes, and stores them.
+#[test]
+fn a_refused_close_leaves_bytes_to_other_handles(rt: HostRuntime) -> Result<(), Fail> {
+    let new = OpenFlags::READ | OpenFlags::WRITE | OpenFlags::CREATE;
+    let four = [7u8; 4000];
+    let rows: [Row<'_>; 10] = [
+        (Open(b"/a", new), Number(0)),
+        (Open(b"/a", new), Number(1)),
+        (Write(0, &four), Number(4000)),
+        (Write(0, &four), Number(4000)),
+        (Close(0), Refused(Error::NoSpace)),
+        (Size(0), Refused(Error::BadFile)),
+        (Size(1), Number(8000)),
+        (Truncate(1, 3000), Done),
+        (Close(1), Done),
+        (Stat(b"/a"), Number(3000)),
+    ];
+    assert_eq!(rt; first_wrong_row_on_new(rt.alloc(), 8, &rows)?, None);
+    Ok(())
+}
+
 fn first_wrong_row_on_failing(alloc: Global, rows: &[Row<'_>]) -> Result<Option<usize>, Error> {
     let device = RamDevice::blank(alloc, Geometry::new(1024, 128, 16)?)?;
     match format(

@@ -1,5 +1,4 @@
-/* The same work by a session (with -DSESSION), by a call on an image each (with -DCALLS), and by littlefs's own code (with HEADER):
- * prints the seconds that each row takes, for bindings.py.
+/* The same work by a volume, and by littlefs's own code (with HEADER): prints the seconds that each row takes, for bindings.py.
  *
  *   bindings SIZE COUNT     an image of so many bytes, and so many small writes, stats and files */
 #include <stdint.h>
@@ -60,9 +59,8 @@ static void make_directory(const char *path) { done(lfs_mkdir(&fs, path)); }
 #else
 #include "littlefs_c.h"
 #define BYTES(words) (const uint8_t *)(words), strlen(words)
-#if defined(SESSION)
 
-static lfs_c_session fs = LFS_C_CLOSED;
+static lfs_c_volume fs = LFS_C_CLOSED;
 
 static void begin(void) {
     lfs_c_config config = LFS_C_CONFIG(BLOCK, PAGE);
@@ -80,17 +78,6 @@ static void read_file(const char *path) {
     done(lfs_c_file_close(&fs, file));
 }
 static void make_directory(const char *path) { done(lfs_c_mkdir_at(&fs, BYTES(path))); }
-#else
-
-static void begin(void) { done(lfs_c_format(image, image_size, BLOCK, PAGE, LFS_C_LONGER_FIRST)); }
-static void put(const char *path, const void *bytes, uint32_t size) { done(lfs_c_write(image, image_size, BLOCK, PAGE, BYTES(path), bytes, size)); }
-static void stat_file(const char *path) { done(lfs_c_stat(image, image_size, BLOCK, PAGE, BYTES(path))); }
-static void read_file(const char *path) {
-    uint32_t at = 0;
-    for (int64_t count; (count = done(lfs_c_read(image, image_size, BLOCK, PAGE, BYTES(path), at, piece, PIECE))); at += count) {}
-}
-static void make_directory(const char *path) { done(lfs_c_mkdir(image, image_size, BLOCK, PAGE, BYTES(path))); }
-#endif
 #endif
 
 static double last;

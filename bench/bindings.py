@@ -10,18 +10,19 @@ Builds the static library (`rt lib`), and the example and the shared library fro
   session_model.py, which shares nothing with the crates: each answer and refusal is compared, and behind each operation that is
   refused the bytes, and at the end of the list the whole tree, by a second look at these bytes. With the folder of littlefs's own
   code it has to show the same tree of each image whose longer names come first, as littlefs has them;
-- N lists of 40 operations of one session, with open files, are compared with the same model;
+- N lists of 60 calls of one volume, with files open several times, for reading and writing both, and renamed and removed while they
+  are open, are compared with the model of volume.py;
 - each call that fills a buffer is given one of no byte, one too short, an exact one, and one with room to spare: what is behind
   the bytes that it says, and all of it where they don't fit, has to stay;
-- each call is given hostile images: changed, cut and random bytes, and sizes out of range. Each answers a number that
-  littlefs_c.h names, leaves a refused image and all that lies beside image and buffer, and takes what it accepts to an image that
-  is accepted. So do the calls of a session over what a mount accepts;
+- hostile images are mounted: changed, cut and random bytes, and sizes out of range. A mount accepts or refuses them by a number that
+  littlefs_c.h names, and calls over what it accepts leave an image that is accepted;
+- directory handles, the superblock, used blocks and why an image is read only, by the calls of littlefs_c.h;
 - each call is given a handle that is closed;
 - what bindings/python promises beside that: file objects, exceptions, limits and versions, threads, and what comes after a close.
 
 Prints how many there were of each. Fails at the first difference. With `--times` it prints instead how long 1,000 writes of 100
-bytes, 1,000 stats, a read of 1 MiB in pieces and 1,000 new files take: by a session, by a call on an image each, by littlefs's own
-code where its folder is given, and from Python.
+bytes, 1,000 stats, a read of 1 MiB in pieces and 1,000 new files take: by a volume, by littlefs's own code where its folder is given,
+and from Python.
 """
 
 import argparse
@@ -46,6 +47,7 @@ import zlib
 
 import littlefs_code
 import session_model
+import volume
 from session_model import Model, Refused, key, parsed
 
 top = os.path.dirname(os.path.dirname(os.path.abspath(__file__)))
@@ -80,7 +82,7 @@ def word(data):
     return data.decode("latin-1")
 
 
-session_model.bytes_of = lambda text: text.encode("latin-1")
+session_model.bytes_of = volume.bytes_of = lambda text: text.encode("latin-1")
 
 
 def model_items(model, path):
@@ -231,47 +233,45 @@ def compare(count, seed, code):
     return seen
 
 
-# Sessions with open files
+# Volumes with open files
 
 
-IN_SESSION = ["open"] * 10 + ["write"] * 6 + ["read"] * 6 + ["seek"] * 4 + ["truncate"] * 2 + ["sync"] * 2 + ["close"] * 3 + ["mkdir", "mkdir", "remove", "rename", "items", "stat", "getattr", "setattr", "removeattr", "used", "recover"]
-FLAGS = [0x1] * 8 + [0x2, 0x102, 0x102, 0x502, 0x502, 0x902, 0x302] * 2 + [0, 0x3, 0x402, 0x1002, 0x101, 0x202]
+IN_VOLUME = ["open"] * 10 + ["write"] * 8 + ["read"] * 6 + ["seek"] * 4 + ["truncate"] * 3 + ["sync"] * 2 + ["close"] * 4 + ["tell", "size", "mkdir", "mkdir", "remove", "remove", "rename", "rename", "items", "stat", "getattr", "setattr", "removeattr", "used", "recover"]
+FLAGS = [0x1] * 4 + [0x2, 0x102, 0x902, 0x502, 0x302, 0x3, 0x103, 0x103, 0x903, 0x503, 0x403, 0x303] + [0, 0x100, 0x101, 0x401, 0x801, 0x1002, 0x202]
 
 
-def a_session_call(chance, model):
-    """A call of a session, and what it takes."""
-    name = chance.choice(IN_SESSION if chance.random() > 0.01 else ["remount"])
+def a_volume_call(chance, model):
+    """A call of a volume, and what it takes."""
+    name = chance.choice(IN_VOLUME if chance.random() > 0.01 else ["remount"])
     path = a_path(chance, model)
-    if name == "open" and chance.random() < 0.5:
+    if name in ("open", "remove", "rename") and chance.random() < 0.5:
         path = chance.choice([at for at, node in model.tree.items() if node.content is not None] or [b"/file"])
     if name in ("mkdir", "open") and sum(at.rpartition(b"/")[0] == path.rpartition(b"/")[0] for at in model.tree) > 5:
         name = "close"
-    fit = [number for number, file in model.files.items() if file.writes == (name in ("write", "truncate", "sync")) or name in ("seek", "close")]
-    file = chance.choice(fit) if fit and chance.random() < 0.8 else chance.choice([*model.files, 0, 1, 17, 2**32 - 1])
+    need = {"write": volume.WRITE, "truncate": volume.WRITE, "read": volume.READ}.get(name, 0)
+    fit = [number for number, handle in model.handles.items() if handle.flags & need == need]
+    file = chance.choice(fit) if fit and chance.random() < 0.8 else chance.choice([*model.handles, 0, 1, 17, 2**32 - 1])
     size = chance.choice([0, 1, 100, 511, 513, 4096, 9000, chance.randint(0, 30000), 2147483647, 2147483648])
     takes = {
         "open": lambda: (path, chance.choice(FLAGS)),
         "write": lambda: (file, some_bytes(chance, 9000)),
         "read": lambda: (file, min(size, 40000)),
-        "seek": lambda: (file, size),
-        "truncate": lambda: (file, size),
-        "sync": lambda: (file,),
-        "close": lambda: (file,),
+        "seek": lambda: (file, min(size, 60000) if size < 2147483648 else size),
+        "truncate": lambda: (file, min(size, 60000) if size < 2147483648 else size),
         "rename": lambda: (path, a_path(chance, model)),
         "setattr": lambda: (path, chance.choice([0, 7, 255]), some_bytes(chance, 40)[:1100]),
         "removeattr": lambda: (path, chance.choice([0, 7, 255])),
         "getattr": lambda: (path, chance.choice([0, 7, 255])),
-        "used": lambda: (),
-        "recover": lambda: (),
-        "remount": lambda: (),
+        **{name: lambda: (file,) for name in ("tell", "size", "sync", "close")},
+        **{name: lambda: () for name in ("used", "recover", "remount")},
     }.get(name, lambda: (path,))()
     return name, takes
 
 
 def model_file_read(model, number, count):
-    file = model.file(number, writes=False)
-    found = model.tree[file.path].content[file.position : file.position + count]
-    file.position += len(found)
+    handle = model.handle(number, volume.READ)
+    found = bytes(handle.file.bytes[handle.position : handle.position + count])
+    handle.position += len(found)
     return found
 
 
@@ -280,6 +280,8 @@ BY_NUMBER = {
     "write": lambda model, number, data: int(model.write(number, word(data)).split()[1]),
     "read": model_file_read,
     "seek": lambda model, number, position: model.seek(number, position) and None,
+    "tell": lambda model, number: int(model.position(number).split()[1]),
+    "size": lambda model, number: int(model.size(number).split()[1]),
     "truncate": lambda model, number, size: model.truncate(number, size) and None,
     "sync": lambda model, number: model.sync(number) and None,
     "close": lambda model, number: model.close(number) and None,
@@ -288,7 +290,8 @@ BY_NUMBER = {
 }
 
 
-def session_in_model(model, name, takes):
+def volume_in_model(model, name, takes):
+    """What the model answers, and the model behind it. A close that is refused frees the number."""
     after = copy.deepcopy(model)
     try:
         if name in BY_NUMBER:
@@ -296,10 +299,10 @@ def session_in_model(model, name, takes):
         answer = IN_MODEL[name](after, *takes)
         return None if name in CHANGES else answer, after
     except Refused as refused:
-        return str(refused), model
+        return str(refused), after if name == "close" else model
 
 
-def session_by_calls(image, name, takes):
+def volume_by_calls(image, name, takes):
     """The same call through the handle of an image."""
     try:
         if name == "open":
@@ -309,6 +312,8 @@ def session_by_calls(image, name, takes):
             return bytes(buffer[: image._call("file_read", [], takes[0], *library.writable(buffer))])
         if name == "write":
             return image._call("file_write", [], takes[0], *library.readable(takes[1]))
+        if name in ("tell", "size"):
+            return image._call("file_" + name, [], *takes)
         if name in ("seek", "truncate", "sync", "close"):
             return "not 0" if image._call("file_" + name, [], *takes) else None
         return getattr(image, name)(*takes)
@@ -316,25 +321,25 @@ def session_by_calls(image, name, takes):
         return littlefs_c.ERRORS[error.errno]
 
 
-def sessions(count, seed):
+def volumes(count, seed):
     seen = collections.Counter()
     for number in range(count):
-        chance = random.Random(f"{seed} session {number}")
-        block_size, page, blocks = chance.choice([(1024, 8, 64), (4096, 256, 24), (2048, 64, 32), (4096, 512, 16)])
-        model = Model(block_size, page, blocks)
+        chance = random.Random(f"{seed} volume {number}")
+        block_size, page, blocks = chance.choice([(1024, 8, 64), (4096, 256, 24), (2048, 64, 32), (4096, 512, 16), (1024, 16, 14)])
+        model = volume.VolumeModel(blocks, block_size=block_size, page=page)
         with littlefs_c.Image.format(block_size * blocks, block_size, page) as image:
-            for _ in range(40):
-                name, takes = a_session_call(chance, model)
+            for _ in range(60):
+                name, takes = a_volume_call(chance, model)
                 before = bytes(image)
-                wanted, model = session_in_model(model, name, takes)
-                got = session_by_calls(image, name, takes)
-                same(f"session {number}, {name} {takes!r:.200}", got, wanted)
+                wanted, model = volume_in_model(model, name, takes)
+                got = volume_by_calls(image, name, takes)
+                same(f"volume {number}, {name} {takes!r:.200}", got, wanted)
                 if isinstance(wanted, str):
-                    same(f"session {number}, bytes behind {name} {takes!r:.200}", bytes(image) == before, True)
+                    same(f"volume {number}, bytes behind {name} {takes!r:.200}", bytes(image) == before, True)
                 seen[name + (" refused" if isinstance(wanted, str) else "")] += 1
-            for file in sorted(model.files):
-                image._call("file_close", [], file)
-                model.close(file)
+            for file in sorted(model.handles):
+                wanted, model = volume_in_model(model, "close", (file,))
+                same(f"volume {number}, the last close of {file}", volume_by_calls(image, "close", (file,)), wanted)
             look(littlefs_c.Image(bytes(image), block_size, page), model.tree)
     return seen
 
@@ -358,7 +363,6 @@ def filled(name, size, whole, answer, wanted, may_be_part):
 
 
 def buffers():
-    calls = library.load()
     image = littlefs_c.Image.format(24 * 4096)
     image.mkdir("/d")
     image.write("/d/file", bytes(range(256)) * 20)
@@ -366,19 +370,15 @@ def buffers():
     image.setattr("/d/file", 9, b"an attribute")
     data = bytes(image)
     listed, content = b"f 0 \\x5cback\nf 5120 file\n", bytes(range(256)) * 20
-    asked = [("list", (b"/d",), listed, False), ("read", (b"/d/file", 0), content, True), ("read", (b"/d/file", 5000), content[5000:], True),
-             ("read", (b"/d/file", 5120), b"", True), ("get_attr", (b"/d/file", 9), b"an attribute", False)]
     file = image._call("open", [], *library.readable(b"/d/file"), library.READ)
     held = [("list_at", library.readable(b"/d"), listed, False), ("get_attr_at", (*library.readable(b"/d/file"), 9), b"an attribute", False), ("image", (), data, False),
             *[("image_part", (offset,), data[offset:], True) for offset in (0, 1, 50000, len(data) - 1, len(data), len(data) + 1, 2**64 - 1)],
             *[("file_read", (file, position), content[position:], True) for position in (0, 5000, 5120, 6000)]]
     seen = 0
-    for name, takes, wanted, may_be_part in asked + held:
+    for name, takes, wanted, may_be_part in held:
         for size in {0, max(len(wanted) - 1, 0), len(wanted), len(wanted) + 1, len(wanted) + 100}:
             whole, address = guarded(size)
-            if name in library.CALLS:
-                answer = calls[name](data, len(data), 4096, 256, *library.readable(takes[0]), *takes[1:], address, size)
-            elif name == "file_read":
+            if name == "file_read":
                 image._call("file_seek", [], *takes)
                 answer = image._call(name, [], takes[0], address, size)
             else:
@@ -411,32 +411,8 @@ def hostile(chance, images):
     return data, block_size, page
 
 
-def called(calls, name, data, block_size, page, chance):
-    """What a call answers, with the image between guards, and the bytes that it leaves."""
-    whole, address = guarded(len(data))
-    ctypes.memmove(address, bytes(data), len(data))
-    takes, written = [], []
-    for letter in library.CALLS[name]:
-        if letter == "n":
-            takes.append(chance.choice([0, 1, 2, 5000, 2**32 - 1]))
-        elif letter == "k":
-            takes.append(chance.choice([0, 9, 255]))
-        elif name in ("list", "read", "get_attr") and takes:
-            buffer = guarded(chance.choice([0, 1, 100, 10000]))
-            written.append(buffer[0])
-            takes += [buffer[1], len(buffer[0]) - 2 * GUARD]
-        else:
-            takes += library.readable(chance.choice([b"/", b"/d", b"/d/file", b"/new", b"", b"/d/" + chance.randbytes(5), b"/" + b"n" * 300]))
-    answer = calls[name](address, len(data), block_size, page, *takes)
-    for other in [whole, *written]:
-        same(f"{name}, beside what it may write", bytes(other)[:GUARD] + bytes(other)[-GUARD:], b"\xa5" * 2 * GUARD)
-    if answer < 0:
-        same(f"{name}, a refused call's buffers", all(set(bytes(other)) <= {0xa5} for other in written), True)
-    return answer, bytes(whole)[GUARD : len(whole) - GUARD]
-
-
-def attack_session(chance, number, data, block_size, page):
-    """A session over hostile bytes answers or refuses, and leaves an image that is accepted."""
+def attack_image(chance, number, data, block_size, page):
+    """A volume over hostile bytes answers or refuses, and leaves an image that is accepted."""
     try:
         image = littlefs_c.Image(data, block_size, page)
     except OSError as error:
@@ -445,7 +421,7 @@ def attack_session(chance, number, data, block_size, page):
     with image:
         path, other = b"/d/file", b"/d/" + chance.randbytes(3).replace(b"/", b"_").replace(b"\0", b"_")
         for call in [lambda: image.recover(), lambda: image.write(other, chance.randbytes(3000)), lambda: list(image.walk()), lambda: image.read(path), lambda: image.rename(path, b"/moved"),
-                     lambda: image.setattr(b"/d", 9, b"other"), lambda: image.remove(other), lambda: image.used(), lambda: image.remount(), lambda: image.open(other, "ab").close()]:
+                     lambda: image.setattr(b"/d", 9, b"other"), lambda: image.remove(other), lambda: image.used(), lambda: image.remount(), lambda: image.open(other, "ab").close(), lambda: image.open(path, "r+b").write(b"other"), lambda: image.truncate(path, 9000)]:
             with contextlib.suppress(OSError):
                 call()
         image.check()
@@ -464,20 +440,86 @@ def some_images():
 
 
 def attack(count, seed):
-    calls, images, seen = library.load(), some_images(), collections.Counter()
+    images, seen = some_images(), collections.Counter()
     for number in range(count):
         chance = random.Random(f"{seed} hostile {number}")
         data, block_size, page = hostile(chance, images)
-        for name in library.CALLS:
-            answer, left = called(calls, name, data, block_size, page, chance)
-            if answer < 0:
-                same(f"image {number}, {name}: an error's number", -answer in littlefs_c.ERRORS, True)
-            if answer < 0 or name in ("check", "list", "stat", "read", "get_attr", "used"):
-                same(f"image {number}, {name}: bytes behind {answer}", left == bytes(data), True)
-            else:
-                littlefs_c.Image(left, block_size, page)
-            seen["refused" if answer < 0 else "answered"] += 1
-        seen["mounted" if attack_session(chance, number, data, block_size, page) else "not mounted"] += 1
+        seen["mounted" if attack_image(chance, number, bytes(data), block_size, page) else "not mounted"] += 1
+    return seen
+
+
+# Calls of littlefs_c.h that bindings/python doesn't make
+
+
+class Entry(ctypes.Structure):
+    _fields_ = [("kind", ctypes.c_uint32), ("size", ctypes.c_uint32), ("name_len", ctypes.c_uint32)]
+
+
+class Info(ctypes.Structure):
+    _fields_ = [(name, ctypes.c_uint32) for name in ("disk_version", "block_size", "block_count", "name_max", "file_max", "attr_max")]
+
+
+class Breach(ctypes.Structure):
+    _fields_ = [("pair", ctypes.c_uint32 * 2), ("slot", ctypes.c_size_t), ("limit", ctypes.c_uint32)]
+
+
+def c_calls():
+    """Calls of the shared library by their names, with a volume in front."""
+    shared = ctypes.CDLL(os.environ.get("LITTLEFS_C") or library.built_library())
+
+    def call(name, image, *words):
+        made = getattr(shared, "lfs_c_" + name)
+        made.restype = ctypes.c_int64
+        return made(ctypes.byref(image._handle), *[ctypes.c_size_t(it) if isinstance(it, int) else it for it in words])
+
+    return call
+
+
+def entries_of(call, image, number):
+    """What the rest of an open directory has."""
+    found, entry, name = [], Entry(), ctypes.create_string_buffer(255)
+    while call("dir_read", image, number, ctypes.byref(entry), name, 255) == 1:
+        found.append((name.raw[: entry.name_len], entry.size if entry.kind == 1 else None))
+    return found
+
+
+def questions():
+    """Directory handles, the superblock, used blocks, and why an image is read only."""
+    call, seen = c_calls(), 0
+    with littlefs_c.Image.format(64 * 4096) as image:
+        image.mkdir("/d")
+        for number in range(30):
+            image.write(f"/d/{number * number * 37 % 1000:x}" + "x" * number * 8, bytes(number))
+        numbers = [call("dir_open", image, *library.readable(path)) for path in (b"/d", b"/", b"/d")]
+        same("numbers of directories", numbers, [0, 1, 2])
+        listed = image.items("/d")
+        same("entries", (entries_of(call, image, 0), entries_of(call, image, 1)), (listed, [(b"d", None)]))
+        same("their positions", [call("dir_tell", image, number) for number in numbers], [len(listed), 1, 0])
+        same("seeks", [call("dir_seek", image, 0, position) for position in (31, 2**32 - 1, 7)], [-22, -22, 0])
+        image.remove(b"/d/" + listed[9][0])
+        image.write("/d/zz", b"12")
+        same("an old list from entry 7 on", entries_of(call, image, 0), listed[7:])
+        same("a rewind", (call("dir_rewind", image, 0), entries_of(call, image, 0)), (0, image.items("/d")))
+        same("closed", [call("dir_close", image, number) for number in (0, 0, 1, 5)], [0, -9, 0, -9])
+        same("no such number", [call(name, image, 1, *more) for name, more in (("dir_tell", ()), ("dir_seek", (0,)), ("dir_rewind", ()))], [-9] * 3)
+        same("the least number", call("dir_open", image, *library.readable(b"/")), 0)
+        same("no directory", [call("dir_open", image, *library.readable(path)) for path in (b"/none", b"/d/zz", b"d")], [-2, -20, -22])
+        entry, name = Entry(), ctypes.create_string_buffer(b"\xa5" * 10, 10)
+        same("a name that doesn't fit", (call("dir_read", image, 2, ctypes.byref(entry), name, 0), entry.name_len, name.raw), (1, len(listed[0][0]), b"\xa5" * 10))
+        info = Info()
+        same("the superblock", (call("superblock", image, ctypes.byref(info)), [getattr(info, it) for it, _ in Info._fields_]), (0, [0x20000, 4096, 64, 255, 2147483647, 1022]))
+        used = [call("is_used", image, block) for block in range(65)]
+        same("used blocks", (used[0], used[1], sum(used[:64]), used[64]), (1, 1, image.used(), -22))
+        same("writable", (call("is_writable", image), call("read_only_reason", image, ctypes.byref(Breach()))), (1, 0))
+        image.remount()
+        same("no directory behind a remount", call("dir_tell", image, 0), -9)
+        data = bytes(image)
+    for reason, limits in ((1, {"name_max": 200}), (2, {"file_max": 1000}), (3, {"attr_max": 100}), (4, {"inline_max": 5})):
+        breach = Breach()
+        with littlefs_c.Image(data, **limits) as image:
+            same(f"read only by {limits}", (call("is_writable", image), call("read_only_reason", image, ctypes.byref(breach))), (0, reason))
+            same("its limit", breach.limit, {1: 255, 2: 2147483647, 3: 1022, 4: 0}[reason])
+        seen += 1
     return seen
 
 
@@ -496,13 +538,13 @@ def raises(wanted, call, number=None, path=None):
 
 
 def closed():
-    """Each call through a closed handle is refused, and a second end of a session does nothing."""
+    """Each call through a closed handle is refused, and a second unmount does nothing."""
     calls, seen = library.load(), 0
-    for name, takes in library.SESSION_CALLS.items():
+    for name, takes in library.CALLS.items():
         handle, room = library.Handle(None, 0), ctypes.create_string_buffer(100)
-        if name in ("mount", "mkfs"):
+        if name in ("mount", "mount_with_limits", "mkfs"):
             continue
-        words = [word for letter in takes for word in ((room, 100) if letter == "b" else (1,))]
+        words = [word for letter in takes for word in ((room, 100) if letter == "b" else (library.Change(),) if letter == "g" else (1,))]
         same(f"{name} of a closed handle", calls[name](handle, *words), 0 if name == "unmount" else -77)
         same(f"{name} of a closed handle, the handle", (handle.at, handle.is_open), (None, 0))
         seen += 1
@@ -517,6 +559,36 @@ def closed():
     raises(ValueError, lambda: image.open("/file", "w"))
     raises(ValueError, lambda: image.write("/file", b""))
     return seen
+
+
+def both_ways(image):
+    """Files that are read and written, several at once, and renamed and removed while they are open."""
+    for mode, text, wanted in (("w+", "one two", "one two"), ("r+", "ONE", "ONE two"), ("a+", " three", "ONE two three")):
+        with image.open("/both", mode) as file:
+            file.write(text)
+            file.seek(0)
+            same(f"mode {mode}", (file.read(), file.readable(), file.writable()), (wanted, True, True))
+    with image.open("/fresh", "x+b", buffering=0) as file:
+        same("mode x+", (file.write(b"123"), file.seek(1), file.read(1), file.write(b"Z"), file.tell()), (3, 1, b"2", 1, 3))
+    with image.open("/both", "r+b") as one, image.open("/both", "r+b", buffering=0) as two:
+        one.seek(4)
+        one.write(b"TWO")
+        one.flush()
+        same("another file object sees it", (two.read(), image.stat("/both")), (b"ONE TWO three", 13))
+        image.rename("/both", "/moved")
+        two.write(b"!")
+        one.seek(-1, io.SEEK_END)
+        same("also behind a rename", one.read(), b"!")
+        image.write("/moved", b"other bytes")
+        same("and behind a write of all bytes", (two.seek(0), two.read()), (0, b"other bytes"))
+        image.remove("/moved")
+        same("and once it is removed", (two.seek(0), two.read(), two.write(b"?"), image.exists("/moved")), (0, b"other bytes", 1, False))
+    same("nothing brings it back", (image.exists("/moved"), image.exists("/both")), (False, False))
+    with image.open("/full", "wb", buffering=0) as file:
+        file.write(bytes(70 * 4096))
+        raises(OSError, file.sync, errno.ENOSPC)
+        raises(OSError, file.close, errno.ENOSPC, "/full")
+        same("closed nevertheless", (file.closed, image.stat("/full")), (True, 0))
 
 
 def files():
@@ -549,18 +621,16 @@ def files():
         file.sync()
         same("saved", image.stat("/raw"), 4)
         raises(io.UnsupportedOperation, file.read)
-        raises(OSError, lambda: image.open("/other", "w"), errno.EBUSY, "/other")
-        raises(OSError, lambda: image.remove("/raw"), errno.EBUSY)
     same("its bytes", image.read("/raw"), b"12ab")
-    raises(FileExistsError, lambda: image.open("/raw", "x"), errno.EEXIST, "/raw")
-    for mode in ("r+", "w+b", "rw", "", "b", "rbt", "rr", "q"):
+    for mode in ("x", "x+", "x+b"):
+        raises(FileExistsError, lambda: image.open("/raw", mode), errno.EEXIST, "/raw")
+    for mode in ("+", "rw", "r++", "", "b", "rbt", "rr", "q", "r+q"):
         raises(io.UnsupportedOperation, lambda: image.open("/raw", mode))
-    readers = [image.open("/raw", "rb") for _ in range(16)]
-    raises(OSError, lambda: image.open("/raw", "rb"), errno.EBUSY, "/raw")
+    both_ways(image)
+    readers = [image.open("/raw", "rb") for _ in range(40)]
     same("what readers read", {file.read() for file in readers}, {b"12ab"})
     del readers
     gc.collect()
-    image.open("/raw", "rb").close()
     lost, other = image.open("/raw", "rb", buffering=0), image.open("/lost", "wb", buffering=0)
     other.write(b"not saved")
     image.remount()
@@ -720,11 +790,11 @@ def compiled(room, name, words):
 
 
 def programs(room, littlefs):
-    """bindings.c in its forms, by name."""
+    """bindings.c, and the same over littlefs's own code, by name."""
     source, c = os.path.join(top, "bench", "bindings.c"), os.path.join(top, "bindings", "c")
     archives = subprocess.run(["make", "-s", "-C", c, "archives"], check=True, capture_output=True, text=True).stdout.split()
     ours = [source, f"-I{c}", *[os.path.join(c, it) for it in archives]]
-    made = {"session": compiled(room, "session", ["-DSESSION", *ours]), "a call each": compiled(room, "calls", ["-DCALLS", *ours])}
+    made = {"volume": compiled(room, "volume", ours)}
     if littlefs:
         prefix = "lfs2" if os.path.exists(f"{littlefs}/lfs2.c") else "lfs"
         with open(source) as it:
@@ -770,9 +840,9 @@ def times(littlefs):
     with tempfile.TemporaryDirectory() as room:
         made = programs(room, littlefs)
         for size, count in ((3 << 19, 1000), (16 << 20, 1000)):
-            print(f"an image of {size} bytes, seconds (the least of three; of a call each from one run)")
+            print(f"an image of {size} bytes, seconds (the least of three)")
             for name, program in made.items():
-                runs = [subprocess.run([program, str(size), str(count)], check=True, capture_output=True, text=True).stdout for _ in range(1 if name == "a call each" else 3)]
+                runs = [subprocess.run([program, str(size), str(count)], check=True, capture_output=True, text=True).stdout for _ in range(3)]
                 found = [dict(line.split() for line in run.splitlines()) for run in runs]
                 print(f"  {name:12}", *[f"{row} {min(float(it[row]) for it in found):.4f}" for row in found[0]])
             found = [from_python(size, count) for _ in range(3)]
@@ -801,6 +871,7 @@ def main():
     profiles()
     print("threads:", threads())
     print("buffers:", buffers())
+    print("images read only:", questions())
     print("hostile images:", dict(attack(given.count, given.seed)))
     with tempfile.TemporaryDirectory() as room:
         code = littlefs_code.build(given.littlefs, f"{room}/exchange", "0x00020000") if given.littlefs else None
@@ -808,8 +879,8 @@ def main():
         later = versions(littlefs_code.build(given.littlefs, f"{room}/newest"), room) if code else 0
     print("images shown by littlefs:", seen.pop("image shown by littlefs", 0), "of version 2.1:", later)
     print("operations:", sum(seen.values()), dict(sorted(seen.items())))
-    seen = sessions(given.count, given.seed)
-    print("calls of sessions:", sum(seen.values()), dict(sorted(seen.items())))
+    seen = volumes(given.count, given.seed)
+    print("calls of volumes:", sum(seen.values()), dict(sorted(seen.items())))
 
 
 if __name__ == "__main__":

@@ -54,8 +54,8 @@ class Handle:
 
 
 class VolumeModel(Model):
-    def __init__(self, block_count, most=MOST):
-        super().__init__(BLOCK, PAGE, block_count)
+    def __init__(self, block_count, most=MOST, block_size=BLOCK, page=PAGE):
+        super().__init__(block_size, page, block_count)
         self.handles, self.most = {}, most
 
     def handle(self, number, flags=0):

@@ -12,7 +12,7 @@
 enum { CALLS = 30, MOST = 1 << 20, ROOM = 1 << 18, LONGEST = 4096, FROM = 7 };
 typedef struct { uint8_t bytes[LONGEST]; size_t len; } path;
 
-static lfs_c_session fs;
+static lfs_c_volume fs;
 static uint8_t image[MOST], buffer[ROOM], data[ROOM];
 static uint64_t seed;
 
@@ -83,8 +83,8 @@ static int64_t put(const path *it, size_t size, uint32_t flags) {
     int64_t answer = lfs_c_file_write(&fs, (uint32_t)file, data, size);
     if (answer >= 0) answer = lfs_c_file_close(&fs, (uint32_t)file);
     if (answer >= 0) return 0;
-    if (is_new && lfs_c_file_close(&fs, (uint32_t)file) >= 0) lfs_c_remove_at(&fs, it->bytes, it->len);
-    else lfs_c_remount(&fs);
+    if (is_new) lfs_c_file_close(&fs, (uint32_t)file);
+    if (!is_new || lfs_c_remove_at(&fs, it->bytes, it->len) < 0) lfs_c_remount(&fs);
     return answer;
 }
 

@@ -19,7 +19,7 @@ int main(int count, char **arguments) {
     if (count != 2) return puts("usage: example FILE"), 1;
     const char *name = arguments[1];
     lfs_c_config config = LFS_C_CONFIG(4096, 256);
-    lfs_c_session fs = LFS_C_CLOSED;
+    lfs_c_volume fs = LFS_C_CLOSED;
 
     FILE *disk = fopen(name, "rb");
     if (disk) {

@@ -1,4 +1,4 @@
-/* Keeps a file system on a flash of C's own, which is the file FILE here: each change of a session is made there too.
+/* Keeps a file system on a flash of C's own, which is the file FILE here: each change of a volume is made there too.
  *
  * It also loses the power of that flash in each change, before it and halfway, and mounts what is left then. That has the tree from
  * before the call, or the one from after it. */
@@ -14,7 +14,7 @@
 enum { BLOCK = 4096, PAGE = 256, BLOCKS = 32, CHANGES = 1000 };
 
 static const lfs_c_config config = LFS_C_CONFIG(BLOCK, PAGE);
-static lfs_c_session fs = LFS_C_CLOSED;
+static lfs_c_volume fs = LFS_C_CLOSED;
 static FILE *flash;
 static uint64_t next; /* the number of the next change that the flash is to have */
 
@@ -46,7 +46,7 @@ static void make_change_on_flash(int number) {
 
 /* Writes what an image has to a buffer, and returns how many bytes that is: the lines of its directories, and a file. */
 static size_t shown(const uint8_t *all, uint8_t *buffer, size_t size) {
-    lfs_c_session old = LFS_C_CLOSED;
+    lfs_c_volume old = LFS_C_CLOSED;
     must("no mount", !lfs_c_mount(&old, &config, all, BLOCKS * BLOCK));
     size_t len = lfs_c_list_at(&old, PATH("/"), buffer, size);
     int64_t answer = lfs_c_list_at(&old, PATH("/log"), buffer + len, size - len);

@@ -5,7 +5,6 @@ const ERRORS = {
   2: ["NoEnt", "nothing is there, or a folder above it is missing"],
   9: ["BadFile", "no such file is open"],
   12: ["NoMemory", "memory was wanted and not granted"],
-  16: ["Busy", "an open file prevents it"],
   17: ["Exist", "something is there already"],
   20: ["NotDir", "a file stands where a folder is needed"],
   21: ["IsDir", "a folder stands where a file is needed"],
@@ -469,8 +468,8 @@ export class Image {
   /** Takes a file back that couldn't be written: one that is new is removed, and else a remount forgets what isn't saved. */
   #forget(path, file, isNew) {
     if (this.#library.failure) return;
-    if (isNew && this.#ask("file_close", file) >= 0) this.#with((lib) => this.#ask("remove_at", ...lib.put(path)));
-    else this.#ask("remount");
+    if (isNew) this.#ask("file_close", file);
+    if (!isNew || this.#with((lib) => this.#ask("remove_at", ...lib.put(path))) < 0) this.#ask("remount");
   }
 }
 

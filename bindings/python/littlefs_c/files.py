@@ -11,29 +11,29 @@ from .library import APPEND, CREATE, EXCLUSIVE, READ, TRUNCATE, WRITE, PathName,
 if TYPE_CHECKING:
     from .images import Image
 
-MODES = {"r": READ, "w": WRITE | CREATE | TRUNCATE, "a": WRITE | CREATE | APPEND, "x": WRITE | CREATE | EXCLUSIVE}
+_WAYS = {"r": 0, "w": CREATE | TRUNCATE, "a": CREATE | APPEND, "x": CREATE | EXCLUSIVE}
+MODES = {
+    **{kind: (WRITE if flags else READ) | flags for kind, flags in _WAYS.items()},
+    **{kind + "+": READ | WRITE | flags for kind, flags in _WAYS.items()},
+}
 
 
 class File(io.RawIOBase):
-    """An open file of an image, without a buffer: it is read, or it is written. `Image.open` makes it."""
+    """An open file of an image, without a buffer. `Image.open` makes it. All that are open on one path see the same bytes at once, and
+    each has a position of its own."""
 
     def __init__(self, image: Image, path: PathName, kind: str, flags: Optional[int] = None):
-        self._image, self.name, self.mode, self._number, self._mount = image, path, kind + "b", None, 0
-        self._size = self._position = 0
+        self._image, self.name, self.mode, self._number, self._mount = image, path, kind[0] + "b" + kind[1:], None, 0
+        self._flags = MODES[kind] if flags is None else flags
         with image._lock:
-            self._begin(MODES[kind] if flags is None else flags)
-            if kind in "ra":
-                self._size = image.stat(path) or 0
-            self._position = self._size if kind == "a" else 0
-
-    def _begin(self, flags: int) -> None:
-        """Opens the file. Its number holds until a remount."""
-        image = self._image
-        self._number = image._call("open", [self.name], *readable(path_bytes(self.name)), flags)
-        self._mount = image._mount
-        image._raws[self._number] = weakref.ref(self)
+            self._number = image._call("open", [path], *readable(path_bytes(path)), self._flags)
+            self._mount = image._mount
+            image._raws[self._number] = weakref.ref(self)
+            if self._flags & APPEND:
+                self.seek(0, io.SEEK_END)
 
     def _is_open(self) -> bool:
+        """Whether the file is open. Its number holds until a remount."""
         return self._number is not None and self._mount == self._image._mount
 
     def _call(self, name: str, *more: Any) -> int:
@@ -42,16 +42,11 @@ class File(io.RawIOBase):
                 raise ValueError("I/O operation on closed file")
             return self._image._call(name, [self.name], self._number, *more)
 
-    def _open_again(self) -> None:
-        """Opens a file that is read once more, where a remount has closed it."""
-        self._begin(READ)
-        self._call("file_seek", self._position)
-
     def readable(self) -> bool:
-        return self.mode == "rb"
+        return bool(self._flags & READ)
 
     def writable(self) -> bool:
-        return self.mode != "rb"
+        return bool(self._flags & WRITE)
 
     def seekable(self) -> bool:
         return True
@@ -60,51 +55,42 @@ class File(io.RawIOBase):
         """Reads bytes into a buffer, and answers how many: fewer than it has where the file ends."""
         if not self.readable():
             raise io.UnsupportedOperation("not readable")
-        with self._image._lock:
-            count = self._call("file_read", *writable(buffer))
-            self._position += count
-        return count
+        return self._call("file_read", *writable(buffer))
 
     def readall(self) -> bytes:
         """Reads all bytes from the position on."""
+        if not self.readable():
+            raise io.UnsupportedOperation("not readable")
         with self._image._lock:
-            buffer = bytearray(max(self._size - self._position, 0))
+            buffer = bytearray(max(self._call("file_size") - self._call("file_tell"), 0))
             return bytes(memoryview(buffer)[: self.readinto(buffer)])
 
     def write(self, data: Any) -> int:
         """Writes all of the bytes at the position, or at the end of a file that is appended to, and answers how many they are."""
         if not self.writable():
             raise io.UnsupportedOperation("not writable")
-        with self._image._lock:
-            count = self._call("file_write", *readable(data))
-            if count:
-                self._position = (self._size if self.mode == "ab" else self._position) + count
-                self._size = max(self._size, self._position)
-        return count
+        return self._call("file_write", *readable(data))
 
     def seek(self, offset: int, whence: int = io.SEEK_SET) -> int:
         """Sets the position, and answers it. It may be behind the end."""
         with self._image._lock:
             if whence not in (io.SEEK_SET, io.SEEK_CUR, io.SEEK_END):
                 raise ValueError(f"whence is 0, 1 or 2: {whence!r}")
-            position = in_range(offset + (0, self._position, self._size)[whence], 32, "position")
+            begin = self._call(("", "file_tell", "file_size")[whence]) if whence else 0
+            position = in_range(offset + begin, 32, "position")
             self._call("file_seek", position)
-            self._position = position
         return position
 
     def tell(self) -> int:
-        if self.closed:
-            raise ValueError("I/O operation on closed file")
-        return self._position
+        return self._call("file_tell")
 
     def truncate(self, size: Optional[int] = None) -> int:
         """Gives the file so many bytes, those up to its position where no number is given. The position stays."""
         if not self.writable():
             raise io.UnsupportedOperation("not writable")
         with self._image._lock:
-            size = in_range(self._position if size is None else size, 32, "size")
+            size = self.tell() if size is None else in_range(size, 32, "size")
             self._call("file_truncate", size)
-            self._size = size
         return size
 
     def sync(self) -> None:
@@ -112,12 +98,12 @@ class File(io.RawIOBase):
         self._call("file_sync")
 
     def close(self) -> None:
-        """Commits what was written, and closes the file."""
+        """Commits what was written, and closes the file, also where the commit is refused."""
         with self._image._lock:
             is_open, number = self._is_open(), self._number
             self._number = None
             super().close()
             if is_open:
                 del self._image._raws[number]
-                if not (self.readable() and self._image.closed):
+                if self.writable() or not self._image.closed:
                     self._image._call("file_close", [self.name], number)

@@ -11,10 +11,10 @@ import weakref
 from typing import IO, Any, Iterator, NamedTuple, Optional
 
 from .files import MODES, File
-from .library import CORRUPT, CREATE, DIRECTORY, LONGER_FIRST, TRUNCATE, WRITE, Change, Config, Handle, PathName, in_range, loaded, path_bytes, path_text, readable, refusal, usual_page, writable
+from .library import CORRUPT, CREATE, DIRECTORY, LONGER_FIRST, WRITE, Change, Config, Handle, PathName, in_range, loaded, path_bytes, path_text, readable, refusal, usual_page, writable
 from .superblocks import superblock
 
-NO_ATTR = 61
+NO_ATTR, NO_MEMORY = 61, 12
 ATTR_ROOM = 1024  # more than an attribute has
 
 
@@ -101,7 +101,7 @@ class Image:
             raise refusal(-answer)
 
     def _ask(self, name: str, *more: Any) -> int:
-        """What a call of the session answers: an error as minus its number."""
+        """What a call of the volume answers: an error as minus its number."""
         with self._lock:
             if not self._handle.is_open:
                 raise ValueError("the image is closed")
@@ -185,12 +185,10 @@ class Image:
         return self._call("image_part", [], in_range(offset, 64, "offset"), *writable(buffer))
 
     def changed_blocks(self) -> Optional[set[int]]:
-        """The blocks that were changed since the last such call, or None where that isn't known: at the first one, where memory was
-        wanting, and where the library that is built doesn't note changes."""
+        """The blocks that were changed since the last such call, or None where that isn't known: at the first one, and where memory was
+        wanting."""
         with self._lock:
             self.__enter__()
-            if "fetch_change" not in self._calls:
-                return None
             found, change = set(), Change()
             if self._next_change is not None:
                 while (answer := self._ask("fetch_change", self._next_change, change, b"", 0)) == 1:
@@ -294,11 +292,11 @@ class Image:
             return ""
 
     def remove(self, path: PathName) -> None:
-        """Takes a file or an empty directory."""
+        """Removes a file or an empty directory. A file that is open can still be read and written; nothing of it is stored."""
         self._at("remove", path)
 
     def rename(self, old: PathName, new: PathName) -> None:
-        """Gives an entry another path, in place of a file or an empty directory there."""
+        """Gives an entry another path, in place of a file or an empty directory there. Open files go with it."""
         self._call("rename_at", [old, new], *readable(path_bytes(old)), *readable(path_bytes(new)))
 
     def getattr(self, path: PathName, kind: int) -> bytes:
@@ -329,11 +327,12 @@ class Image:
 
     def open(self, path: PathName, mode: str = "r", buffering: int = -1, encoding: Optional[str] = None, errors: Optional[str] = None,
              newline: Optional[str] = None) -> IO[Any]:
-        """A file object, as of the builtin `open`: mode r, w, a or x, with b for bytes, and without it for text, in UTF-8 where no
-        encoding is given. One file is written at a time, and up to 16 are read."""
-        kind = "".join(letter for letter in mode if letter not in "bt")
-        if kind not in MODES or not set(mode) <= set(kind + "bt") or len(set(mode)) < len(mode) or {"b", "t"} <= set(mode):
-            raise io.UnsupportedOperation(f"mode {mode!r}: a file is read (r), or it is written (w, a, x)")
+        """A file object, as of the builtin `open`: mode r, w, a or x, with + for reading and writing both, and with b for bytes; without
+        it for text, in UTF-8 where no encoding is given. Any number of files may be open, also several times."""
+        kinds = [letter for letter in mode if letter in "rwax"]
+        kind = "".join(kinds) + "+" * ("+" in mode)
+        if kind not in MODES or not set(mode) <= set("rwax+bt") or len(set(mode)) < len(mode) or {"b", "t"} <= set(mode):
+            raise io.UnsupportedOperation(f"mode {mode!r}: one of r, w, a and x, with + for both ways, and b or t")
         is_text = "b" not in mode
         if not is_text and (encoding, errors, newline) != (None, None, None):
             raise ValueError("a file of bytes has no encoding, errors or newline")
@@ -344,7 +343,7 @@ class Image:
             raw = file
             if buffering:
                 size = buffering if buffering > 1 else io.DEFAULT_BUFFER_SIZE
-                file = io.BufferedReader(file, size) if kind == "r" else io.BufferedWriter(file, size)
+                file = (io.BufferedRandom if "+" in kind else io.BufferedReader if kind == "r" else io.BufferedWriter)(file, size)
             if is_text:
                 file = io.TextIOWrapper(file, encoding or "utf-8", errors, newline, line_buffering=buffering == 1)
                 file.mode = mode
@@ -361,7 +360,8 @@ class Image:
 
     def write(self, path: PathName, data: Any) -> None:
         """Makes a file with these bytes, or gives the one there these in place of its own. A refusal leaves the tree as it was."""
-        self._put(path, WRITE | CREATE | TRUNCATE, 0, data, None)
+        data, size = readable(data)
+        self._put(path, WRITE | CREATE, 0, data, size)
 
     def write_at(self, path: PathName, position: int, data: Any, size: Optional[int] = None) -> None:
         """Writes bytes into a file from a position on, and gives the file `size` bytes then, if that is given. What else is in it
@@ -378,26 +378,25 @@ class Image:
             is_new = flags & CREATE and not self.exists(path)
             file = File(self, path, "w", flags)
             try:
-                if position:
-                    file.seek(position)
+                if size is not None:
+                    # what is too long is refused here, before anything has changed
+                    file.truncate(in_range(max(size, position + len(data) if data else 0), 32, "size"))
+                file.seek(position)
                 file.write(data)
                 if size is not None:
                     file.truncate(size)
-            except BaseException:
-                self._forget(file, is_new)
+                file.close()
+            except BaseException as error:
+                self._forget(file, is_new, error)
                 raise
-            file.close()
 
-    def _forget(self, file: File, is_new: bool) -> None:
-        """Takes a file back that couldn't be written: one that is new is removed. Else only a remount forgets what isn't saved, and
-        the files that are read are opened again."""
+    def _forget(self, file: File, is_new: int, error: BaseException) -> None:
+        """Takes a file back that couldn't be written. One that is new is removed. Where memory was wanting, only a remount forgets what
+        isn't saved."""
         with contextlib.suppress(OSError):
-            if is_new:
-                file.close()
-                self.remove(file.name)
-            else:
-                readers = [other for raw in list(self._raws.values()) if (other := raw()) is not None and other is not file]
+            if not is_new and getattr(error, "errno", None) == NO_MEMORY:
                 self.remount()
-                file.close()
-                for other in readers:
-                    other._open_again()
+            file.close()
+        if is_new:
+            with contextlib.suppress(OSError):
+                self.remove(file.name)

@@ -19,7 +19,6 @@ ERRORS = {2: "NoEnt", 9: "BadFile", 12: "NoMemory", 16: "Busy", 17: "Exist",
           30: "ReadOnly", 36: "NameTooLong", 39: "NotEmpty", 61: "NoAttr", 84: "Corrupt",
           200: "Failed", 201: "EntryFull"}
 MEANINGS = {
-    16: "an open file prevents it",
     22: "no image of that geometry, or a path, a position or a number is out of range",
     30: "the image can be read, and images like it aren't written",
     61: "the attribute isn't there",
@@ -34,7 +33,7 @@ PathName = Union[str, bytes, "os.PathLike[Any]"]
 
 
 class Handle(ctypes.Structure):
-    """`lfs_c_session`: all zeros while there is no session."""
+    """`lfs_c_volume`: all zeros while nothing is mounted."""
 
     _fields_ = [("at", ctypes.c_void_p), ("is_open", ctypes.c_uint64)]
 
@@ -52,14 +51,12 @@ class Change(ctypes.Structure):
     _fields_ = [("kind", ctypes.c_uint32), ("block", ctypes.c_uint32), ("offset", ctypes.c_uint32), ("len", ctypes.c_size_t)]
 
 
-# what each call on an image takes behind it, its block size and its page, and each call of a session behind its handle
-CALLS = {"format": "n", "check": "", "list": "bb", "stat": "b", "read": "bnb", "write": "bb", "mkdir": "b", "remove": "b", "rename": "bb",
-         "get_attr": "bkb", "set_attr": "bkb", "remove_attr": "bk", "used": ""}
-SESSION_CALLS = {"mount": "cb", "mkfs": "cn", "unmount": "", "remount": "", "recover": "", "used_blocks": "", "image": "b", "image_part": "sb",
-                 "stat_at": "b", "list_at": "bb", "mkdir_at": "b", "remove_at": "b", "rename_at": "bb",
-                 "get_attr_at": "bkb", "set_attr_at": "bkb", "remove_attr_at": "bk",
-                 "open": "bn", "file_read": "nb", "file_write": "nb", "file_seek": "nn", "file_truncate": "nn", "file_sync": "n", "file_close": "n"}
-NEWER_CALLS = {"note_changes": "", "fetch_change": "qgb"}  # of a session, too, and not in each build of the library
+# what each call takes behind its handle
+CALLS = {"mount": "cb", "mount_with_limits": "cb", "mkfs": "cn", "unmount": "", "remount": "", "recover": "", "used_blocks": "", "is_used": "n", "image": "b", "image_part": "sb",
+         "stat_at": "b", "list_at": "bb", "mkdir_at": "b", "remove_at": "b", "rename_at": "bb",
+         "get_attr_at": "bkb", "set_attr_at": "bkb", "remove_attr_at": "bk",
+         "open": "bn", "file_read": "nb", "file_write": "nb", "file_seek": "nn", "file_tell": "n", "file_size": "n", "file_truncate": "nn", "file_sync": "n", "file_close": "n",
+         "note_changes": "", "fetch_change": "qgb"}
 _TYPES = {"n": [ctypes.c_uint32], "q": [ctypes.c_uint64], "g": [ctypes.POINTER(Change)], "k": [ctypes.c_uint8], "s": [ctypes.c_size_t], "b": [ctypes.c_void_p, ctypes.c_size_t],
           "h": [ctypes.POINTER(Handle)], "c": [ctypes.POINTER(Config)]}
 
@@ -78,12 +75,10 @@ def load(path: Optional[PathName] = None) -> dict[str, Any]:
     calls = {}
     try:
         library = ctypes.CDLL(os.fsdecode(path))
-        newer = {name: takes for name, takes in NEWER_CALLS.items() if hasattr(library, "lfs_c_" + name)}
-        for first, names in (("bnn", CALLS), ("h", {**SESSION_CALLS, **newer})):
-            for name, takes in names.items():
-                call = calls[name] = getattr(library, "lfs_c_" + name)
-                call.restype = ctypes.c_int64
-                call.argtypes = [kind for letter in first + takes for kind in _TYPES[letter]]
+        for name, takes in CALLS.items():
+            call = calls[name] = getattr(library, "lfs_c_" + name)
+            call.restype = ctypes.c_int64
+            call.argtypes = [kind for letter in "h" + takes for kind in _TYPES[letter]]
     except (OSError, AttributeError) as error:
         raise FileNotFoundError(errno.ENOENT, NOT_BUILT, os.fsdecode(path)) from error
     return calls

@@ -1,7 +1,6 @@
 pub mod AsBox
-mod Carrying
-mod FirstRefusal
 mod Formats
 mod Images
 mod Kept
 mod Mountings
+mod Tables

@@ -1,5 +1,5 @@
 -- Mounts of a device that has a copy of an image, by a profile that isn't the device's own.
-use Rattle.std.proofs.Common.{ℕ, ◌≡◌, ◌⊎◌, List, ap, subst, sym, ◌∙◌}
+use Rattle.std.proofs.Common.{ℕ, ◌≡◌, ◌⊎◌, List, [], ap, subst, sym, ◌∙◌}
 use Rattle.lfs_device.specs.RamDevice.{ram_geometry, ram_blocks}
 use Rattle.lfs_device.specs.DeviceDisk.{disk_of_blocks, profiled_disk}
 use Rattle.lfs_device.specs.declared.error.Error.{Error}
@@ -15,9 +15,12 @@ use Rattle.lfs_model.specs.declared.order.NameOrder.{NameOrder}
 use Rattle.lfs_model.specs.declared.order.NameOrder.TheVariants.{LongerFirst, ShorterFirst}
 use Rattle.lfs_fs.specs.ImageLimits.{BeginsLimited}
 use Rattle.lfs_fs.specs.SessionView.{BeginsByMount, SessionView, system_state}
-use Rattle.littlefs_c.specs.ImageCalls.{PreventsSession, IsImageSession, IsImageDevice}
+use Rattle.littlefs_c.specs.Images.{PreventsSession, IsImageSession, IsImageDevice}
 use Rattle.littlefs_c.specs.Configs.{IsValidConfig, config_profile}
-use Rattle.littlefs_c.specs.Mounts.{IsMountedLimited}
+use Rattle.lfs_volume.specs.Volume.{VolumeView}
+use Rattle.lfs_volume.specs.VolumeCalls.{HasNoHandles}
+use Rattle.littlefs_c.specs.Mounts.{HasNothingOpen, IsMountedLimited}
+use Rattle.littlefs_c.specs.declared.mounted.Mounted.{Mounted}
 use Rattle.littlefs_c.specs.declared.config.Config.{Config}
 use Rattle.littlefs_c.proofs.Images.{disk_by_profile, mounts, prevented}
 
@@ -48,3 +51,7 @@ mounted_with_limits config image d given history h valid is by b longer = record
       subst (λ p. IsImageSession config.block_size config.page p image (system_state h)) (b.limits ∙ ap (profile_with_limits b.fields) by)
       (mounted_by config.block_size config.page (config_profile config) image d is h.tree.disk.profile history h b.begun longer);
 }
+
+-- a mounted image of a volume without handles
+pub nothing_open : (v : VolumeView) (m : Mounted) → m.volume ≡ v → m.directories.items ≡ [] → HasNoHandles v → HasNothingOpen m
+nothing_open v m is none no_handles = (subst HasNoHandles (sym is) no_handles, none)

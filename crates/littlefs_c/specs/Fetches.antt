@@ -2,13 +2,13 @@
 use Rattle.std.specs.Prelude.{ℕ, ℤ, ◌≡◌, ◌≤◌, pos, ◌-ℤ◌, IfSome, List, length, Option, None, Some, slice_get}
 use Rattle.lfs_model.specs.session.History.{DeviceCall}
 use Rattle.lfs_model.specs.session.History.DeviceCall.{Read, Program, Erase, Blank}
-use Rattle.lfs_fs.specs.SessionView.{SessionView}
 use Rattle.littlefs_c.specs.Buffers.{buffer_if_fitting}
 use Rattle.littlefs_c.specs.ChangeLog.{history_writes}
-use Rattle.littlefs_c.specs.Sessions.{WithCode}
+use Rattle.littlefs_c.specs.Volumes.{WithCode}
 use Rattle.littlefs_c.specs.declared.changes.Fetched.{Fetched}
 use Rattle.littlefs_c.specs.declared.changes.Fetched.TheVariants as fetched
 use Rattle.littlefs_c.specs.declared.changes.ShownChange.{ShownChange}
+use Rattle.littlefs_c.specs.declared.mounted.Mounted.{Mounted}
 
 -- ---- a change
 
@@ -58,10 +58,10 @@ abbrev pub next_change_code : Option ℕ → ℤ
 next_change_code (Some n) = pos n
 next_change_code None = lost_change_code
 
--- a fetch of a session's change
-abbrev pub IsFetchAnswer : ℕ → ShownChange → ShownChange → List ℕ → List ℕ → ℤ → SessionView → SessionView → Type 0
+-- a fetch of a volume's change
+abbrev pub IsFetchAnswer : ℕ → ShownChange → ShownChange → List ℕ → List ℕ → ℤ → Mounted → Mounted → Type 0
 IsFetchAnswer number shown after buffer filled code old new = WithCode {X = Fetched} code_of_fetched (λ s answer. FetchesChange (history_writes s.tree.history) number answer shown after buffer filled) code old new
 
--- the number of a session's next change
-abbrev pub IsChangeNumber : ℤ → SessionView → SessionView → Type 0
+-- the number of a volume's next change
+abbrev pub IsChangeNumber : ℤ → Mounted → Mounted → Type 0
 IsChangeNumber code old new = WithCode {X = Option ℕ} next_change_code (λ s number. IsNextChange (history_writes s.tree.history) number) code old new

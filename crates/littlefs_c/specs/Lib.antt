@@ -1,12 +1,12 @@
-pub mod ImageCalls
+pub mod Images
 pub mod Buffers
 pub mod Codes
-pub mod Starts
-pub mod FirstRefusals
-pub mod Files
 pub mod Configs
+pub mod DirectoryView
+pub mod Directories
 pub mod HandleSlots
-pub mod Sessions
+pub mod Volumes
+pub mod Superblocks
 pub mod Mounts
 pub mod ChangeLog
 pub mod Fetches

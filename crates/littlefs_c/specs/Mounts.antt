@@ -1,4 +1,4 @@
--- How a session begins in a handle.
+-- How a volume begins in a handle.
 use Rattle.std.specs.Prelude.{ℕ, ℤ, ◌≡◌, ◌⊎◌, ◌*◌, List, [], ◌∷◌, Option, None, Some, IsSome, Result, Ok, Err, replicate}
 use Rattle.lfs_device.specs.declared.error.Error.{Error}
 use Rattle.lfs_device.specs.declared.error.Error.TheVariants.{Busy, Invalid, NoMemory}
@@ -16,10 +16,12 @@ use Rattle.lfs_model.specs.session.State.{Healthy, mounted_session}
 use Rattle.lfs_model.specs.format.Thread.{Pair}
 use Rattle.lfs_model.specs.tree.View.{IsAccepted}
 use Rattle.lfs_fs.specs.SessionView.{SessionView, system_state}
-use Rattle.littlefs_c.specs.ImageCalls.{PreventsSession, IsImageSession}
+use Rattle.lfs_volume.specs.VolumeCalls.{HasNoHandles}
+use Rattle.littlefs_c.specs.Images.{PreventsSession, IsImageSession}
 use Rattle.littlefs_c.specs.Codes.{result_code}
 use Rattle.littlefs_c.specs.Configs.{IsValidConfig, config_order, config_profile}
 use Rattle.littlefs_c.specs.declared.config.Config.{Config}
+use Rattle.littlefs_c.specs.declared.mounted.Mounted.{Mounted}
 
 -- ---- a mount
 
@@ -77,11 +79,24 @@ PreventsFormat config count e = ((e ≡ Invalid) × (¬ IsDiskConfig config coun
 
 -- ---- in a handle
 
--- A session of which P holds, where none was; or there is what was there, and the error has its cause.
-abbrev pub BeginsInHandle : (SessionView → Type 0) → (Error → Type 0) → Result Unit Error → Option SessionView → Option SessionView → Type 0
-BeginsInHandle P Q (Ok x) old new = (old ≡ None) × ((s : SessionView) × ((new ≡ Some s) × P s))
+abbrev pub HasNothingOpen : Mounted → Type 0
+HasNothingOpen m = HasNoHandles m.volume × (m.directories.items ≡ [])
+
+-- a volume with nothing open, whose session begins as each of the above says
+abbrev pub MountsImage : Config → List ℕ → Mounted → Type 0
+MountsImage config image m = HasNothingOpen m × IsMountedBy config image (system_state m.volume.session)
+
+abbrev pub MountsLimited : Config → List ℕ → Mounted → Type 0
+MountsLimited config image m = HasNothingOpen m × IsMountedLimited config image (system_state m.volume.session)
+
+abbrev pub FormatsImage : Config → ℕ → Mounted → Type 0
+FormatsImage config count m = HasNothingOpen m × IsFormattedBy config count m.volume.session
+
+-- A volume of which P holds, where none was; or there is what was there, and the error has its cause.
+abbrev pub BeginsInHandle : (Mounted → Type 0) → (Error → Type 0) → Result Unit Error → Option Mounted → Option Mounted → Type 0
+BeginsInHandle P Q (Ok x) old new = (old ≡ None) × ((m : Mounted) × ((new ≡ Some m) × P m))
 BeginsInHandle P Q (Err e) old new = (new ≡ old) × (((e ≡ Busy) × IsSome old) ⊎ Q e)
 
 -- the same of a result with this code
-abbrev pub IsBeginningCode : (SessionView → Type 0) → (Error → Type 0) → ℤ → Option SessionView → Option SessionView → Type 0
+abbrev pub IsBeginningCode : (Mounted → Type 0) → (Error → Type 0) → ℤ → Option Mounted → Option Mounted → Type 0
 IsBeginningCode P Q code old new = (r : Result Unit Error) × ((code ≡ result_code (λ _. 0) r) × BeginsInHandle P Q r old new)

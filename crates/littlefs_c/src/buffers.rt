@@ -4,7 +4,7 @@ ghost use Rattle.std.specs.Prelude.{◌≡◌, ◌<◌, ◌^◌, drop, length, t
 ghost use Rattle.lfs_model.specs.format.Blocks.{overwritten_at};
 ghost use Rattle.littlefs_c.specs.Buffers.{buffer_if_fitting};
 ghost use Rattle.littlefs_c.specs.Codes.{result_code};
-ghost use Rattle.littlefs_c.specs.Sessions.{filled_buffer};
+ghost use Rattle.littlefs_c.specs.Volumes.{filled_buffer};
 
 use crate::codes::room_code;
 use lfs_device::Error;

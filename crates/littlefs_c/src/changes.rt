@@ -1,16 +1,16 @@
-// The changes of a session's image, for C to make the same ones on a flash of its own.
+// The changes of a volume's image, for C to make the same ones on a flash of its own.
 
 ghost use Rattle.std.specs.Prelude.{◌≡◌, ◌<◌, ◌^◌, IfSome, List};
 ghost use Rattle.lfs_model.specs.session.History.{DeviceCall};
 ghost use Rattle.littlefs_c.specs.ChangeLog.{AreNoted, change_call, history_writes};
 ghost use Rattle.littlefs_c.specs.Fetches.{FetchesChange, IsFetchAnswer, IsChangeNumber, IsNextChange, IsShownChange, buffer_after_change, next_change_code, code_of_fetched};
-ghost use Rattle.littlefs_c.specs.Sessions.{CallsSession};
+ghost use Rattle.littlefs_c.specs.Volumes.{CallsVolume};
 
 use crate::buffers::copy_if_fitting;
-use crate::handle::{CLOSED, Handle, put_session, take_session};
+use crate::handle::{CLOSED, Handle, put_volume, take_volume};
 use crate::noted::HeldDevice;
 use crate::notes::{Change, Notes};
-use lfs_fs::Session;
+use lfs_volume::Volume;
 use std::alloc::Global;
 
 /// A change as C sees it: 1 for a program and 2 for an erase, the block, the offset in it, and how
@@ -97,69 +97,69 @@ fn fetch_change(notes: &Notes, number: u64, shown: &mut ShownChange, buffer: &mu
     }
 }
 
-// Fetches the change of a session's image that has that number.
-fn fetch_session_change(
-    session: &Session<HeldDevice>,
+// Fetches the change of a volume's image that has that number.
+fn fetch_volume_change(
+    volume: &Volume<HeldDevice>,
     number: u64,
     shown: &mut ShownChange,
     buffer: &mut [u8],
 ) -> Fetched
-    ensures { FetchesChange (history_writes session.now.tree.history) number result shown.old shown.new buffer.old buffer.new }
+    ensures { FetchesChange (history_writes volume.now.session.tree.history) number result shown.old shown.new buffer.old buffer.new }
 {
-    fetch_change(session.device().inner().notes(), number, shown, buffer)
+    fetch_change(volume.device().inner().notes(), number, shown, buffer)
 }
 
-// Keeps the changes of a session's image from the next one on. Returns its number.
-fn next_change_number(session: &Session<HeldDevice>) -> Option<u64>
-    ensures number { IsNextChange (history_writes session.now.tree.history) result }
+// Keeps the changes of a volume's image from the next one on. Returns its number.
+fn next_change_number(volume: &Volume<HeldDevice>) -> Option<u64>
+    ensures number { IsNextChange (history_writes volume.now.session.tree.history) result }
     ensures small { IfSome result (λ n. n < 2 ^ 63) }
 {
-    session.device().inner().notes().begin()
+    volume.device().inner().notes().begin()
 }
 
 /// Keeps the changes of the image from the next one on, where none are kept yet, and returns the
-/// number of the next one. Changes are numbered from 0 on since the session began, in the order in
-/// which they are made.
+/// number of the next one. Changes are numbered from 0 on since the mount, in the order in which they
+/// are made.
 ///
 /// # Errors
 ///
-/// 77 where there is no session. 202 where there are no numbers any more, after 2 to the 62nd
+/// 77 where nothing is mounted. 202 where there are no numbers any more, after 2 to the 62nd
 /// changes.
 #[unsafe(no_mangle)]
-pub extern "C" fn lfs_c_note_changes(alloc: Global, session: &mut Handle) -> i64
-    ensures { CallsSession (IsChangeNumber result) result session.old.slot.session session.new.slot.session }
+pub extern "C" fn lfs_c_note_changes(alloc: Global, volume: &mut Handle) -> i64
+    ensures { CallsVolume (IsChangeNumber result) result volume.old.slot.mounted volume.new.slot.mounted }
 {
-    let Some(inner) = take_session(alloc, session) else {
+    let Some(inner) = take_volume(alloc, volume) else {
         return CLOSED;
     };
-    let answer = next_change_number(&inner);
-    put_session(session, inner);
+    let answer = next_change_number(&inner.volume);
+    put_volume(volume, inner);
     change_number_code(answer)
 }
 
 /// Shows the change of that number, puts its bytes into the buffer, if all of them fit, and returns
 /// 1; or 0 where there is no change of that number yet. Changes before that number aren't wanted
-/// any more, and may be let go.
+/// any more, and may be discarded.
 ///
 /// # Errors
 ///
-/// 77 if there is no session. 202 if the change isn't kept: none were kept then, a later one was
+/// 77 if nothing is mounted. 202 if the change isn't kept: none were kept then, a later one was
 /// wanted, or memory wasn't granted for it or for a later one. The arguments are then left
 /// untouched.
 #[unsafe(no_mangle)]
 pub extern "C" fn lfs_c_fetch_change(
     alloc: Global,
-    session: &mut Handle,
+    volume: &mut Handle,
     number: u64,
     change: &mut ShownChange,
     buffer: &mut [u8],
 ) -> i64
-    ensures { CallsSession (IsFetchAnswer number change.old change.new buffer.old buffer.new result) result session.old.slot.session session.new.slot.session }
+    ensures { CallsVolume (IsFetchAnswer number change.old change.new buffer.old buffer.new result) result volume.old.slot.mounted volume.new.slot.mounted }
 {
-    let Some(inner) = take_session(alloc, session) else {
+    let Some(inner) = take_volume(alloc, volume) else {
         return CLOSED;
     };
-    let answer = fetch_session_change(&inner, number, change, buffer);
-    put_session(session, inner);
+    let answer = fetch_volume_change(&inner.volume, number, change, buffer);
+    put_volume(volume, inner);
     fetched_code(answer)
 }

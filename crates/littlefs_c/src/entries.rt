@@ -1,31 +1,32 @@
-// The calls about what is at a path of a session.
+// The calls about what is at a path.
 
 ghost use Rattle.std.specs.Prelude.{◌^◌, ◌<◌, IfOk};
 ghost use Rattle.lfs_model.specs.session.Operations as ops;
-ghost use Rattle.littlefs_c.specs.Sessions.{CallsSession, FillsWithLines, IsBytesCall, IsListCall, IsStatCall, IsUnitCall};
+ghost use Rattle.lfs_volume.specs.Calls as calls;
+ghost use Rattle.littlefs_c.specs.Volumes.{CallsVolume, FillsWithLines, IsBytesCall, IsListCall, IsStatCall, IsUnitCall};
 
 use crate::buffers::{copy_if_fitting, fill_with_bytes};
 use crate::codes::{room_code, size_code, unit_code};
-use crate::handle::{CLOSED, Handle, put_session, take_session};
+use crate::handle::{CLOSED, Handle, put_volume, take_volume};
 use crate::lines::lines_of_items;
 use lfs_device::Error;
-use lfs_fs::Item;
+use lfs_volume::Item;
 use std::alloc::Global;
 
 /// Returns a file's size in bytes, or 4,294,967,296 for a directory.
 ///
 /// # Errors
 ///
-/// 77 where there is no session, and the refusals of a session's `stat` (docs/OPERATIONS.md).
+/// 77 where nothing is mounted, and the errors of a volume's `stat` (docs/OPERATIONS.md).
 #[unsafe(no_mangle)]
-pub extern "C" fn lfs_c_stat_at(alloc: Global, session: &mut Handle, path: &[u8]) -> i64
-    ensures { CallsSession (IsStatCall path.now result) result session.old.slot.session session.new.slot.session }
+pub extern "C" fn lfs_c_stat_at(alloc: Global, volume: &mut Handle, path: &[u8]) -> i64
+    ensures { CallsVolume (IsStatCall path.now result) result volume.old.slot.mounted volume.new.slot.mounted }
 {
-    let Some(mut inner) = take_session(alloc, session) else {
+    let Some(mut inner) = take_volume(alloc, volume) else {
         return CLOSED;
     };
-    let answer = inner.stat(alloc, path);
-    put_session(session, inner);
+    let answer = inner.volume.stat(alloc, path);
+    put_volume(volume, inner);
     size_code(answer)
 }
 
@@ -44,27 +45,28 @@ fn fill_with_lines(
 }
 
 /// Puts a line for each entry of a directory into the buffer, if all lines fit, and returns how
-/// many bytes they are. A line is as that of [`lfs_c_list`](crate::exports::lfs_c_list). Where the
-/// lines don't fit, the buffer is as it was.
+/// many bytes they are. A line is `f SIZE NAME` for a file and `d 0 NAME` for a directory, in name
+/// order, the shorter names first. The bytes of a name from the space to `~` stand for themselves;
+/// the backslash and all others are `\xNN`. Where the lines don't fit, the buffer is as it was.
 ///
 /// # Errors
 ///
-/// 77 where there is no session, and the refusals of a session's `list` (docs/OPERATIONS.md). The
+/// 77 where nothing is mounted, and the errors of a volume's `list` (docs/OPERATIONS.md). The
 /// buffer is as it was after an error.
 #[unsafe(no_mangle)]
 pub extern "C" fn lfs_c_list_at(
     alloc: Global,
-    session: &mut Handle,
+    volume: &mut Handle,
     path: &[u8],
     buffer: &mut [u8],
 ) -> i64
-    ensures { CallsSession (IsListCall path.now result buffer.old buffer.new) result session.old.slot.session session.new.slot.session }
+    ensures { CallsVolume (IsListCall path.now result buffer.old buffer.new) result volume.old.slot.mounted volume.new.slot.mounted }
 {
-    let Some(mut inner) = take_session(alloc, session) else {
+    let Some(mut inner) = take_volume(alloc, volume) else {
         return CLOSED;
     };
-    let answer = inner.list(alloc, path);
-    put_session(session, inner);
+    let answer = inner.volume.list(alloc, path);
+    put_volume(volume, inner);
     room_code(fill_with_lines(alloc, answer, buffer))
 }
 
@@ -72,16 +74,16 @@ pub extern "C" fn lfs_c_list_at(
 ///
 /// # Errors
 ///
-/// 77 where there is no session, and the refusals of a session's `mkdir` (docs/OPERATIONS.md).
+/// 77 where nothing is mounted, and the errors of a volume's `mkdir` (docs/OPERATIONS.md).
 #[unsafe(no_mangle)]
-pub extern "C" fn lfs_c_mkdir_at(alloc: Global, session: &mut Handle, path: &[u8]) -> i64
-    ensures { CallsSession (IsUnitCall (ops.Mkdir path.now) result) result session.old.slot.session session.new.slot.session }
+pub extern "C" fn lfs_c_mkdir_at(alloc: Global, volume: &mut Handle, path: &[u8]) -> i64
+    ensures { CallsVolume (IsUnitCall (calls.Perform (ops.Mkdir path.now)) result) result volume.old.slot.mounted volume.new.slot.mounted }
 {
-    let Some(mut inner) = take_session(alloc, session) else {
+    let Some(mut inner) = take_volume(alloc, volume) else {
         return CLOSED;
     };
-    let answer = inner.mkdir(alloc, path);
-    put_session(session, inner);
+    let answer = inner.volume.mkdir(alloc, path);
+    put_volume(volume, inner);
     unit_code(answer)
 }
 
@@ -89,16 +91,16 @@ pub extern "C" fn lfs_c_mkdir_at(alloc: Global, session: &mut Handle, path: &[u8
 ///
 /// # Errors
 ///
-/// 77 where there is no session, and the refusals of a session's `remove` (docs/OPERATIONS.md).
+/// 77 where nothing is mounted, and the errors of a volume's `remove` (docs/OPERATIONS.md).
 #[unsafe(no_mangle)]
-pub extern "C" fn lfs_c_remove_at(alloc: Global, session: &mut Handle, path: &[u8]) -> i64
-    ensures { CallsSession (IsUnitCall (ops.Remove path.now) result) result session.old.slot.session session.new.slot.session }
+pub extern "C" fn lfs_c_remove_at(alloc: Global, volume: &mut Handle, path: &[u8]) -> i64
+    ensures { CallsVolume (IsUnitCall (calls.Perform (ops.Remove path.now)) result) result volume.old.slot.mounted volume.new.slot.mounted }
 {
-    let Some(mut inner) = take_session(alloc, session) else {
+    let Some(mut inner) = take_volume(alloc, volume) else {
         return CLOSED;
     };
-    let answer = inner.remove(alloc, path);
-    put_session(session, inner);
+    let answer = inner.volume.remove(alloc, path);
+    put_volume(volume, inner);
     unit_code(answer)
 }
 
@@ -107,21 +109,16 @@ pub extern "C" fn lfs_c_remove_at(alloc: Global, session: &mut Handle, path: &[u
 ///
 /// # Errors
 ///
-/// 77 where there is no session, and the refusals of a session's `rename` (docs/OPERATIONS.md).
+/// 77 where nothing is mounted, and the errors of a volume's `rename` (docs/OPERATIONS.md).
 #[unsafe(no_mangle)]
-pub extern "C" fn lfs_c_rename_at(
-    alloc: Global,
-    session: &mut Handle,
-    from: &[u8],
-    to: &[u8],
-) -> i64
-    ensures { CallsSession (IsUnitCall (ops.Rename from.now to.now) result) result session.old.slot.session session.new.slot.session }
+pub extern "C" fn lfs_c_rename_at(alloc: Global, volume: &mut Handle, from: &[u8], to: &[u8]) -> i64
+    ensures { CallsVolume (IsUnitCall (calls.Perform (ops.Rename from.now to.now)) result) result volume.old.slot.mounted volume.new.slot.mounted }
 {
-    let Some(mut inner) = take_session(alloc, session) else {
+    let Some(mut inner) = take_volume(alloc, volume) else {
         return CLOSED;
     };
-    let answer = inner.rename(alloc, from, to);
-    put_session(session, inner);
+    let answer = inner.volume.rename(alloc, from, to);
+    put_volume(volume, inner);
     unit_code(answer)
 }
 
@@ -130,23 +127,23 @@ pub extern "C" fn lfs_c_rename_at(
 ///
 /// # Errors
 ///
-/// 77 where there is no session, and the refusals of a session's `get_attr` (docs/OPERATIONS.md).
+/// 77 where nothing is mounted, and the errors of a volume's `get_attr` (docs/OPERATIONS.md).
 /// The buffer is as it was after an error.
 #[unsafe(no_mangle)]
 pub extern "C" fn lfs_c_get_attr_at(
     alloc: Global,
-    session: &mut Handle,
+    volume: &mut Handle,
     path: &[u8],
     kind: u8,
     buffer: &mut [u8],
 ) -> i64
-    ensures { CallsSession (IsBytesCall (ops.GetAttr path.now kind) result buffer.old buffer.new) result session.old.slot.session session.new.slot.session }
+    ensures { CallsVolume (IsBytesCall (ops.GetAttr path.now kind) result buffer.old buffer.new) result volume.old.slot.mounted volume.new.slot.mounted }
 {
-    let Some(mut inner) = take_session(alloc, session) else {
+    let Some(mut inner) = take_volume(alloc, volume) else {
         return CLOSED;
     };
-    let answer = inner.get_attr(alloc, path, kind);
-    put_session(session, inner);
+    let answer = inner.volume.get_attr(alloc, path, kind);
+    put_volume(volume, inner);
     fill_with_bytes(answer, buffer)
 }
 
@@ -155,22 +152,22 @@ pub extern "C" fn lfs_c_get_attr_at(
 ///
 /// # Errors
 ///
-/// 77 where there is no session, and the refusals of a session's `set_attr` (docs/OPERATIONS.md).
+/// 77 where nothing is mounted, and the errors of a volume's `set_attr` (docs/OPERATIONS.md).
 #[unsafe(no_mangle)]
 pub extern "C" fn lfs_c_set_attr_at(
     alloc: Global,
-    session: &mut Handle,
+    volume: &mut Handle,
     path: &[u8],
     kind: u8,
     bytes: &[u8],
 ) -> i64
-    ensures { CallsSession (IsUnitCall (ops.SetAttr path.now kind bytes.now) result) result session.old.slot.session session.new.slot.session }
+    ensures { CallsVolume (IsUnitCall (calls.Perform (ops.SetAttr path.now kind bytes.now)) result) result volume.old.slot.mounted volume.new.slot.mounted }
 {
-    let Some(mut inner) = take_session(alloc, session) else {
+    let Some(mut inner) = take_volume(alloc, volume) else {
         return CLOSED;
     };
-    let answer = inner.set_attr(alloc, path, kind, bytes);
-    put_session(session, inner);
+    let answer = inner.volume.set_attr(alloc, path, kind, bytes);
+    put_volume(volume, inner);
     unit_code(answer)
 }
 
@@ -178,21 +175,21 @@ pub extern "C" fn lfs_c_set_attr_at(
 ///
 /// # Errors
 ///
-/// 77 where there is no session, and the refusals of a session's `remove_attr`
+/// 77 where nothing is mounted, and the errors of a volume's `remove_attr`
 /// (docs/OPERATIONS.md).
 #[unsafe(no_mangle)]
 pub extern "C" fn lfs_c_remove_attr_at(
     alloc: Global,
-    session: &mut Handle,
+    volume: &mut Handle,
     path: &[u8],
     kind: u8,
 ) -> i64
-    ensures { CallsSession (IsUnitCall (ops.RemoveAttr path.now kind) result) result session.old.slot.session session.new.slot.session }
+    ensures { CallsVolume (IsUnitCall (calls.Perform (ops.RemoveAttr path.now kind)) result) result volume.old.slot.mounted volume.new.slot.mounted }
 {
-    let Some(mut inner) = take_session(alloc, session) else {
+    let Some(mut inner) = take_volume(alloc, volume) else {
         return CLOSED;
     };
-    let answer = inner.remove_attr(alloc, path, kind);
-    put_session(session, inner);
+    let answer = inner.volume.remove_attr(alloc, path, kind);
+    put_volume(volume, inner);
     unit_code(answer)
 }

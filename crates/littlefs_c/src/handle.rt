@@ -1,30 +1,29 @@
-// A session as C holds it.
+// A volume as C holds it.
 
 ghost use Rattle.std.specs.Prelude.{◌≡◌, Option, None, Some, option_map};
-ghost use Rattle.littlefs_c.specs.HandleSlots.{session_count};
+ghost use Rattle.littlefs_c.specs.HandleSlots.{mounted_count};
 
-use crate::noted::HeldDevice;
+use crate::mounted::Mounted;
 use crate::parts::Parts;
 use crate::slot::Slot;
-use lfs_fs::Session;
 use std::alloc::Global;
 use std::mem::replace;
 use std::ptr::null_mut;
 
-// Minus the number of `EBADFD`, for a call through a handle that has no session.
+// Minus the number of `EBADFD`, for a call through a handle where nothing is mounted.
 pub(crate) const CLOSED: i64 = -77;
 
-/// What C holds: all zeros while there is no session. It may go to another thread.
+/// What C holds: all zeros while nothing is mounted. It may go to another thread.
 #[repr(C)]
 pub struct Handle {
     pub slot: Slot,
     pub is_open: u64,
-    ghost agrees: { is_open ≡ session_count slot.session },
+    ghost agrees: { is_open ≡ mounted_count slot.mounted },
 }
 
 impl Handle {
-    fn opened(b: Box<Session<HeldDevice>, Global>) -> Handle
-        ensures { result.slot.session ≡ Some b.value }
+    fn opened(b: Box<Mounted, Global>) -> Handle
+        ensures { result.slot.mounted ≡ Some b.value }
     {
         Handle {
             slot: Slot::of_parts(Parts::of(b)),
@@ -32,9 +31,9 @@ impl Handle {
         }
     }
 
-    // Takes the session out.
-    fn into_session(self) -> Option<Box<Session<HeldDevice>, Global>>
-        ensures { option_map (λ b. b.value) result ≡ self.slot.session }
+    // Takes the volume out.
+    fn into_mounted(self) -> Option<Box<Mounted, Global>>
+        ensures { option_map (λ b. b.value) result ≡ self.slot.mounted }
     {
         let Handle { slot, is_open } = self;
         if is_open == 0 {
@@ -47,7 +46,7 @@ impl Handle {
 
 impl Drop for Handle {
     fn drop(self) {
-        drop(self.into_session());
+        drop(self.into_mounted());
     }
 }
 
@@ -56,21 +55,18 @@ fn null() -> *mut u8 {
     null_mut()
 }
 
-// Takes the session out of a handle. The handle is closed then.
-pub(crate) fn take_session(
-    alloc: Global,
-    handle: &mut Handle,
-) -> Option<Box<Session<HeldDevice>, Global>>
-    ensures taken { option_map (λ b. b.value) result ≡ handle.old.slot.session }
-    ensures left { handle.new.slot.session ≡ None }
+// Takes the volume out of a handle. Nothing is mounted there then.
+pub(crate) fn take_volume(alloc: Global, handle: &mut Handle) -> Option<Box<Mounted, Global>>
+    ensures taken { option_map (λ b. b.value) result ≡ handle.old.slot.mounted }
+    ensures left { handle.new.slot.mounted ≡ None }
 {
     let slot = Slot::empty(null(), alloc);
-    replace(handle, Handle { slot, is_open: 0 }).into_session()
+    replace(handle, Handle { slot, is_open: 0 }).into_mounted()
 }
 
-// Puts a session into a handle. One that was there is ended.
-pub(crate) fn put_session(handle: &mut Handle, b: Box<Session<HeldDevice>, Global>)
-    ensures { handle.new.slot.session ≡ Some b.value }
+// Puts a volume into a handle. One that was there is unmounted.
+pub(crate) fn put_volume(handle: &mut Handle, b: Box<Mounted, Global>)
+    ensures { handle.new.slot.mounted ≡ Some b.value }
 {
     *handle = Handle::opened(b);
 }

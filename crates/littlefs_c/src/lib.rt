@@ -1,24 +1,24 @@
 // SPDX-License-Identifier: BSD-3-Clause
-//! littlefs over images in memory, to be called from C: sessions that C keeps a handle of, and calls
-//! that perform one operation of a session on an image.
+//! littlefs over images in memory, to be called from C: volumes that C keeps a handle of.
 #![tactic(auto)]
 
 mod buffers;
-mod calls;
 mod changes;
 mod codes;
 mod config;
+mod directories;
 mod entries;
-mod exports;
 mod handle;
 mod image;
 mod lines;
+mod mounted;
 mod noted;
 mod notes;
+mod open_directories;
 mod open_files;
-mod operation_runs;
 mod parts;
-mod reads;
-mod sessions;
+mod shown_entries;
 mod slot;
 mod starts;
+mod superblocks;
+mod volumes;

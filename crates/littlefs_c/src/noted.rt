@@ -1,4 +1,4 @@
-// A device that notes its programs and erases, and the device of a session that C holds.
+// A device that notes its programs and erases, and the device of a volume that C holds.
 
 ghost use Rattle.std.specs.Prelude.{◌≡◌, []};
 ghost use Rattle.lfs_device.specs.RamDevice.{ram_history};
@@ -82,7 +82,7 @@ impl<D: BlockDevice> BlockDevice for Noted<D> {
     }
 }
 
-/// The device of a session that C holds: one in memory, with notes of its changes and a profile.
+/// The device of a volume that C holds: one in memory, with notes of its changes and a profile.
 pub type HeldDevice = Profiled<Noted<RamDevice>>;
 
 // Makes such a device of one in memory that has had no call.

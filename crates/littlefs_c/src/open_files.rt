@@ -1,31 +1,53 @@
-// The calls about an open file of a session.
+// The calls about open files.
 
+ghost use Rattle.std.specs.Prelude.{◌≡◌, ◌≤◌, ◌<◌, ◌^◌, IfOk, MatchResult, drop, length};
 ghost use Rattle.lfs_model.specs.session.Operations as ops;
-ghost use Rattle.lfs_fs.specs.FileAnswers.{FileAnswersOf, file_position, file_size};
-ghost use Rattle.littlefs_c.specs.Sessions.{CallsSession, IsCountCall, IsFileAnswer, IsReadCall, IsUnitCall, flags_of_number};
+ghost use Rattle.lfs_volume.specs.Calls as calls;
+ghost use Rattle.lfs_volume.specs.VolumeCalls.{IsVolumeCall};
+ghost use Rattle.littlefs_c.specs.Volumes.{CallsVolume, IsCountCall, IsReadCall, IsUnitCall, flags_of_number, read_result};
 
 use crate::codes::{count_code, room_code, unit_code};
-use crate::handle::{CLOSED, Handle, put_session, take_session};
+use crate::handle::{CLOSED, Handle, put_volume, take_volume};
+use crate::noted::HeldDevice;
 use bitflags::Flags;
-use lfs_fs::OpenFlags;
+use lfs_volume::{Error, OpenFlags, Volume};
 use std::alloc::Global;
 
-/// Opens a file, for reading or for writing, as the bits of `flags` say, and returns its number:
-/// the least that isn't open. At most one file is open for writing, and 16 for reading.
+/// Opens a file, for reading, writing or both, as the bits of `flags` say, and returns its number:
+/// the least that isn't open. Any number of files may be open, also several times.
 ///
 /// # Errors
 ///
-/// 77 where there is no session, and the refusals of a session's `open` (docs/OPERATIONS.md).
+/// 77 where nothing is mounted, and the errors of a volume's `open` (docs/OPERATIONS.md).
 #[unsafe(no_mangle)]
-pub extern "C" fn lfs_c_open(alloc: Global, session: &mut Handle, path: &[u8], flags: u32) -> i64
-    ensures { CallsSession (IsCountCall (ops.Open path.now (flags_of_number flags)) ops.Opened result) result session.old.slot.session session.new.slot.session }
+pub extern "C" fn lfs_c_open(alloc: Global, volume: &mut Handle, path: &[u8], flags: u32) -> i64
+    ensures { CallsVolume (IsCountCall (calls.Open path.now (flags_of_number flags)) ops.Opened result) result volume.old.slot.mounted volume.new.slot.mounted }
 {
-    let Some(mut inner) = take_session(alloc, session) else {
+    let Some(mut inner) = take_volume(alloc, volume) else {
         return CLOSED;
     };
-    let answer = inner.open(alloc, path, OpenFlags::from_bits_retain(flags));
-    put_session(session, inner);
+    let answer = inner
+        .volume
+        .open(alloc, path, OpenFlags::from_bits_retain(flags));
+    put_volume(volume, inner);
     count_code(answer)
+}
+
+// Reads an open file into a buffer. Returns how many bytes were read.
+fn read_file(
+    alloc: Global,
+    volume: &mut Volume<HeldDevice>,
+    file: u32,
+    buffer: &mut [u8],
+) -> Result<usize, Error>
+    ensures call { IsVolumeCall volume.old (calls.Read file (length buffer.old)) (read_result result buffer.new) volume.new }
+    ensures rest { MatchResult result (λ n. (n ≤ length buffer.old) × (drop n buffer.new ≡ drop n buffer.old)) (λ e. buffer.new ≡ buffer.old) }
+    ensures small { IfOk result (λ n. n < 2 ^ 63) }
+{
+    match volume.read_into(alloc, file, buffer) {
+        Ok(count) => Ok(count),
+        Err(error) => Err(error),
+    }
 }
 
 /// Reads an open file from its position on into the buffer, and returns how many bytes it read.
@@ -34,22 +56,22 @@ pub extern "C" fn lfs_c_open(alloc: Global, session: &mut Handle, path: &[u8], f
 ///
 /// # Errors
 ///
-/// 77 where there is no session, and the refusals of a session's `read_into` (docs/OPERATIONS.md).
-/// The buffer is as it was after a refusal.
+/// 77 where nothing is mounted, and the errors of a volume's `read_into` (docs/OPERATIONS.md).
+/// The buffer is as it was after an error.
 #[unsafe(no_mangle)]
 pub extern "C" fn lfs_c_file_read(
     alloc: Global,
-    session: &mut Handle,
+    volume: &mut Handle,
     file: u32,
     buffer: &mut [u8],
 ) -> i64
-    ensures { CallsSession (IsReadCall file result buffer.old buffer.new) result session.old.slot.session session.new.slot.session }
+    ensures { CallsVolume (IsReadCall file result buffer.old buffer.new) result volume.old.slot.mounted volume.new.slot.mounted }
 {
-    let Some(mut inner) = take_session(alloc, session) else {
+    let Some(mut inner) = take_volume(alloc, volume) else {
         return CLOSED;
     };
-    let answer = inner.read_into(file, buffer);
-    put_session(session, inner);
+    let answer = read_file(alloc, &mut inner.volume, file, buffer);
+    put_volume(volume, inner);
     room_code(answer)
 }
 
@@ -58,21 +80,21 @@ pub extern "C" fn lfs_c_file_read(
 ///
 /// # Errors
 ///
-/// 77 where there is no session, and the refusals of a session's `write` (docs/OPERATIONS.md).
+/// 77 where nothing is mounted, and the errors of a volume's `write` (docs/OPERATIONS.md).
 #[unsafe(no_mangle)]
 pub extern "C" fn lfs_c_file_write(
     alloc: Global,
-    session: &mut Handle,
+    volume: &mut Handle,
     file: u32,
     bytes: &[u8],
 ) -> i64
-    ensures { CallsSession (IsCountCall (ops.Write file bytes.now) ops.Count result) result session.old.slot.session session.new.slot.session }
+    ensures { CallsVolume (IsCountCall (calls.Write file bytes.now) ops.Count result) result volume.old.slot.mounted volume.new.slot.mounted }
 {
-    let Some(mut inner) = take_session(alloc, session) else {
+    let Some(mut inner) = take_volume(alloc, volume) else {
         return CLOSED;
     };
-    let answer = inner.write(alloc, file, bytes);
-    put_session(session, inner);
+    let answer = inner.volume.write(alloc, file, bytes);
+    put_volume(volume, inner);
     count_code(answer)
 }
 
@@ -80,21 +102,21 @@ pub extern "C" fn lfs_c_file_write(
 ///
 /// # Errors
 ///
-/// 77 where there is no session, and the refusals of a session's `seek` (docs/OPERATIONS.md).
+/// 77 where nothing is mounted, and the errors of a volume's `seek` (docs/OPERATIONS.md).
 #[unsafe(no_mangle)]
 pub extern "C" fn lfs_c_file_seek(
     alloc: Global,
-    session: &mut Handle,
+    volume: &mut Handle,
     file: u32,
     position: u32,
 ) -> i64
-    ensures { CallsSession (IsUnitCall (ops.Seek file position) result) result session.old.slot.session session.new.slot.session }
+    ensures { CallsVolume (IsUnitCall (calls.Seek file position) result) result volume.old.slot.mounted volume.new.slot.mounted }
 {
-    let Some(mut inner) = take_session(alloc, session) else {
+    let Some(mut inner) = take_volume(alloc, volume) else {
         return CLOSED;
     };
-    let answer = inner.seek(file, position);
-    put_session(session, inner);
+    let answer = inner.volume.seek(file, position);
+    put_volume(volume, inner);
     unit_code(answer)
 }
 
@@ -102,36 +124,35 @@ pub extern "C" fn lfs_c_file_seek(
 ///
 /// # Errors
 ///
-/// 77 where there is no session, `Failed` where it has failed, and `BadFile` where no file is open
-/// under the number.
+/// 77 where nothing is mounted, `Failed` where the volume has failed, and `BadFile` where no file is
+/// open under the number.
 #[unsafe(no_mangle)]
-pub extern "C" fn lfs_c_file_tell(alloc: Global, session: &mut Handle, file: u32) -> i64
-    ensures { CallsSession (IsFileAnswer (λ s r. FileAnswersOf file_position s file r) result) result session.old.slot.session session.new.slot.session }
+pub extern "C" fn lfs_c_file_tell(alloc: Global, volume: &mut Handle, file: u32) -> i64
+    ensures { CallsVolume (IsCountCall (calls.Tell file) ops.Count result) result volume.old.slot.mounted volume.new.slot.mounted }
 {
-    let Some(inner) = take_session(alloc, session) else {
+    let Some(inner) = take_volume(alloc, volume) else {
         return CLOSED;
     };
-    let answer = inner.position(file);
-    put_session(session, inner);
+    let answer = inner.volume.position(file);
+    put_volume(volume, inner);
     count_code(answer)
 }
 
-/// Returns the size of an open file in bytes. Of a file that is open for writing it is the size with
-/// what isn't synced.
+/// Returns the size of an open file in bytes, with what isn't synced.
 ///
 /// # Errors
 ///
-/// 77 where there is no session, `Failed` where it has failed, and `BadFile` where no file is open
-/// under the number.
+/// 77 where nothing is mounted, `Failed` where the volume has failed, and `BadFile` where no file is
+/// open under the number.
 #[unsafe(no_mangle)]
-pub extern "C" fn lfs_c_file_size(alloc: Global, session: &mut Handle, file: u32) -> i64
-    ensures { CallsSession (IsFileAnswer (λ s r. FileAnswersOf file_size s file r) result) result session.old.slot.session session.new.slot.session }
+pub extern "C" fn lfs_c_file_size(alloc: Global, volume: &mut Handle, file: u32) -> i64
+    ensures { CallsVolume (IsCountCall (calls.Size file) ops.Count result) result volume.old.slot.mounted volume.new.slot.mounted }
 {
-    let Some(inner) = take_session(alloc, session) else {
+    let Some(inner) = take_volume(alloc, volume) else {
         return CLOSED;
     };
-    let answer = inner.size(file);
-    put_session(session, inner);
+    let answer = inner.volume.size(file);
+    put_volume(volume, inner);
     count_code(answer)
 }
 
@@ -140,21 +161,21 @@ pub extern "C" fn lfs_c_file_size(alloc: Global, session: &mut Handle, file: u32
 ///
 /// # Errors
 ///
-/// 77 where there is no session, and the refusals of a session's `truncate` (docs/OPERATIONS.md).
+/// 77 where nothing is mounted, and the errors of a volume's `truncate` (docs/OPERATIONS.md).
 #[unsafe(no_mangle)]
 pub extern "C" fn lfs_c_file_truncate(
     alloc: Global,
-    session: &mut Handle,
+    volume: &mut Handle,
     file: u32,
     size: u32,
 ) -> i64
-    ensures { CallsSession (IsUnitCall (ops.Truncate file size) result) result session.old.slot.session session.new.slot.session }
+    ensures { CallsVolume (IsUnitCall (calls.Truncate file size) result) result volume.old.slot.mounted volume.new.slot.mounted }
 {
-    let Some(mut inner) = take_session(alloc, session) else {
+    let Some(mut inner) = take_volume(alloc, volume) else {
         return CLOSED;
     };
-    let answer = inner.truncate(alloc, file, size);
-    put_session(session, inner);
+    let answer = inner.volume.truncate(alloc, file, size);
+    put_volume(volume, inner);
     unit_code(answer)
 }
 
@@ -162,32 +183,33 @@ pub extern "C" fn lfs_c_file_truncate(
 ///
 /// # Errors
 ///
-/// 77 where there is no session, and the refusals of a session's `sync` (docs/OPERATIONS.md).
+/// 77 where nothing is mounted, and the errors of a volume's `sync` (docs/OPERATIONS.md).
 #[unsafe(no_mangle)]
-pub extern "C" fn lfs_c_file_sync(alloc: Global, session: &mut Handle, file: u32) -> i64
-    ensures { CallsSession (IsUnitCall (ops.Sync file) result) result session.old.slot.session session.new.slot.session }
+pub extern "C" fn lfs_c_file_sync(alloc: Global, volume: &mut Handle, file: u32) -> i64
+    ensures { CallsVolume (IsUnitCall (calls.Sync file) result) result volume.old.slot.mounted volume.new.slot.mounted }
 {
-    let Some(mut inner) = take_session(alloc, session) else {
+    let Some(mut inner) = take_volume(alloc, volume) else {
         return CLOSED;
     };
-    let answer = inner.sync(alloc, file);
-    put_session(session, inner);
+    let answer = inner.volume.sync(alloc, file);
+    put_volume(volume, inner);
     unit_code(answer)
 }
 
-/// Closes an open file, and commits its changes to the tree. Its number is free then. Returns 0.
+/// Commits the changes of an open file to the tree, and closes it. Its number is free then, even
+/// where the commit is refused. Returns 0.
 ///
 /// # Errors
 ///
-/// 77 where there is no session, and the refusals of a session's `close` (docs/OPERATIONS.md).
+/// 77 where nothing is mounted, and the errors of a volume's `close` (docs/OPERATIONS.md).
 #[unsafe(no_mangle)]
-pub extern "C" fn lfs_c_file_close(alloc: Global, session: &mut Handle, file: u32) -> i64
-    ensures { CallsSession (IsUnitCall (ops.Close file) result) result session.old.slot.session session.new.slot.session }
+pub extern "C" fn lfs_c_file_close(alloc: Global, volume: &mut Handle, file: u32) -> i64
+    ensures { CallsVolume (IsUnitCall (calls.Close file) result) result volume.old.slot.mounted volume.new.slot.mounted }
 {
-    let Some(mut inner) = take_session(alloc, session) else {
+    let Some(mut inner) = take_volume(alloc, volume) else {
         return CLOSED;
     };
-    let answer = inner.close(alloc, file);
-    put_session(session, inner);
+    let answer = inner.volume.close(alloc, file);
+    put_volume(volume, inner);
     unit_code(answer)
 }

@@ -1,38 +1,37 @@
-// A box with a session as its pointer, or none, in a struct that C may hold.
+// A box with a volume as its pointer, or none, in a struct that C may hold.
 
 ghost use Rattle.std.specs.Prelude.{◌≡◌, Option, None, Some, IsSome};
-ghost use Rattle.lfs_fs.specs.SessionView.{SessionView};
 ghost use Rattle.littlefs_c.specs.HandleSlots.{handle_owns};
+ghost use Rattle.littlefs_c.specs.declared.mounted.Mounted.{Mounted};
 
-use crate::noted::HeldDevice;
+use crate::mounted::Mounted;
 use crate::parts::Parts;
-use lfs_fs::Session;
 use std::alloc::Global;
 use std::marker::Model;
 
-/// A pointer to a session that it owns, or no session. An allocator takes no bytes.
+/// A pointer to a mounted image that it owns, or none. An allocator takes no bytes.
 #[repr(C)]
 pub struct Slot {
     at: *mut u8,
     alloc: Global,
-    pub ghost session: { Option SessionView },
+    pub ghost mounted: { Option Mounted },
 }
 
 impl Model for Slot {
-    ghost also_owns = { λ s. handle_owns s.alloc s.at s.session };
+    ghost also_owns = { λ s. handle_owns s.alloc s.at s.mounted };
 }
 
 unsafe impl Send for Slot {}
 
 impl Slot {
     pub fn empty(at: *mut u8, alloc: Global) -> Slot
-        ensures { result.session ≡ None }
+        ensures { result.mounted ≡ None }
     {
         Slot { at, alloc }
     }
 
-    pub fn of_parts(parts: Parts<Session<HeldDevice>, Global>) -> Slot
-        ensures { result.session ≡ Some parts.value }
+    pub fn of_parts(parts: Parts<Mounted, Global>) -> Slot
+        ensures { result.mounted ≡ Some parts.value }
     {
         let Parts { ptr, alloc } = parts;
         Slot {
@@ -41,19 +40,19 @@ impl Slot {
         }
     }
 
-    pub fn into_parts(self) -> Parts<Session<HeldDevice>, Global>
-        requires { IsSome self.session }
-        ensures { self.session ≡ Some result.value }
+    pub fn into_parts(self) -> Parts<Mounted, Global>
+        requires { IsSome self.mounted }
+        ensures { self.mounted ≡ Some result.value }
     {
         let Slot { at, alloc } = self;
         Parts {
-            ptr: at as *mut Session<HeldDevice>,
+            ptr: at as *mut Mounted,
             alloc,
         }
     }
 
     pub fn let_go(self)
-        requires { self.session ≡ None }
+        requires { self.mounted ≡ None }
     {
         let Slot { at: _, alloc: _ } = self;
     }

@@ -1,29 +1,37 @@
-// How sessions begin and end in a handle.
+// How volumes begin and end in a handle.
 
-ghost use Rattle.std.specs.Prelude.{◌≡◌, pos, None, IfOk, IfErr};
-ghost use Rattle.lfs_fs.specs.SessionView.{system_state};
-ghost use Rattle.littlefs_c.specs.ImageCalls.{IsImageDevice};
+ghost use Rattle.std.specs.Prelude.{◌≡◌, [], pos, None, IfOk, IfErr};
+ghost use Rattle.littlefs_c.specs.Images.{IsImageDevice};
 ghost use Rattle.littlefs_c.specs.Configs.{IsValidConfig, config_profile};
-ghost use Rattle.littlefs_c.specs.Mounts.{BeginsInHandle, IsBlankDevice, IsBeginningCode, IsFormattedBy, IsMountedBy, IsMountedLimited, PreventsFormat, PreventsMount};
+ghost use Rattle.littlefs_c.specs.Mounts.{BeginsInHandle, FormatsImage, IsBeginningCode, IsBlankDevice, MountsImage, MountsLimited, PreventsFormat, PreventsMount};
 
 use crate::codes::unit_code;
 use crate::config::Config;
-use crate::handle::{Handle, put_session, take_session};
+use crate::handle::{Handle, put_volume, take_volume};
 use crate::image::device_by_profile;
+use crate::mounted::Mounted;
 use crate::noted::{HeldDevice, Noted, held_device};
-use lfs_device::{Error, Geometry, RamDevice};
-use lfs_fs::{Session, format_ordered, mount, mount_with_limits};
+use lfs_device::{Geometry, RamDevice};
+use lfs_volume::{Error, Volume, format_ordered, mount, mount_with_limits};
 use std::alloc::Global;
 
-// Puts a session into a box.
-fn box_session(
-    alloc: Global,
-    session: Session<HeldDevice>,
-) -> Result<Box<Session<HeldDevice>, Global>, Error>
-    ensures ok { IfOk result (λ b. b.value ≡ session) }
+// Makes a mounted image of a volume: no directory is open.
+fn new_mounted(alloc: Global, volume: Volume<HeldDevice>) -> Mounted
+    ensures volume { result.volume ≡ volume }
+    ensures none { result.directories.items ≡ [] }
+{
+    Mounted {
+        volume,
+        directories: Vec::new(alloc),
+    }
+}
+
+// Puts a mounted image into a box.
+fn box_mounted(alloc: Global, mounted: Mounted) -> Result<Box<Mounted, Global>, Error>
+    ensures ok { IfOk result (λ b. b.value ≡ mounted) }
     ensures err { IfErr result (λ e. e ≡ Error.NoMemory) }
 {
-    match Box::new(alloc, session) {
+    match Box::new(alloc, mounted) {
         Ok(b) => Ok(b),
         Err(_) => Err(Error::NoMemory),
     }
@@ -41,95 +49,91 @@ fn copy_of_image(alloc: Global, config: &Config, image: &[u8]) -> Result<RamDevi
     device_by_profile(alloc, image, config.block_size, config.page, profile)
 }
 
-// Mounts a session over a copy of an image, by a configuration.
-fn mount_session(alloc: Global, config: &Config, image: &[u8]) -> Result<Session<HeldDevice>, Error>
-    ensures ok { IfOk result (λ s. IsMountedBy config.now image.now (system_state s)) }
+// Mounts a volume over a copy of an image, by a configuration.
+fn mount_volume(alloc: Global, config: &Config, image: &[u8]) -> Result<Mounted, Error>
+    ensures ok { IfOk result (MountsImage config.now image.now) }
     ensures err { IfErr result (PreventsMount config.now image.now) }
 {
     let ram = copy_of_image(alloc, config, image)?;
     let profile = config.profile();
     match mount(alloc, held_device(alloc, ram, profile)) {
-        Ok(session) => Ok(session),
+        Ok(volume) => Ok(new_mounted(alloc, volume)),
         Err((_device, error)) => Err(error),
     }
 }
 
-// Mounts a session over a copy of an image, by a configuration and the limits of the image.
-fn mount_by_limits(
-    alloc: Global,
-    config: &Config,
-    image: &[u8],
-) -> Result<Session<HeldDevice>, Error>
-    ensures ok { IfOk result (λ s. IsMountedLimited config.now image.now (system_state s)) }
+// Mounts a volume over a copy of an image, by a configuration and the limits of the image.
+fn mount_by_limits(alloc: Global, config: &Config, image: &[u8]) -> Result<Mounted, Error>
+    ensures ok { IfOk result (MountsLimited config.now image.now) }
     ensures err { IfErr result (PreventsMount config.now image.now) }
 {
     let ram = copy_of_image(alloc, config, image)?;
     let profile = config.profile();
     match mount_with_limits(alloc, Noted::new(alloc, ram), profile) {
-        Ok(session) => Ok(session),
+        Ok(volume) => Ok(new_mounted(alloc, volume)),
         Err((_device, error)) => Err(error),
     }
 }
 
-// Mounts a copy of an image, where the handle has no session.
+// Mounts a copy of an image, where the handle has no volume.
 fn mount_into_handle(
     alloc: Global,
-    session: &mut Handle,
+    volume: &mut Handle,
     config: &Config,
     image: &[u8],
 ) -> Result<(), Error>
-    ensures { BeginsInHandle (λ s. IsMountedBy config.now image.now (system_state s)) (PreventsMount config.now image.now) result session.old.slot.session session.new.slot.session }
+    ensures { BeginsInHandle (MountsImage config.now image.now) (PreventsMount config.now image.now) result volume.old.slot.mounted volume.new.slot.mounted }
 {
-    if let Some(open) = take_session(alloc, session) {
-        put_session(session, open);
+    if let Some(open) = take_volume(alloc, volume) {
+        put_volume(volume, open);
         return Err(Error::Busy);
     }
-    let inner = mount_session(alloc, config, image)?;
-    let b = box_session(alloc, inner)?;
-    put_session(session, b);
+    let inner = mount_volume(alloc, config, image)?;
+    let b = box_mounted(alloc, inner)?;
+    put_volume(volume, b);
     Ok(())
 }
 
-/// Begins a session over a copy of an image. Returns 0. Where both orders of names fit, the longer
+/// Mounts a copy of an image. Returns 0. Where both orders of names fit, the longer
 /// names come first.
 ///
 /// # Errors
 ///
-/// `Busy` where the handle has a session. `Invalid` where a number of the configuration is out of
+/// `Busy` where an image is mounted already. `Invalid` where a number of the configuration is out of
 /// range, or the bytes are no image of that geometry. `Corrupt` where the image is accepted in
 /// neither order. `NoMemory` where memory isn't granted. The handle is as it was after an error.
 #[unsafe(no_mangle)]
 pub extern "C" fn lfs_c_mount(
     alloc: Global,
-    session: &mut Handle,
+    volume: &mut Handle,
     config: &Config,
     image: &[u8],
 ) -> i64
-    ensures { IsBeginningCode (λ s. IsMountedBy config.now image.now (system_state s)) (PreventsMount config.now image.now) result session.old.slot.session session.new.slot.session }
+    ensures { IsBeginningCode (MountsImage config.now image.now) (PreventsMount config.now image.now) result volume.old.slot.mounted volume.new.slot.mounted }
 {
-    unit_code(mount_into_handle(alloc, session, config, image))
+    unit_code(mount_into_handle(alloc, volume, config, image))
 }
 
-// Begins a session over a copy of an image by its own limits, where the handle has none.
+// Mounts a copy of an image by its own limits, where the handle has none.
 fn begin_by_limits(
     alloc: Global,
-    session: &mut Handle,
+    volume: &mut Handle,
     config: &Config,
     image: &[u8],
 ) -> Result<(), Error>
-    ensures { BeginsInHandle (λ s. IsMountedLimited config.now image.now (system_state s)) (PreventsMount config.now image.now) result session.old.slot.session session.new.slot.session }
+    ensures { BeginsInHandle (MountsLimited config.now image.now) (PreventsMount config.now image.now) result volume.old.slot.mounted volume.new.slot.mounted }
 {
-    if let Some(open) = take_session(alloc, session) {
-        put_session(session, open);
+    if let Some(open) = take_volume(alloc, volume) {
+        put_volume(volume, open);
         return Err(Error::Busy);
     }
     let inner = mount_by_limits(alloc, config, image)?;
-    let b = box_session(alloc, inner)?;
-    put_session(session, b);
+    let b = box_mounted(alloc, inner)?;
+    put_volume(volume, b);
     Ok(())
 }
 
-/// Begins a session over a copy of an image, as [`lfs_c_mount`], with the limits of the image in
+/// Mounts a copy of an image, as [`lfs_c_mount`], with the limits of the image in
 /// place of the configuration's. So an image that was made with lower limits may be changed, and
 /// stays within them. Returns 0.
 ///
@@ -139,13 +143,13 @@ fn begin_by_limits(
 #[unsafe(no_mangle)]
 pub extern "C" fn lfs_c_mount_with_limits(
     alloc: Global,
-    session: &mut Handle,
+    volume: &mut Handle,
     config: &Config,
     image: &[u8],
 ) -> i64
-    ensures { IsBeginningCode (λ s. IsMountedLimited config.now image.now (system_state s)) (PreventsMount config.now image.now) result session.old.slot.session session.new.slot.session }
+    ensures { IsBeginningCode (MountsLimited config.now image.now) (PreventsMount config.now image.now) result volume.old.slot.mounted volume.new.slot.mounted }
 {
-    unit_code(begin_by_limits(alloc, session, config, image))
+    unit_code(begin_by_limits(alloc, volume, config, image))
 }
 
 // Makes a device in memory of so many blocks by a configuration, whose bytes are 255.
@@ -160,69 +164,65 @@ fn blank_device(alloc: Global, config: &Config, block_count: u32) -> Result<RamD
     RamDevice::blank(alloc, geometry.with_profile(config.profile()))
 }
 
-// Makes an empty file system of so many blocks, with a session over it.
-fn format_session(
-    alloc: Global,
-    config: &Config,
-    block_count: u32,
-) -> Result<Session<HeldDevice>, Error>
-    ensures ok { IfOk result (IsFormattedBy config.now block_count) }
+// Makes an empty file system of so many blocks, with a volume over it.
+fn format_volume(alloc: Global, config: &Config, block_count: u32) -> Result<Mounted, Error>
+    ensures ok { IfOk result (FormatsImage config.now block_count) }
     ensures err { IfErr result (PreventsFormat config.now block_count) }
 {
     let ram = blank_device(alloc, config, block_count)?;
     let device = held_device(alloc, ram, config.profile());
     match format_ordered(alloc, device, config.name_order()) {
-        Ok(session) => Ok(session),
+        Ok(volume) => Ok(new_mounted(alloc, volume)),
         // The device had no fault, so memory wasn't granted.
         Err((_device, error)) => Err(error),
     }
 }
 
-// Makes an empty file system, where the handle has no session.
+// Makes an empty file system, where the handle has no volume.
 fn format_into_handle(
     alloc: Global,
-    session: &mut Handle,
+    volume: &mut Handle,
     config: &Config,
     block_count: u32,
 ) -> Result<(), Error>
-    ensures { BeginsInHandle (IsFormattedBy config.now block_count) (PreventsFormat config.now block_count) result session.old.slot.session session.new.slot.session }
+    ensures { BeginsInHandle (FormatsImage config.now block_count) (PreventsFormat config.now block_count) result volume.old.slot.mounted volume.new.slot.mounted }
 {
-    if let Some(open) = take_session(alloc, session) {
-        put_session(session, open);
+    if let Some(open) = take_volume(alloc, volume) {
+        put_volume(volume, open);
         return Err(Error::Busy);
     }
-    let inner = format_session(alloc, config, block_count)?;
-    let b = box_session(alloc, inner)?;
-    put_session(session, b);
+    let inner = format_volume(alloc, config, block_count)?;
+    let b = box_mounted(alloc, inner)?;
+    put_volume(volume, b);
     Ok(())
 }
 
-/// Makes an empty file system of so many blocks, and begins a session over it. All bytes are 255
-/// but those of the blocks 0 and 1. Returns 0.
+/// Makes an empty file system of so many blocks, and mounts it. All bytes are 255 but those of the
+/// blocks 0 and 1. Returns 0.
 ///
 /// # Errors
 ///
-/// `Busy` where the handle has a session. `Invalid` where a number is out of range. `NoMemory`
+/// `Busy` where an image is mounted already. `Invalid` where a number is out of range. `NoMemory`
 /// where memory isn't granted. The handle is as it was after an error.
 #[unsafe(no_mangle)]
 pub extern "C" fn lfs_c_mkfs(
     alloc: Global,
-    session: &mut Handle,
+    volume: &mut Handle,
     config: &Config,
     block_count: u32,
 ) -> i64
-    ensures { IsBeginningCode (IsFormattedBy config.now block_count) (PreventsFormat config.now block_count) result session.old.slot.session session.new.slot.session }
+    ensures { IsBeginningCode (FormatsImage config.now block_count) (PreventsFormat config.now block_count) result volume.old.slot.mounted volume.new.slot.mounted }
 {
-    unit_code(format_into_handle(alloc, session, config, block_count))
+    unit_code(format_into_handle(alloc, volume, config, block_count))
 }
 
-/// Ends a session, and frees its memory. Nothing is written: what an open file hasn't synced is
-/// lost. Returns 0, also where there was no session.
+/// Unmounts a volume, and frees its memory. Nothing is written: what an open file hasn't synced is
+/// lost. Returns 0, also where nothing is mounted.
 #[unsafe(no_mangle)]
-pub extern "C" fn lfs_c_unmount(alloc: Global, session: &mut Handle) -> i64
-    ensures closed { session.new.slot.session ≡ None }
+pub extern "C" fn lfs_c_unmount(alloc: Global, volume: &mut Handle) -> i64
+    ensures closed { volume.new.slot.mounted ≡ None }
     ensures code { result ≡ pos 0 }
 {
-    drop(take_session(alloc, session));
+    drop(take_volume(alloc, volume));
     0
 }

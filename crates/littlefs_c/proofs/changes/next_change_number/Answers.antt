@@ -1,4 +1,4 @@
--- The notes are those of the session's device.
+-- The notes are those of the volume's device.
 use Rattle.std.proofs.Common.{ℕ, List, Option, None, Some, ap, length, subst, ◌≡◌, ◌∙◌}
 use Rattle.std.specs.Prelude.{IfSome}
 use Rattle.lfs_device.specs.RamDevice.{ram_history}

@@ -1,4 +1,4 @@
--- A slot may go to another thread, as its session and its block's right may.
+-- A slot may go to another thread, as its volume and its block's right may.
 use Rattle.std.specs.declared.option.Option.{Option}
 use Rattle.std.specs.declared.option.Option.TheVariants.{None, Some}
 use mir.Raw.{raw}
@@ -12,24 +12,17 @@ use Rattle.std.proofs.Crossing as heap
 use Rattle.std_alloc.proofs.SendSync.{quiet, lies}
 use Rattle.std_heap.proofs.Global.TheSendSync as handle
 use Rattle.std_heap.specs.declared.Global.{Global}
-use Rattle.lfs_fs.specs.SessionView.{SessionView}
-use Rattle.lfs_device.specs.contracts.ram.RamDevice.{the_row as ram_row}
-use Rattle.lfs_device.specs.contracts.ram.RamDeviceBlockDevice.TheImpl.{ghosts as ram_ghosts}
-use Rattle.lfs_fs.proofs.session.Session.TheSendSync.{the_send as inner_send}
-use Rattle.lfs_device.proofs.ram.RamDevice.TheSendSync.{the_send as ram_send}
-use Rattle.lfs_device.proofs.profiled.Profiled.TheSendSync.{the_send as profiled_send}
-use Rattle.littlefs_c.proofs.noted.Noted.TheSendSync.{the_send as noted_send}
-use Rattle.littlefs_c.specs.HandleSlots.{device_ghosts, device_row, held_session_row, noted_ram_row, handle_owns}
+use Rattle.littlefs_c.specs.HandleSlots.{handle_owns}
+use Rattle.littlefs_c.specs.contracts.mounted.Mounted.{the_row as mounted_row}
+use Rattle.littlefs_c.specs.declared.mounted.Mounted.{Mounted}
+use Rattle.littlefs_c.proofs.mounted.Mounted.TheSendSync.{the_send as mounted_send}
 use Rattle.littlefs_c.specs.contracts.slot.Slot.{the_row, the_type}
 
-sends : IsSend held_session_row
-sends = inner_send device_row device_ghosts (profiled_send noted_ram_row (noted_send ram_row ram_ghosts ram_send))
-
-keyless : (a : Global) (p : Ptr) (o : Option SessionView) → Keyless (handle_owns a p o)
+keyless : (a : Global) (p : Ptr) (o : Option Mounted) → Keyless (handle_owns a p o)
 keyless a p None = tt
-keyless a p (Some x) = (lies held_session_row sends p x, heap.frees.frees a (raw (lone held_session_row.mir)) p)
+keyless a p (Some x) = (lies mounted_row mounted_send p x, heap.frees.frees a (raw (lone mounted_row.mir)) p)
 
 pub send : IsSend the_row
 send =
     let all : AllSend (fields the_type) = (search sendable, (handle.the_field_send, tt)) in
-    owning_send the_type all (λ d. keyless d.alloc d.at d.session) (λ k. quiet (to the_type) (exits_of k (fields the_type)) ((struct_send (shape the_type) all).leaving k))
+    owning_send the_type all (λ d. keyless d.alloc d.at d.mounted) (λ k. quiet (to the_type) (exits_of k (fields the_type)) ((struct_send (shape the_type) all).leaving k))

@@ -64,7 +64,7 @@ module _ {M : Type 1} {𝓤 : Ura M} (𝓛 : Logic 𝓤) (at_mem : Memory → SP
       let Post = (walk_of 𝓛 F.ended stayed (F.clauses 𝓛 at_mem run)).post z in
       let p = z.0.3.0 in let a = z.0.3.1.0 in
       let To = type_at (F.signature).result tt in
-      let made : To.Denot = record { at = p; alloc = a; session = None } in
+      let made : To.Denot = record { at = p; alloc = a; mounted = None } in
       let good = ((rawptr_Lawful 𝓛).typed p (ptr_val p ∷ []) refl).0 in
       qed 𝓛 ((‵ ftrue ⊛ ‵ (owns (RawPtr ∷ Heap.the_row ∷ []) (p, (a, tt)) z.0.4)) ∷ raw (emp 𝓤) ∷ []) ∵ split ! $ drop ! $ fsplit ! $ feq_l ! (λ ep. fsplit ! $
       handle_tells E.al ! a z.0.4.1.0 (λ hv ea fa.

@@ -26,7 +26,7 @@ use denote.Signature.{type_at}
 use denote.Steps.{nothing, heard}
 use contract.Monad.{fact}
 use Rattle.littlefs_c.specs.contracts.slot.Slot as Seal
-use Rattle.lfs_fs.specs.SessionView.{SessionView as Inner}
+use Rattle.littlefs_c.specs.declared.mounted.Mounted.{Mounted as Inner}
 use denote.Triple.Spec.{triple_of}
 use denote.Triple.Table.{entered}
 use denote.Triple.Walked.{says, Stays, stay_dropped, walk_of, ends_at, Goes-dropped, walk_Meets}
@@ -58,11 +58,11 @@ module _ {M : Type 1} {𝓤 : Ura M} (𝓛 : Logic 𝓤) (at_mem : Memory → SP
   walk z =
       let Post = (walk_of 𝓛 F.ended stayed (F.clauses 𝓛 at_mem run)).post z in
       let To = type_at (F.signature).result tt in
-      qed 𝓛 ((‵ ftrue ⊛ ‵ (fsep (Seal.the_row.own_val z.0.3.0 z.0.4.0) ftrue)) ∷ raw (fact 𝓤 (is_some z.0.3.0.session ≡ true)) ∷ []) ∵ move ! (1 ∷ []) $ heard ! (is_some z.0.3.0.session ≡ true) (λ some. split ! $ drop ! $ fsplit ! $
-      let held = is_there z.0.3.0.session some in
-      let v : D E = record { ptr = z.0.3.0.at; alloc = z.0.3.0.alloc; value = there z.0.3.0.session some } in
+      qed 𝓛 ((‵ ftrue ⊛ ‵ (fsep (Seal.the_row.own_val z.0.3.0 z.0.4.0) ftrue)) ∷ raw (fact 𝓤 (is_some z.0.3.0.mounted ≡ true)) ∷ []) ∵ move ! (1 ∷ []) $ heard ! (is_some z.0.3.0.mounted ≡ true) (λ some. split ! $ drop ! $ fsplit ! $
+      let held = is_there z.0.3.0.mounted some in
+      let v : D E = record { ptr = z.0.3.0.at; alloc = z.0.3.0.alloc; value = there z.0.3.0.mounted some } in
       let made : To.Denot = record { ptr = v.ptr; alloc = v.alloc; value = v.value } in
-      rewrite ! 0 (λ (o : Option Inner). ‵ (Seal.the_row.own_val (record z.0.3.0 { session = o }) z.0.4.0)) held refl $ use1 𝓛 (‵ ((B E).own_val v z.0.4.0)) (id⊢ 𝓤 _) $
+      rewrite ! 0 (λ (o : Option Inner). ‵ (Seal.the_row.own_val (record z.0.3.0 { mounted = o }) z.0.4.0)) held refl $ use1 𝓛 (‵ ((B E).own_val v z.0.4.0)) (id⊢ 𝓤 _) $
       box_out E ! v z.0.4.0 (λ b o hv e ws fa. box_in E ! v b o v.value e refl $ use1 𝓛 (‵ (To.own_val made (word E hv b o ∷ []))) (id⊢ 𝓤 _) $ move ! (1 ∷ 2 ∷ []) $ drop ! $ drop ! $
       let w = word E hv b o in
       let Γ : List (Item 𝓤) = ‵ (To.own_val made (w ∷ [])) ∷ [] in

@@ -1,0 +1,5 @@
+-- The bytes are those of the volume's image.
+use Rattle.littlefs_c.proofs.volumes.copy_image.Goals as goal
+
+pub returns-clause-copied : goal.returns-clause-copied
+returns-clause-copied c = record { bytes = c.image_of_volume.result.now; image = c.image_of_volume.ensures; takes = c.copy_if_fitting.ensures.room; copied = c.copy_if_fitting.ensures.buffer }

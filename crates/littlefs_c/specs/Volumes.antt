@@ -1,0 +1,166 @@
+-- What a call does to a volume that C holds.
+use Rattle.std.specs.Prelude.{Bool, ℕ, ℤ, ◌≡◌, ◌≤◌, ◌==◌, not, pos, ◌-ℤ◌, [], List, length, drop, take, MatchResult, Option, Vec, None, Some, Result, Ok, Err}
+use Rattle.std.specs.Int.RustNames.{bit_and}
+use Rattle.lfs_device.specs.declared.error.Error.{Error}
+use Rattle.lfs_device.specs.declared.error.Error.TheVariants.{NoMemory}
+use Rattle.lfs_model.specs.format.Blocks.{overwritten_at}
+use Rattle.lfs_model.specs.format.Disk.{Disk, IsWholeImage, disk_of_image}
+use Rattle.lfs_model.specs.session.Operations as ops
+use Rattle.lfs_model.specs.session.Operations.{FlagsOfOpen, Operation, Reply}
+use Rattle.lfs_lookup.specs.Finds.{stat_view}
+use Rattle.lfs_lookup.specs.declared.kinds.ListItem.{ListItem}
+use Rattle.lfs_lookup.specs.declared.kinds.Stat.{Stat}
+use Rattle.lfs_fs.specs.Replies.{reply_from}
+use Rattle.lfs_fs.specs.SessionView.{SessionView}
+use Rattle.lfs_volume.specs.Calls as calls
+use Rattle.lfs_volume.specs.Calls.{Call}
+use Rattle.lfs_volume.specs.SessionCalls.{error_result}
+use Rattle.lfs_volume.specs.VolumeCalls.{IsRemount, IsVolumeCall}
+use Rattle.littlefs_c.specs.Buffers.{buffer_if_fitting, entries_of_items, item_lines}
+use Rattle.littlefs_c.specs.Codes.{bool_number, result_code, stat_number}
+use Rattle.littlefs_c.specs.Directories.{ClosesDirectory, IsListing, KeepsListing, ReadsDirectory, RewindsDirectory, SeeksDirectory, TellsDirectory}
+use Rattle.littlefs_c.specs.declared.shown_entries.ShownEntry.{ShownEntry}
+use Rattle.littlefs_c.specs.declared.mounted.Mounted.{Mounted}
+use Rattle.std.specs.Global.{Global}
+
+-- minus the number of EBADFD, where nothing is mounted
+abbrev pub closed_code : ℤ
+closed_code = pos 0 -ℤ pos 77
+
+-- Nothing is mounted before or after, and the code says so; or something is before and after, and P holds of them.
+abbrev pub CallsVolume : (Mounted → Mounted → Type 0) → ℤ → Option Mounted → Option Mounted → Type 0
+CallsVolume P code None None = code ≡ closed_code
+CallsVolume P code (Some old) (Some new) = P old new
+CallsVolume P code old new = ⊥
+
+-- ---- calls with a number alone
+
+-- the volume's call, whose result has this code; open directories stay
+abbrev pub IsCodedCall : {X : Type 0} → (X → ℕ) → Call → (X → Reply) → ℤ → Mounted → Mounted → Type 0
+IsCodedCall {X} number call reply code old new =
+    (new.directories ≡ old.directories) × ((r : Result X Error) × ((code ≡ result_code number r) × IsVolumeCall old.volume call (reply_from reply r) new.volume))
+
+-- the same of calls that return nothing, a number, or a file's or a directory's size
+abbrev pub IsUnitCall : Call → ℤ → Mounted → Mounted → Type 0
+IsUnitCall call code old new = IsCodedCall {X = Unit} (λ _. 0) call (λ _. ops.Done) code old new
+
+abbrev pub IsCountCall : Call → (ℕ → Reply) → ℤ → Mounted → Mounted → Type 0
+IsCountCall call reply code old new = IsCodedCall {X = ℕ} (λ n. n) call reply code old new
+
+abbrev pub IsStatCall : List ℕ → ℤ → Mounted → Mounted → Type 0
+IsStatCall path code old new = IsCodedCall {X = Stat} stat_number (calls.Perform (ops.Stat path)) (λ stat. ops.StatIs (stat_view stat)) code old new
+
+-- the same of a question
+abbrev pub IsBoolCall : Operation → (Bool → Reply) → ℤ → Mounted → Mounted → Type 0
+IsBoolCall op reply code old new = IsCodedCall {X = Bool} bool_number (calls.Perform op) reply code old new
+
+-- the volume's remount, whose result has this code; no directory is open then
+abbrev pub IsRemountCall : ℤ → Mounted → Mounted → Type 0
+IsRemountCall code old new =
+    (new.directories.items ≡ []) × ((r : Result Unit Error) × ((code ≡ result_code (λ _. 0) r) × IsRemount old.volume (reply_from (λ _. ops.Done) r) new.volume))
+
+-- how a file is opened, by the bits of a number
+abbrev pub flags_of_number : ℕ → FlagsOfOpen
+flags_of_number n = record {
+  read = bit_and n 0x1 == 0x1;
+  write = bit_and n 0x2 == 0x2;
+  create = bit_and n 0x100 == 0x100;
+  exclusive = bit_and n 0x200 == 0x200;
+  truncate = bit_and n 0x400 == 0x400;
+  append = bit_and n 0x800 == 0x800;
+  unknown = not (bit_and n 0xf03 == n);
+}
+
+-- ---- calls with a buffer
+
+-- a buffer after a call that returns bytes
+abbrev pub filled_buffer : Result (Vec ℕ Global) Error → List ℕ → List ℕ
+filled_buffer (Ok v) buffer = buffer_if_fitting v.items buffer
+filled_buffer (Err e) buffer = buffer
+
+-- a volume's call of that operation, whose bytes are put into a buffer
+abbrev pub IsBytesCall : Operation → ℤ → List ℕ → List ℕ → Mounted → Mounted → Type 0
+IsBytesCall op code buffer filled old new =
+    (new.directories ≡ old.directories) × ((r : Result (Vec ℕ Global) Error) × ((code ≡ result_code (λ (v : Vec ℕ Global). length v.items) r) × ((filled ≡ filled_buffer r buffer) × IsVolumeCall old.volume (calls.Perform op) (reply_from (λ (v : Vec ℕ Global). ops.Bytes v.items) r) new.volume)))
+
+-- the result of a read that left so many bytes at the beginning of a buffer
+abbrev pub read_result : Result ℕ Error → List ℕ → Result Reply Error
+read_result (Ok n) filled = Ok (ops.Bytes (take n filled))
+read_result (Err e) filled = error_result e
+
+-- A volume's read of an open file into a buffer, whose rest stays. All of it stays after an error.
+abbrev pub IsReadCall : ℕ → ℤ → List ℕ → List ℕ → Mounted → Mounted → Type 0
+IsReadCall file code buffer filled old new =
+    (new.directories ≡ old.directories) × ((r : Result ℕ Error) × ((code ≡ result_code (λ n. n) r)
+    × (MatchResult r (λ n. (n ≤ length buffer) × (drop n filled ≡ drop n buffer)) (λ e. filled ≡ buffer) × IsVolumeCall old.volume (calls.Read file (length buffer)) (read_result r filled) new.volume)))
+
+-- A buffer gets the lines of entries, if they fit, and n is the room that they take; or there are none, or memory wasn't granted.
+abbrev pub FillsWithLines : Result (Vec ListItem Global) Error → Result ℕ Error → List ℕ → List ℕ → Type 0
+FillsWithLines (Ok x) (Ok n) buffer filled = (n ≡ length (item_lines (entries_of_items x))) × (filled ≡ buffer_if_fitting (item_lines (entries_of_items x)) buffer)
+FillsWithLines (Ok x) (Err e) buffer filled = (e ≡ NoMemory) × (filled ≡ buffer)
+FillsWithLines (Err e) (Ok n) buffer filled = ⊥
+FillsWithLines (Err e) (Err e') buffer filled = (e' ≡ e) × (filled ≡ buffer)
+
+-- a listing, whose lines are put into a buffer
+abbrev pub IsListCall : List ℕ → ℤ → List ℕ → List ℕ → Mounted → Mounted → Type 0
+IsListCall path code buffer filled old new =
+    (new.directories ≡ old.directories) × ((r : Result (Vec ListItem Global) Error) × ((t : Result ℕ Error) × ((code ≡ result_code (λ n. n) t) × (FillsWithLines r t buffer filled × IsListing path r old.volume new.volume))))
+
+-- ---- directories
+
+-- a directory is opened: a listing is kept
+abbrev pub IsDirOpen : List ℕ → ℤ → Mounted → Mounted → Type 0
+IsDirOpen path code old new =
+    (r : Result (Vec ListItem Global) Error) × ((t : Result ℕ Error) × ((code ≡ result_code (λ n. n) t) × (KeepsListing path r t old.directories.items new.directories.items × IsListing path r old.volume new.volume)))
+
+-- a call of open directories alone, whose result has this code
+abbrev pub IsDirCall : {X : Type 0} → (X → ℕ) → (Result X Error → Mounted → Mounted → Type 0) → ℤ → Mounted → Mounted → Type 0
+IsDirCall {X} number P code old new = (new.volume ≡ old.volume) × ((r : Result X Error) × ((code ≡ result_code number r) × P r old new))
+
+abbrev pub IsDirRead : ℕ → ShownEntry → ShownEntry → List ℕ → List ℕ → ℤ → Mounted → Mounted → Type 0
+IsDirRead dir before after name filled code old new =
+    IsDirCall {X = Bool} bool_number (λ r m n. ReadsDirectory dir r m.directories.items n.directories.items before after name filled) code old new
+
+abbrev pub IsDirSeek : ℕ → ℕ → ℤ → Mounted → Mounted → Type 0
+IsDirSeek dir position code old new = IsDirCall {X = Unit} (λ _. 0) (λ r m n. SeeksDirectory dir position r m.directories.items n.directories.items) code old new
+
+abbrev pub IsDirTell : ℕ → ℤ → Mounted → Mounted → Type 0
+IsDirTell dir code old new = IsDirCall {X = ℕ} (λ n. n) (λ r m n. (n.directories ≡ m.directories) × TellsDirectory dir m.directories.items r) code old new
+
+abbrev pub IsDirClose : ℕ → ℤ → Mounted → Mounted → Type 0
+IsDirClose dir code old new = IsDirCall {X = Unit} (λ _. 0) (λ r m n. ClosesDirectory dir r m.directories.items n.directories.items) code old new
+
+abbrev pub IsDirRewind : ℕ → ℤ → Mounted → Mounted → Type 0
+IsDirRewind dir code old new =
+    (r : Result Unit Error) × ((code ≡ result_code (λ _. 0) r) × RewindsDirectory dir r old.volume old.directories.items new.volume new.directories.items)
+
+-- ---- calls of the library alone
+
+-- all stays, and P holds of the session and of an answer with this code
+abbrev pub WithCode : {X : Type 0} → (X → ℤ) → (SessionView → X → Type 0) → ℤ → Mounted → Mounted → Type 0
+WithCode {X} number P code old new = (new ≡ old) × ((x : X) × ((code ≡ number x) × P old.volume.session x))
+
+-- ---- the image
+
+-- The bytes are an image whose disk is that one.
+pub record IsDiskImage (disk : Disk) (bytes : List ℕ) : Type 0 where
+  pub whole : IsWholeImage disk.block_size disk.page bytes
+  pub holds : disk ≡ disk_of_image disk.block_size disk.page disk.profile disk.order bytes
+
+-- The buffer has the image of the session, if it fits, which takes that room.
+pub record CopiesImage (s : SessionView) (room : ℕ) (buffer filled : List ℕ) : Type 0 where
+  pub bytes : List ℕ
+  pub image : IsDiskImage s.tree.disk bytes
+  pub takes : room ≡ length bytes
+  pub copied : filled ≡ buffer_if_fitting bytes buffer
+
+-- The buffer begins with as many bytes of the session's image as it has room for, from an offset on.
+pub record CopiesPart (s : SessionView) (offset count : ℕ) (buffer filled : List ℕ) : Type 0 where
+  pub bytes : List ℕ
+  pub image : IsDiskImage s.tree.disk bytes
+  pub takes : count ≡ length (take (length buffer) (drop offset bytes))
+  pub copied : filled ≡ overwritten_at buffer 0 (take (length buffer) (drop offset bytes))
+
+-- all stays, and P holds of the session and the code
+abbrev pub FromSession : (SessionView → ℕ → Type 0) → ℤ → Mounted → Mounted → Type 0
+FromSession P code old new = (new ≡ old) × ((n : ℕ) × ((code ≡ pos n) × P old.volume.session n))

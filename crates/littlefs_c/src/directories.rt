@@ -1,0 +1,224 @@
+// Open directories: lists of entries, each with a position.
+
+ghost use Rattle.std.specs.Prelude.{◌≡◌, ◌<◌, ◌^◌, IfErr, IfOk};
+ghost use Rattle.lfs_volume.specs.Calls.{free_entry, with_entry};
+ghost use Rattle.lfs_volume.specs.Volume.{entry_at};
+ghost use Rattle.littlefs_c.specs.Directories.{ClosesDirectory, KeepsListing, ListsAgain, ReadsDirectory, RewindsDirectory, SeeksDirectory, ShowsNext, TellsDirectory, opened_directory};
+
+use crate::noted::HeldDevice;
+use crate::shown_entries::{ShownEntry, show_entry};
+use lfs_volume::{Error, Item, Volume};
+use std::alloc::Global;
+use std::marker::Model;
+
+/// An open directory: its path, its entries as they were listed, and how many of them are before the
+/// position.
+#[derive(Drop)]
+pub struct Directory {
+    path: Vec<u8>,
+    items: Vec<Item>,
+    position: usize,
+}
+
+impl Model for Directory {
+    ghost use Rattle.std.specs.Prelude.{◌≤◌, length};
+    ghost use Rattle.littlefs_c.specs.DirectoryView.{DirectoryView};
+
+    ghost Value = { DirectoryView };
+
+    ghost view = { λ d. record { path = d.path.items; items = d.items.items; position = d.position } };
+
+    ghost invariant = { λ d. d.position ≤ length d.items.items };
+}
+
+// Returns the least number that is free.
+fn free_number(directories: &[Option<Directory>]) -> usize
+    ensures { result ≡ free_entry directories.now }
+{
+    let mut number = 0;
+    for entry in directories {
+        if entry.is_none() {
+            return number;
+        }
+        number += 1;
+    }
+    number
+}
+
+// Makes an open directory of a listing.
+fn new_directory(alloc: Global, path: &[u8], items: Vec<Item>) -> Result<Directory, Error>
+    ensures is { IfOk result (λ d. d ≡ opened_directory path.now items.items) }
+    ensures none { IfErr result (λ e. e ≡ Error.NoMemory) }
+{
+    match Vec::from_slice(alloc, path) {
+        Ok(path) => Ok(Directory {
+            path,
+            items,
+            position: 0,
+        }),
+        Err(_) => Err(Error::NoMemory),
+    }
+}
+
+// Puts a directory under a number that is free, the least one or the next.
+fn put_directory(
+    directories: &mut Vec<Option<Directory>>,
+    number: usize,
+    directory: Directory,
+) -> Result<(), Error>
+    ensures put { IfOk result (λ _. directories.new.items ≡ with_entry directories.old.items number (Some directory)) }
+    ensures none { IfErr result (λ e. (e ≡ Error.NoMemory) × (directories.new.items ≡ directories.old.items)) }
+{
+    if number < directories.len() {
+        directories[number] = Some(directory);
+        return Ok(());
+    }
+    match directories.push(Some(directory)) {
+        Ok(()) => Ok(()),
+        Err(_) => Err(Error::NoMemory),
+    }
+}
+
+// Keeps a listing as an open directory. Returns its number, the least that is free.
+pub(crate) fn keep_listing(
+    alloc: Global,
+    directories: &mut Vec<Option<Directory>>,
+    path: &[u8],
+    answer: Result<Vec<Item>, Error>,
+) -> Result<u32, Error>
+    ensures { KeepsListing path.now answer result directories.old.items directories.new.items }
+{
+    let items = answer?;
+    let directory = new_directory(alloc, path, items)?;
+    let number = free_number(directories);
+    if number > u32::MAX as usize {
+        return Err(Error::NoMemory);
+    }
+    put_directory(directories, number, directory)?;
+    Ok(number as u32)
+}
+
+// Shows the entry at a directory's position, which is after it then. Returns whether there is one.
+fn read_next(directory: &mut Directory, shown: &mut ShownEntry, name: &mut [u8]) -> bool
+    ensures { ShowsNext directory.old result directory.new shown.old shown.new name.old name.new }
+{
+    let position = directory.position;
+    if position >= directory.items.len() {
+        return false;
+    }
+    show_entry(&directory.items[position], shown, name);
+    directory.position = position + 1;
+    true
+}
+
+// The same of the directory with that number.
+pub(crate) fn read_directory(
+    directories: &mut Vec<Option<Directory>>,
+    number: u32,
+    shown: &mut ShownEntry,
+    name: &mut [u8],
+) -> Result<bool, Error>
+    ensures { ReadsDirectory number result directories.old.items directories.new.items shown.old shown.new name.old name.new }
+{
+    let index = number as usize;
+    if index >= directories.len() {
+        return Err(Error::BadFile);
+    }
+    match &mut directories[index] {
+        Some(directory) => Ok(read_next(directory, shown, name)),
+        None => Err(Error::BadFile),
+    }
+}
+
+// Sets the position of the directory with that number.
+pub(crate) fn seek_directory(
+    directories: &mut Vec<Option<Directory>>,
+    number: u32,
+    position: u32,
+) -> Result<(), Error>
+    ensures { SeeksDirectory number position result directories.old.items directories.new.items }
+{
+    let index = number as usize;
+    if index >= directories.len() {
+        return Err(Error::BadFile);
+    }
+    match &mut directories[index] {
+        Some(directory) => {
+            if position as usize > directory.items.len() {
+                return Err(Error::Invalid);
+            }
+            directory.position = position as usize;
+            Ok(())
+        }
+        None => Err(Error::BadFile),
+    }
+}
+
+// Returns the position of the directory with that number.
+pub(crate) fn directory_position(
+    directories: &[Option<Directory>],
+    number: u32,
+) -> Result<usize, Error>
+    ensures is { TellsDirectory number directories.now result }
+    ensures small { IfOk result (λ n. n < 2 ^ 63) }
+{
+    let index = number as usize;
+    if index >= directories.len() {
+        return Err(Error::BadFile);
+    }
+    match &directories[index] {
+        Some(directory) => {
+            let _count = directory.items.len();
+            Ok(directory.position)
+        }
+        None => Err(Error::BadFile),
+    }
+}
+
+// Lists a directory again. Its position is 0 then.
+fn list_again(
+    alloc: Global,
+    volume: &mut Volume<HeldDevice>,
+    directory: &mut Directory,
+) -> Result<(), Error>
+    ensures { ListsAgain volume.old directory.old result volume.new directory.new }
+{
+    let items = volume.list(alloc, &directory.path)?;
+    directory.position = 0;
+    directory.items = items;
+    Ok(())
+}
+
+// Lists the directory with that number again.
+pub(crate) fn rewind_directory(
+    alloc: Global,
+    volume: &mut Volume<HeldDevice>,
+    directories: &mut Vec<Option<Directory>>,
+    number: u32,
+) -> Result<(), Error>
+    ensures { RewindsDirectory number result volume.old directories.old.items volume.new directories.new.items }
+{
+    let index = number as usize;
+    if index >= directories.len() {
+        return Err(Error::BadFile);
+    }
+    match &mut directories[index] {
+        Some(directory) => list_again(alloc, volume, directory),
+        None => Err(Error::BadFile),
+    }
+}
+
+// Closes the directory with that number.
+pub(crate) fn close_directory(
+    directories: &mut Vec<Option<Directory>>,
+    number: u32,
+) -> Result<(), Error>
+    ensures { ClosesDirectory number result directories.old.items directories.new.items }
+{
+    let index = number as usize;
+    if index >= directories.len() || directories[index].is_none() {
+        return Err(Error::BadFile);
+    }
+    directories[index] = None;
+    Ok(())
+}

@@ -1,0 +1,40 @@
+// Entries of a directory, as C gets them.
+
+ghost use Rattle.std.specs.Prelude.{◌≡◌};
+ghost use Rattle.littlefs_c.specs.Buffers.{buffer_if_fitting};
+ghost use Rattle.littlefs_c.specs.Directories.{kind_number, shown_entry};
+
+use crate::buffers::copy_if_fitting;
+use lfs_volume::{Item, Kind};
+
+/// An entry of a directory as C gets it: 1 for a file and 2 for a directory, a file's size, and how
+/// many bytes the name has.
+#[repr(C)]
+#[derive(Drop)]
+pub struct ShownEntry {
+    pub kind: u32,
+    pub size: u32,
+    pub name_len: u32,
+}
+
+fn kind_number(kind: Kind) -> u32
+    ensures { result ≡ kind_number kind }
+{
+    match kind {
+        Kind::File => 1,
+        Kind::Dir => 2,
+    }
+}
+
+// Shows an entry, and puts its name into a buffer, if it fits.
+pub(crate) fn show_entry(item: &Item, shown: &mut ShownEntry, name: &mut [u8])
+    ensures shown { shown.new ≡ shown_entry item.now }
+    ensures named { name.new ≡ buffer_if_fitting item.now.name.items name.old }
+{
+    let len = copy_if_fitting(item.name.as_slice(), name);
+    *shown = ShownEntry {
+        kind: kind_number(item.kind),
+        size: item.size,
+        name_len: len as u32,
+    };
+}

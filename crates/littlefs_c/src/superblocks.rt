@@ -1,0 +1,197 @@
+// The calls about an image's superblock, and about why the image is read only.
+
+ghost use Rattle.std.specs.Prelude.{◌≡◌};
+ghost use Rattle.littlefs_c.specs.Superblocks.{IsReasonCall, IsSuperblockCall, IsWritableCall, ShowsReason, ShowsSuperblock, breach_number, limit_number, limit_value, shown_breach, shown_superblock};
+ghost use Rattle.littlefs_c.specs.Volumes.{CallsVolume};
+
+use crate::codes::{bool_code, count_code, unit_code};
+use crate::handle::{CLOSED, Handle, put_volume, take_volume};
+use lfs_volume::{Error, OtherLimit, ProfileBreach, Superblock};
+use std::alloc::Global;
+
+/// What a superblock says, as C gets it. Sizes and limits are in bytes.
+#[repr(C)]
+#[derive(Drop)]
+pub struct ShownSuperblock {
+    pub disk_version: u32,
+    pub block_size: u32,
+    pub block_count: u32,
+    pub name_max: u32,
+    pub file_max: u32,
+    pub attr_max: u32,
+}
+
+/// Where an image breaks a rule, as C gets it: the metadata pair, the slot in it, and the limit that
+/// the superblock has. A slot or a limit that the rule doesn't speak of is 0.
+#[repr(C)]
+#[derive(Drop)]
+pub struct ShownBreach {
+    pub pair: [u32; 2],
+    pub slot: usize,
+    pub limit: u32,
+}
+
+fn shown_superblock(fields: &Superblock) -> ShownSuperblock
+    ensures { result ≡ shown_superblock fields.now }
+{
+    ShownSuperblock {
+        disk_version: fields.version,
+        block_size: fields.block_size,
+        block_count: fields.block_count,
+        name_max: fields.name_max,
+        file_max: fields.file_max,
+        attr_max: fields.attr_max,
+    }
+}
+
+// Shows a superblock, if there is one.
+fn show_superblock(
+    answer: Result<Superblock, Error>,
+    shown: &mut ShownSuperblock,
+) -> Result<(), Error>
+    ensures { ShowsSuperblock answer result shown.old shown.new }
+{
+    let fields = answer?;
+    *shown = shown_superblock(&fields);
+    Ok(())
+}
+
+/// Shows what the image's superblock says: the version, the sizes of the device and the limits that
+/// the image has. Returns 0.
+///
+/// # Errors
+///
+/// 77 where nothing is mounted, `Failed` where the volume has failed, and `NoMemory` where memory
+/// isn't granted; the volume has failed then.
+#[unsafe(no_mangle)]
+pub extern "C" fn lfs_c_superblock(
+    alloc: Global,
+    volume: &mut Handle,
+    info: &mut ShownSuperblock,
+) -> i64
+    ensures { CallsVolume (IsSuperblockCall info.old info.new result) result volume.old.slot.mounted volume.new.slot.mounted }
+{
+    let Some(mut inner) = take_volume(alloc, volume) else {
+        return CLOSED;
+    };
+    let answer = inner.volume.superblock(alloc);
+    put_volume(volume, inner);
+    unit_code(show_superblock(answer, info))
+}
+
+/// Returns 1 if the image may be changed, and else 0: then a change is refused as `ReadOnly`, or as
+/// `Failed` where the volume has failed.
+///
+/// # Errors
+///
+/// 77 where nothing is mounted.
+#[unsafe(no_mangle)]
+pub extern "C" fn lfs_c_is_writable(alloc: Global, volume: &mut Handle) -> i64
+    ensures { CallsVolume (IsWritableCall result) result volume.old.slot.mounted volume.new.slot.mounted }
+{
+    let Some(inner) = take_volume(alloc, volume) else {
+        return CLOSED;
+    };
+    let answer = inner.volume.is_writable();
+    put_volume(volume, inner);
+    i64::from(answer)
+}
+
+// Returns the number of a rule about a limit: 1 for names, 2 for files, 3 for attributes.
+fn limit_number(limit: OtherLimit) -> u32
+    ensures { result ≡ limit_number limit }
+{
+    match limit {
+        OtherLimit::Name(_) => 1,
+        OtherLimit::File(_) => 2,
+        OtherLimit::Attr(_) => 3,
+    }
+}
+
+fn limit_value(limit: OtherLimit) -> u32
+    ensures { result ≡ limit_value limit }
+{
+    match limit {
+        OtherLimit::Name(most) => most,
+        OtherLimit::File(most) => most,
+        OtherLimit::Attr(most) => most,
+    }
+}
+
+// Returns the number of the rule that an image breaks, from 1 on.
+fn breach_number(breach: ProfileBreach) -> u32
+    ensures { result ≡ breach_number breach }
+{
+    match breach {
+        ProfileBreach::OtherLimits { limit, .. } => limit_number(limit),
+        ProfileBreach::LongInline { .. } => 4,
+        ProfileBreach::EmptyPair { .. } => 5,
+        ProfileBreach::TooLarge { .. } => 6,
+    }
+}
+
+fn shown_breach(breach: ProfileBreach) -> ShownBreach
+    ensures { result ≡ shown_breach breach }
+{
+    match breach {
+        ProfileBreach::OtherLimits { pair, slot, limit } => ShownBreach {
+            pair,
+            slot,
+            limit: limit_value(limit),
+        },
+        ProfileBreach::LongInline { pair, slot } => ShownBreach {
+            pair,
+            slot,
+            limit: 0,
+        },
+        ProfileBreach::EmptyPair { pair } => ShownBreach {
+            pair,
+            slot: 0,
+            limit: 0,
+        },
+        ProfileBreach::TooLarge { pair } => ShownBreach {
+            pair,
+            slot: 0,
+            limit: 0,
+        },
+    }
+}
+
+// Shows where an image breaks a rule, and returns the rule's number; or 0, where it breaks none.
+fn show_breach(
+    answer: Result<Option<ProfileBreach>, Error>,
+    shown: &mut ShownBreach,
+) -> Result<u32, Error>
+    ensures { ShowsReason answer result shown.old shown.new }
+{
+    match answer? {
+        Some(breach) => {
+            *shown = shown_breach(breach);
+            Ok(breach_number(breach))
+        }
+        None => Ok(0),
+    }
+}
+
+/// Returns 0 if the image may be changed. Else it returns the number of a rule that the image breaks,
+/// 1 to 6, and shows where.
+///
+/// # Errors
+///
+/// 77 where nothing is mounted, `Failed` where the volume has failed, and `NoMemory` where memory
+/// isn't granted; the volume has failed then.
+#[unsafe(no_mangle)]
+pub extern "C" fn lfs_c_read_only_reason(
+    alloc: Global,
+    volume: &mut Handle,
+    breach: &mut ShownBreach,
+) -> i64
+    ensures { CallsVolume (IsReasonCall breach.old breach.new result) result volume.old.slot.mounted volume.new.slot.mounted }
+{
+    let Some(mut inner) = take_volume(alloc, volume) else {
+        return CLOSED;
+    };
+    let answer = inner.volume.read_only_reason(alloc);
+    put_volume(volume, inner);
+    count_code(show_breach(answer, breach))
+}

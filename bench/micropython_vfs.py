@@ -18,7 +18,6 @@ top = os.path.dirname(os.path.dirname(os.path.abspath(__file__)))
 sys.path[:0] = [os.path.join(top, "bindings", "python"), os.path.join(top, "bindings", "fuse")]
 from details import Details
 from littlefs_c import Image
-from open_files import OpenFile, OpenFiles
 
 PAGE, CACHE = 32, 128  # the least program size of MicroPython, and the cache that it takes then
 MOST = 2147483647
@@ -162,10 +161,9 @@ class _File:
                 raise MicroError(errno.EEXIST)
             if "w" in mode or set(mode) & set("ax") and not is_there:
                 image.write(path, b"")
-            data = bytearray(image.read(path))
+            self._data, self._is_saved = bytearray(image.read(path)), True
             if self._writes and fs._has_times:
                 Details(image, 0).set_time(path.encode(), time.time_ns())
-        self._file = OpenFile(path, data, len(data))
 
     def __repr__(self):
         return "<io.TextIOWrapper>" if self._is_text else "<io.FileIO>"
@@ -177,10 +175,10 @@ class _File:
         self.close()
 
     def read(self, count=-1):
-        if self._file.is_saved:
+        if self._is_saved:
             with self._fs._image(is_changed=False) as image:
-                self._file.data[:] = image.read(self._path)
-        data = self._file.read(self._position, len(self._file.data) if count < 0 else count)
+                self._data[:] = image.read(self._path)
+        data = bytes(self._data[self._position :] if count < 0 else self._data[self._position : self._position + count])
         self._position += len(data)
         return data.decode() if self._is_text else data
 
@@ -188,12 +186,14 @@ class _File:
         data = data.encode() if isinstance(data, str) else data
         with self._fs._image(is_changed=False):
             pass
-        self._file.write(len(self._file.data) if self._appends else self._position, data, time.time_ns() if self._fs._has_times else None)
-        self._position = len(self._file.data) if self._appends else self._position + len(data)
+        at = len(self._data) if self._appends else self._position
+        self._data.extend(bytes(max(at - len(self._data), 0)))
+        self._data[at : at + len(data)] = data
+        self._position, self._is_saved = at + len(data), False
         return len(data)
 
     def seek(self, offset, whence=0):
-        position = offset + (0, self._position, len(self._file.data))[whence]
+        position = offset + (0, self._position, len(self._data))[whence]
         if not 0 <= position < MOST:
             raise MicroError(errno.EINVAL)
         self._position = position
@@ -203,9 +203,12 @@ class _File:
         return self._position
 
     def flush(self):
-        if self._writes:
+        if self._writes and not self._is_saved:
             with self._fs._image() as image:
-                OpenFiles(image, Details(image, 0)).save(self._file)
+                image.write(self._path, bytes(self._data))
+                if self._fs._has_times:
+                    Details(image, 0).set_time(self._path.encode(), time.time_ns())
+            self._is_saved = True
 
     def close(self):
         if self._is_open:

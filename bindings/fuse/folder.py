@@ -15,7 +15,7 @@ except ImportError:
     from fusepy import FUSE, Operations  # as Debian's package python3-fusepy names it
 
 from details import ENTRY_FULL, Attributes, Details
-from open_files import OpenFiles
+from handles import Handles
 
 FAILED, CORRUPT = 200, 84
 FOR_SYSTEM = {FAILED: errno.EIO, CORRUPT: errno.EIO, ENTRY_FULL: errno.ENOSPC}
@@ -35,7 +35,7 @@ class Folder(Operations):
     def __init__(self, image, image_file, begun: int, save_at: str = "close"):
         self.image, self._image_file, self._save_at = image, image_file, save_at
         self._details, self._attributes = Details(image, begun), Attributes(image)
-        self._files = OpenFiles(image, self._details)
+        self._files = Handles(image, self._details)
         self._lock, self._end, self._saver, self._is_changed = threading.RLock(), threading.Event(), None, False
 
     def __call__(self, name, *words):
@@ -45,8 +45,16 @@ class Folder(Operations):
                 return getattr(self, name)(*words)
             except OSError as error:
                 if error.errno in (errno.ENOMEM, FAILED):
-                    self.image.remount()
+                    self._mend()
                 raise OSError(FOR_SYSTEM.get(error.errno, error.errno or errno.EIO), str(error)) from error
+
+    def _mend(self):
+        """Reads the image again where a want of memory has made the volume fail. What wasn't saved is lost then."""
+        try:
+            self.image.used()
+        except OSError:
+            self.image.remount()
+            self._files.lost()
 
     # ---- the image's file
 
@@ -85,9 +93,9 @@ class Folder(Operations):
     # ---- entries
 
     def getattr(self, path, number=None):
-        file = self._files.at(path, number)
-        size = len(file.data) if file else self.image.stat(path)
-        path = file.path if file else path
+        handle = self._files.at(path) if number is None else self._files.handle(number)
+        size = handle.size() if handle else self.image.stat(path)
+        file, path = (handle.file, handle.file.path) if handle else (None, path)
         is_directory = size is None
         changed = file.time if file and (file.time is not None or path is None) else self._details.time(path)
         mode = self._details.mode(path, is_directory) if path else 0o600
@@ -137,9 +145,9 @@ class Folder(Operations):
         if changed == OMIT:
             return
         changed = time.time_ns() if changed == NOW else changed
-        file = self._files.at(path)
-        if file:
-            file.time = changed
+        handle = self._files.at(path)
+        if handle:
+            handle.file.time = changed
         else:
             self._details.set_time(path, changed)
             self._is_changed = True
@@ -177,50 +185,55 @@ class Folder(Operations):
     # ---- files
 
     def create(self, path, mode, more=None):
-        self.image.write(path, b"")
-        self._begin(path, mode, is_directory=False)
-        number = self._files.open(path)
-        self._files.at(path).time = time.time_ns()
+        number = self._files.open(path, is_written=True, is_new=True)
+        try:
+            self._begin(path, mode, is_directory=False)
+        except OSError:
+            self._files.removed(path)
+            self._files.close(number)
+            raise
+        self._files.handle(number).file.time = time.time_ns()
         return number
 
     def open(self, path, flags):
-        return self._files.open(path)
+        return self._files.open(path, is_written=flags & os.O_ACCMODE != os.O_RDONLY)
 
     def read(self, path, size, offset, number):
-        return self._files.at(path, number).read(offset, size)
+        return self._files.handle(number).read(offset, size)
 
     def write(self, path, data, offset, number):
-        file = self._files.at(path, number)
-        self._grow(file, offset + len(data))
-        file.write(offset, data, time.time_ns())
+        handle = self._files.handle(number)
+        self._grow(handle, offset + len(data))
+        handle.write(offset, data, time.time_ns())
         return len(data)
 
-    def _grow(self, file, size):
-        """Refuses a size for which there is no room, so that a file in memory isn't longer than the image can be."""
+    def _grow(self, handle, size):
+        """Refuses a size for which there is no room, where the volume would refuse it at a sync alone."""
         if size > self.image.limits.file_max:
             raise OSError(errno.EFBIG, os.strerror(errno.EFBIG))
-        if file and size > len(file.data) and size - file.size > (self.image.block_count - self.image.used()) * self.image.block_size:
-            raise OSError(errno.ENOSPC, os.strerror(errno.ENOSPC))
+        if size > handle.size():
+            stored = 0 if handle.file.path is None else self.image.stat(handle.file.path)
+            if size - stored > (self.image.block_count - self.image.used()) * self.image.block_size:
+                raise OSError(errno.ENOSPC, os.strerror(errno.ENOSPC))
 
     def truncate(self, path, size, number=None):
-        file = self._files.at(path, number)
-        self._grow(file, size)
-        if file:
-            file.truncate(size, time.time_ns())
-            self._is_changed |= number is None and self._files.save(file)
-        else:
-            self.image.truncate(path, size)
-            self._details.note_time(path, time.time_ns())
-            self._is_changed = True
+        opened = number or self._files.open(path, is_written=True)
+        try:
+            handle = self._files.handle(opened)
+            self._grow(handle, size)
+            handle.truncate(size, time.time_ns())
+        finally:
+            if number is None:
+                self._is_changed |= self._files.close(opened)
 
     def flush(self, path, number):
-        self._saved(self._files.save(self._files.at(path, number)))
+        self._saved(self._files.save(number))
 
     def release(self, path, number):
         self._saved(self._files.close(number))
 
     def fsync(self, path, is_of_data, number):
-        self._is_changed |= self._files.save(self._files.at(path, number))
+        self._is_changed |= self._files.save(number)
         self._save(is_durable=True)
 
     def fsyncdir(self, path, is_of_data, number):

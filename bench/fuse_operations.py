@@ -28,8 +28,8 @@ class Files:
 
     def pair(self, name):
         if name not in self.open:
-            flags = os.O_RDWR | os.O_CREAT
             is_new = not os.path.exists(f"{self.plain}/{name}")
+            flags = os.O_RDWR | os.O_CREAT * is_new  # else a file would be made in the bare folder behind a kill
             self.open[name] = (os.open(f"{self.mount}/{name}", flags), os.open(f"{self.plain}/{name}", flags))
             if is_new:
                 self.save_folder()

@@ -47,6 +47,7 @@ static int read_device(const struct lfs_config *c, lfs_block_t block, lfs_off_t 
 static int program_device(const struct lfs_config *c, lfs_block_t block, lfs_off_t off, const void *buffer, lfs_size_t size) {
     MUST(locked == 1 && block < BLOCKS && off % c->prog_size == 0 && size % c->prog_size == 0 && off + size <= BLOCK);
     MUST(!has_failed || kind == READ || kind == MEMORY || kind == LOCK);
+    for (lfs_size_t k = 0; k < size && erases == BLANK; k++) MUST(device[block][off + k] == 0xff); // as real flash wants it
     int now = fails(PROGRAM);
     lfs_size_t count = !now || extent == DONE || extent == DONE_WRONG ? size : extent == HALF_DONE ? size / 2 : 0;
     for (lfs_size_t k = 0; k < count; k++) device[block][off + k] = ((const uint8_t *)buffer)[k] & (erases == NOR ? device[block][off + k] : 0xff);

@@ -20,9 +20,10 @@
  *   - If `prog`, `erase` or `sync` returns an error, that call returns the same, and the mount ends: nothing is written after it, and all
  *     other calls return LFS_ERR_IO, until lfs_unmount and lfs_mount. lfs_file_close returns 0 for a file that has returned an error
  *     already. littlefs goes to another block where LFS_ERR_CORRUPT is returned.
- *   - If `read` returns an error, so does that call, and nothing has changed. It is called at the mount, after a change, and at the
- *     beginning of each call that looks into the tree or into a file that isn't inline: the beginning of blocks 0 and 1 is read then.
- *     If it isn't the image's, the mount ends with LFS_ERR_CORRUPT.
+ *   - `read` is called at the mount, after each change, and at the beginning of a call that looks into the tree, into a file that isn't
+ *     inline, or that stores a file: it reads the beginning of blocks 0 and 1 then. If that isn't the image's, the mount ends with
+ *     LFS_ERR_CORRUPT. If `read` returns an error at a call's beginning, so does the call, and nothing has changed; the mount goes on, but
+ *     for an lfs_file_close that has something to store. After a change an error of `read` ends the mount.
  *   - Nothing else may change the device while it is mounted.
  *
  * ---- What can't be had
@@ -43,8 +44,9 @@
  *
  * ---- What is otherwise than in littlefs
  *
- *   - All files that are open on one path see the same contents at once. A file stays usable when it is renamed, removed or replaced; what
- *     is written to a removed one is never stored. In littlefs a renamed file loses later writes.
+ *   - All files that are open on one path see the same contents at once, and a sync or a close of any of them stores these. A file stays
+ *     usable when it is renamed, removed or replaced; what is written to a removed one is never stored. In littlefs a file that is
+ *     renamed loses later writes.
  *   - A write is in memory until lfs_file_sync or lfs_file_close. So these return LFS_ERR_NOSPC where a write, a read or a seek of littlefs
  *     does. Nothing has changed then. After an lfs_file_sync that returned an error lfs_file_close tries again, and returns 0.
  *   - With LFS_O_APPEND each write is at the end, also where the position is behind it. A write of 0 bytes behind the end does nothing.

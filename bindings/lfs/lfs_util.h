@@ -1,4 +1,5 @@
-/* What programs on littlefs take from its lfs_util.h: standard headers, a checksum, and small functions. lfs.c needs none of it.
+/* What programs on littlefs take from its lfs_util.h: standard headers, a checksum, and small functions. lfs.c needs lfs_min and
+ * lfs_fromle32 of it.
  *
  * As with littlefs's own, LFS_CONFIG names a header that stands in place of this one, LFS_DEFINES one that is included first, and
  * LFS_CRC, LFS_MALLOC, LFS_FREE, LFS_ASSERT, LFS_TRACE, LFS_DEBUG, LFS_WARN and LFS_ERROR may be given. lfs.c prints nothing, asserts

@@ -1,7 +1,7 @@
 // What bindings/lfs does with a device that fails, for drop_in.py: a fixed work, in which each call of the device fails in turn.
 //
 // Built with -Wl,--wrap=malloc,--wrap=calloc,--wrap=realloc and -DLFS_THREADSAFE. Prints how many faults there were, and fails where one is
-// answered otherwise than lfs.h says: the call returns the error of the device; nothing is written after it; all else returns LFS_ERR_IO; a
+// not answered as lfs.h says: the call returns the error of the device; nothing is written after it; all else returns LFS_ERR_IO; a
 // new mount finds the tree from before that call or from after it.
 #include "lfs.h"
 #include <stdio.h>

@@ -355,7 +355,7 @@ static int prepare(lfs_t *lfs, const struct lfs_config *cfg, lfs_c_config *confi
 }
 
 /* Frees what isn't open. */
-static void let_go(lfs_t *lfs) {
+static void discard(lfs_t *lfs) {
     struct lfs_mounted *m = lfs->mounted;
     lfs->mounted = NULL;
     if (!m) return;
@@ -379,7 +379,7 @@ static int format(lfs_t *lfs, const struct lfs_config *cfg) {
     if (!err) err = error_of(lfs_c_mkfs(&lfs->mounted->volume, &config, cfg->block_count));
     for (lfs_block_t block = 0; block < 2 && !err; block++) err = write_block(lfs, block);
     if (!err) err = callback_error(cfg->sync(cfg));
-    let_go(lfs);
+    discard(lfs);
     return err;
 }
 
@@ -464,7 +464,7 @@ int lfs_mount(lfs_t *lfs, const struct lfs_config *cfg) {
     if (!err) err = read_device(lfs, &image, &seen);
     if (!err) err = mount_image(lfs, &config, image, &seen);
     free(image);
-    if (err) let_go(lfs);
+    if (err) discard(lfs);
     unlock(cfg);
     return err;
 }
@@ -472,7 +472,7 @@ int lfs_mount(lfs_t *lfs, const struct lfs_config *cfg) {
 int lfs_unmount(lfs_t *lfs) {
     int err = lock(lfs->cfg);
     if (err) return err;
-    let_go(lfs);
+    discard(lfs);
     return end(lfs, 0);
 }
 

@@ -2,7 +2,7 @@
  *
  * Put this folder in place of littlefs's, and link two archives more: liblittlefs_c.a of crates/littlefs_c, and the kit's liblibc_c.a
  * (docs/C_PYTHON.md, "Programs on lfs.h"). Names, types, flags and numbers of errors are littlefs's. lfs_t, lfs_file_t and lfs_dir_t have
- * other fields, so all that includes this header is compiled anew.
+ * other fields, so compile again all that includes this header.
  *
  * Proved are the calls of littlefs_c.h, which decide all that is written. This header and lfs.c aren't: they make plain paths, pass
  * calls on, and bring changes to the device.
@@ -42,7 +42,7 @@
  *   - An image that littlefs made and this library doesn't write, such as one with a longer inline file than inline_max, can be read;
  *     changes return LFS_ERR_ROFS, a number that littlefs doesn't have.
  *
- * ---- What is otherwise than in littlefs
+ * ---- What differs from littlefs
  *
  *   - All files that are open on one path see the same contents at once, and a sync or a close of any of them stores these. A file stays
  *     usable when it is renamed, removed or replaced; what is written to a removed one is never stored. In littlefs a file that is

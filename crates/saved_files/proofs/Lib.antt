@@ -1,7 +1,7 @@
 pub mod Parts
 pub mod Written
 pub mod Writes
-pub mod Reads
+pub mod FileReads
 pub mod Saves
 pub mod Counts
 pub mod Appends

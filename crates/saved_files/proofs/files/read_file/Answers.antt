@@ -1,7 +1,7 @@
 use Rattle.std.proofs.Common.{refl}
 use Rattle.lfs_fs.proofs.Users.{lives}
 use Rattle.saved_files.proofs.Parts.{works_live, works_then, call_works}
-use Rattle.saved_files.proofs.Reads.{open_reads, read_reads, close_reads, all_read}
+use Rattle.saved_files.proofs.FileReads.{open_reads, read_reads, close_reads, all_read}
 use Rattle.saved_files.proofs.files.read_file.Goals as goal
 
 pub returns-in_err-reader-clause-survives : goal.returns-in_err-reader-clause-survives

@@ -1,15 +1,11 @@
 #!/usr/bin/env python3
-"""Builds the library and the tool for each platform, from the proved crates.
+"""Builds the library and the tool for each platform, from the proved crates, into ports/out.
 
-usage: ports/build.py [x86_64] [aarch64] [wasm] [windows] [--crate littlefs_c|mklittlefs] [--out FOLDER]
+usage: ports/build.py [x86_64] [aarch64] [wasm] [windows]
 
-- x86_64, aarch64: the library, static and shared, and the tool as a static program, for Linux;
-- wasm: the library and the tool as WebAssembly modules, of 64-bit memory and lowered to 32 bits;
-- windows: the library for x86-64 Windows, static and as a DLL.
-
-Without a name all are built, and without --crate both the library and the tool. `rt lib` in crates/littlefs_c and `rt run` in
-crates/mklittlefs come first: they prove the crates. The modules that clang is given are kept in FOLDER/kept, or ports/out/kept, until rt
-builds the crates again. README.md here says how a platform is built, and release/README.md what has to be installed.
+Without a name all are built. `rt lib` in crates/littlefs_c and `rt run` in crates/mklittlefs come first: they prove the crates. The
+modules that clang is given stay in ports/out/kept until rt builds the crates again. README.md here says how a platform is built, and
+release/README.md what has to be installed.
 """
 
 import argparse
@@ -23,11 +19,13 @@ import rattle_words
 from rattle_words import TOP
 
 PORTS = TOP / "ports"
+OUT = PORTS / "out"
 CRATES = {"littlefs_c": "liblittlefs_c.a", "mklittlefs": "mklittlefs.o"}  # with what rt leaves of each in its folder out
 AARCH64, WASM64, WINDOWS = "aarch64-unknown-linux-gnu", "wasm64-unknown-unknown", "x86_64-w64-windows-gnu"
 C_WORDS = ["-std=c11", "-Wall", "-Wextra", "-Werror", "-O2", f"-ffile-prefix-map={TOP}=.", "-fPIC"]
 WASM_FEATURES = ["-mcpu=mvp", "-msign-ext", "-mmutable-globals"]
 STACK = 1 << 20
+EMSCRIPTEN = Path("/usr/share/emscripten/system/lib")
 
 
 def run(*words, **how):
@@ -44,9 +42,9 @@ def exports():
     return sorted(set(re.findall(r"^int64_t (lfs_c_\w+)\(", text, re.M)))
 
 
-def is_kept(crate, out):
+def is_kept(crate):
     """Returns whether the module of a crate is newer than what rt has built of it."""
-    built, kept = TOP / "crates" / crate / "out" / CRATES[crate], out / "kept" / crate / "module.ll"
+    built, kept = TOP / "crates" / crate / "out" / CRATES[crate], OUT / "kept" / crate / "module.ll"
     if not built.is_file():
         sys.exit(f"{crate} isn't built: run `rt lib` in crates/littlefs_c and `rt run` in crates/mklittlefs")
     return kept.is_file() and kept.stat().st_mtime > built.stat().st_mtime
@@ -57,70 +55,71 @@ def fresh(folder):
     return folder
 
 
-# ---- Linux
+# ---- Linux and Windows
 
-def archive(ar, to, archives, objects):
-    """Makes one archive of others and of objects, without times and owners."""
+def archive(prefix, made, archives, objects):
+    """Makes liblittlefs_c.a of other archives and of objects, without times and owners."""
+    to = made / "liblittlefs_c.a"
     to.unlink(missing_ok=True)
     lines = [f"create {to}", *[f"addlib {it}" for it in archives], *[f"addmod {it}" for it in objects], "save", "end"]
-    run(ar, "-M", input="\n".join(lines) + "\n", text=True)
-    run(ar, "sD", to)
+    run(f"{prefix}ar", "-M", input="\n".join(lines) + "\n", text=True)
+    run(f"{prefix}ar", "sD", to)
 
 
-def shared(cc, to, whole):
-    """Links a shared library that exports the calls of the header alone."""
-    script = to.with_suffix(".map")
+def library_for_linux(prefix, made, archives, objects):
+    """Makes the static library, and of all of it a shared one that exports the calls of the header alone."""
+    archive(prefix, made, archives, objects)
+    script = made / "littlefs_c.map"
     script.write_text("{ global: " + " ".join(f"{it};" for it in exports()) + " local: *; };\n")
-    run(cc, "-shared", "-s", "-o", to, "-Wl,--whole-archive", whole, "-Wl,--no-whole-archive", "-Wl,--gc-sections", "-Wl,-z,defs", f"-Wl,--version-script={script}",
-        "-Wl,-soname,liblittlefs_c.so.1", "-Wl,--build-id=none")
+    run(f"{prefix}gcc", "-shared", "-s", "-o", made / "littlefs_c.so", "-Wl,--whole-archive", made / "liblittlefs_c.a", "-Wl,--no-whole-archive", "-Wl,--gc-sections",
+        "-Wl,-z,defs", f"-Wl,--version-script={script}", "-Wl,-soname,liblittlefs_c.so.1", "-Wl,--build-id=none")
 
 
-def tool(cc, made, objects):
+def tool_for_linux(prefix, made, objects):
     """Links the tool, from one object that has all of its own code."""
-    run(cc, "-r", "-nostdlib", "-Wl,--build-id=none", "-o", made / "program.o", *objects)
-    run(cc, "-static", "-s", "-Wl,--gc-sections", "-Wl,--build-id=none", "-o", made / "mklittlefs", made / "program.o")
+    run(f"{prefix}gcc", "-r", "-nostdlib", "-Wl,--build-id=none", "-o", made / "program.o", *objects)
+    run(f"{prefix}gcc", "-static", "-s", "-Wl,--gc-sections", "-Wl,--build-id=none", "-o", made / "mklittlefs", made / "program.o")
 
 
-def library_for_x86_64(made, kept):
-    archive("ar", made / "liblittlefs_c.a", [kept / "x86_64.a", rattle_words.kit() / "c/liblibc_c.a"], [])
-    shared("gcc", made / "littlefs_c.so", made / "liblittlefs_c.a")
+def for_x86_64(crate, made, kept):
+    runtime = rattle_words.kit() / "c"
+    if crate == "littlefs_c":
+        library_for_linux("", made, [kept / "x86_64.a", runtime / "liblibc_c.a"], [])
+    else:
+        tool_for_linux("", made, [kept / "x86_64.o", runtime / "libos_c.a", runtime / "liblibc_c.a"])
 
 
-def tool_for_x86_64(made, kept):
-    kit = rattle_words.kit()
-    tool("gcc", made, [kept / "x86_64.o", kit / "c/libos_c.a", kit / "c/liblibc_c.a"])
+def for_aarch64(crate, made, kept):
+    proved, prefix = module.compile_module(kept, fresh(made / "parts" / crate), AARCH64, "-fPIC", keeps_probes=True), "aarch64-linux-gnu-"
+    if crate == "littlefs_c":
+        return library_for_linux(prefix, made, [], [proved])
+    run(f"{prefix}gcc", *C_WORDS, "-c", PORTS / "os.c", "-o", made / "os.o")
+    tool_for_linux(prefix, made, [proved, made / "os.o"])
 
 
-def library_for_aarch64(made, kept):
-    proved = module.compile_module(kept, made / "littlefs_c", AARCH64, "-fPIC", keeps_probes=True)
-    archive("aarch64-linux-gnu-ar", made / "liblittlefs_c.a", [], [proved])
-    shared("aarch64-linux-gnu-gcc", made / "littlefs_c.so", made / "liblittlefs_c.a")
-
-
-def tool_for_aarch64(made, kept):
-    proved = module.compile_module(kept, made / "mklittlefs.parts", AARCH64, "-fPIC", keeps_probes=True)
-    run("aarch64-linux-gnu-gcc", *C_WORDS, "-c", PORTS / "os.c", "-o", made / "os.o")
-    tool("aarch64-linux-gnu-gcc", made, [proved, made / "os.o"])
-
-
-# ---- Windows
-
-def library_for_windows(made, kept):
-    proved = module.compile_module(kept, made / "littlefs_c", WINDOWS)
-    archive("x86_64-w64-mingw32-ar", made / "liblittlefs_c.a", [], [proved])
+def for_windows(crate, made, kept):
+    if crate != "littlefs_c":
+        return
+    proved, prefix = module.compile_module(kept, fresh(made / "parts"), WINDOWS), "x86_64-w64-mingw32-"
+    archive(prefix, made, [], [proved])
     definitions = made / "littlefs_c.def"
     definitions.write_text("EXPORTS\n" + "".join(f"{it}\n" for it in exports()))
     # both make numbers and names of the path that they write to, so it is the same everywhere
-    run("x86_64-w64-mingw32-gcc", "-shared", "-s", "-Wl,--no-insert-timestamp", "-o", "littlefs_c.dll", definitions, proved, cwd=made)
-    run("x86_64-w64-mingw32-dlltool", "-d", definitions, "-D", "littlefs_c.dll", "-l", "liblittlefs_c.dll.a", cwd=made)
+    run(f"{prefix}gcc", "-shared", "-s", "-Wl,--no-insert-timestamp", "-o", "littlefs_c.dll", definitions, proved, cwd=made)
+    run(f"{prefix}dlltool", "-d", definitions, "-D", "littlefs_c.dll", "-l", "liblittlefs_c.dll.a", cwd=made)
 
 
 # ---- WebAssembly
 
-def memory_for_wasm(made):
-    run(clang(), f"--target={WASM64}", *WASM_FEATURES, "-mbulk-memory", "--no-default-config", "-std=gnu11", "-Wall", "-Wextra", "-Werror", "-O2", "-ffreestanding",
-        "-fno-builtin", "-ffunction-sections", "-c", PORTS / "wasm/memory.c", "-o", made / "memory.o")
-    return made / "memory.o"
+def c_for_wasm(made):
+    """Compiles what a module has of C: memory, memset and its kin, and products and shifts of 128 bits."""
+    words = [f"--target={WASM64}", *WASM_FEATURES, "-mbulk-memory", "--no-default-config", "-std=gnu11", "-Wall", "-Wextra", "-Werror", "-O2", "-ffreestanding", "-fno-builtin"]
+    for folder in (EMSCRIPTEN, EMSCRIPTEN / "libc/musl/include", EMSCRIPTEN / "libc/musl/arch/emscripten"):
+        words += ["-isystem", folder]
+    sources = [PORTS / "wasm/heap.c", PORTS / "wasm/bytes.c", *[EMSCRIPTEN / f"compiler-rt/lib/builtins/{it}.c" for it in ("multi3", "ashlti3", "lshrti3")]]
+    for source in sources:
+        run(clang(), *words, "-ffunction-sections", "-c", source, "-o", made / f"{source.stem}.o")
+    return [made / f"{it.stem}.o" for it in sources]
 
 
 def link_wasm(made, objects, names, imports, to):
@@ -132,46 +131,29 @@ def link_wasm(made, objects, names, imports, to):
         *[f"--export={it}" for it in names], "-o", to, *objects)
 
 
-def lower(wasm64, to):
-    """Gives a module a memory of 32-bit addresses. Its functions still take and return pointers of 64 bits."""
-    run("wasm-opt", "--enable-memory64", "--enable-bulk-memory", "--enable-sign-ext", "--enable-mutable-globals", "--memory64-lowering", wasm64, "-o", to)
-    wasm = to.read_bytes()
-    if len(wasm) < 1000 or wasm[:8] != b"\0asm\1\0\0\0":
-        sys.exit(f"{to} is no module")
+def for_wasm(crate, made, kept):
+    """Makes a module of 64-bit memory, and of it one of 32-bit addresses, whose functions still take and return pointers of 64 bits."""
+    at, name = fresh(made / "parts" / crate), crate.removesuffix("_c")
+    proved = module.compile_module(kept, at, WASM64, *WASM_FEATURES, "-mno-bulk-memory")
+    names, imports = (["malloc", "free", *exports()], False) if crate == "littlefs_c" else (["main"], True)
+    link_wasm(at, [proved, *c_for_wasm(at)], names, imports, made / f"{name}64.wasm")
+    run("wasm-opt", "--enable-memory64", "--enable-bulk-memory", "--enable-sign-ext", "--enable-mutable-globals", "--memory64-lowering", made / f"{name}64.wasm",
+        "-o", made / f"{name}.wasm")
 
 
-def module_for_wasm(name, names, imports):
-    """Returns what builds a module that exports these names."""
-    def build(made, kept):
-        at = fresh(made / name)
-        proved = module.compile_module(kept, at, WASM64, *WASM_FEATURES, "-mno-bulk-memory")
-        link_wasm(at, [proved, memory_for_wasm(at)], names, imports, made / f"{name}64.wasm")
-        lower(made / f"{name}64.wasm", made / f"{name}.wasm")
-    return build
-
-
-BUILDS = {
-    "x86_64": {"littlefs_c": library_for_x86_64, "mklittlefs": tool_for_x86_64},
-    "aarch64": {"littlefs_c": library_for_aarch64, "mklittlefs": tool_for_aarch64},
-    "wasm": {"littlefs_c": module_for_wasm("littlefs", ["malloc", "free", *exports()], False), "mklittlefs": module_for_wasm("mklittlefs", ["main"], True)},
-    "windows": {"littlefs_c": library_for_windows},
-}
+BUILDS = {"x86_64": for_x86_64, "aarch64": for_aarch64, "wasm": for_wasm, "windows": for_windows}
 
 
 def main():
     parser = argparse.ArgumentParser(usage=__doc__.split("usage: ")[1].split("\n")[0])
     parser.add_argument("which", nargs="*", choices=[[], *BUILDS])
-    parser.add_argument("--crate", choices=CRATES)
-    parser.add_argument("--out", type=Path, default=PORTS / "out")
-    given = parser.parse_args()
-    out = given.out.resolve()
-    for crate in [given.crate] if given.crate else CRATES:
-        if not is_kept(crate, out):
-            print(f"{crate}: {rattle_words.lift(crate, out / 'kept' / crate)}", flush=True)
-        for name in given.which or BUILDS:
-            if crate in BUILDS[name]:
-                BUILDS[name][crate](fresh(out / name), out / "kept" / crate)
-                print(f"{crate} for {name}: in {out / name}", flush=True)
+    which = parser.parse_args().which or BUILDS
+    for crate in CRATES:
+        if not is_kept(crate):
+            print(f"{crate}: {rattle_words.lift(crate, OUT / 'kept' / crate)}", flush=True)
+        for name in which:
+            BUILDS[name](crate, fresh(OUT / name), OUT / "kept" / crate)
+            print(f"{crate} for {name}: in {OUT / name}", flush=True)
 
 
 if __name__ == "__main__":

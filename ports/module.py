@@ -109,7 +109,6 @@ def clang_words(kept):
 
 def compile_module(kept, made, triple, *words, keeps_probes=False):
     """Compiles what `rattle_words.lift` kept for a machine, by the kit's clang with the words that rattle gave it; returns the object."""
-    made.mkdir(parents=True, exist_ok=True)
     text, to = made / "module.ll", made / "proved.o"
     text.write_text(retargeted((kept / "module.ll").read_text(), triple, keeps_probes))
     subprocess.run([kit() / "toolchain/bin/clang", f"--target={triple}", *clang_words(kept), *words, "-c", "-x", "ir", text, "-o", to], check=True)

@@ -19,46 +19,16 @@ def kit():
     return Path(found).resolve().parent.parent
 
 
-def crates():
-    """Returns the crates of crates.txt: for each its kind and the libraries that it names."""
-    found = {}
-    for line in (TOP / "crates.txt").read_text().splitlines():
-        if line.strip() and not line.startswith("#"):
-            head, _, names = line.partition(":")
-            name, *kind = head.split()
-            found[name] = kind, names.split()
-    return found
-
-
-def below(name, known):
-    """Returns the crates of this repository below one, each after those that it uses."""
-    found = []
-    for dep in known[name][1]:
-        if dep in known:
-            found += [it for it in [*below(dep, known), dep] if it not in found]
-    return found
-
-
-def words_of(name, target):
-    """Returns the words behind `rattle build`, for the folder of the crate. Its libraries have to be built."""
-    known, rlibs = crates(), kit() / "rlibs"
-    kinds, names = known[name]
-    rlib_of = lambda dep: TOP / "crates" / dep / "out" / "rlib" / f"{dep}.rlib"
-    for dep in below(name, known):
-        if not rlib_of(dep).is_dir():
-            sys.exit(f"crates/{dep} isn't built: run `rt {'lib' if 'staticlib' in kinds else 'run'}` in crates/{name}")
-    is_program = (TOP / "crates" / name / "src" / "main.rt").is_file()
-    words = ["--crate-name", name, "src/main.rt" if is_program else "src/lib.rt"]
-    for dep in ["std", *[it for it in names if it not in known]]:
-        words += ["--extern", f"{dep}={rlibs / dep}.rlib"]
-    words += ["-L", f"dependency={rlibs}"]
-    for dep in [it for it in names if it in known]:
-        words += ["--extern", f"{dep}={rlib_of(dep)}"]
-    for dep in below(name, known):
-        words += ["-L", f"dependency={rlib_of(dep).parent}"]
-    words += ["--antt-project", str(kit() / "rattle/logic/antt-project.json"), "--logic-built", str(kit() / "logic_built")]
-    words += ["--jobs", os.environ.get("JOBS", "1"), "--links", f"{name}={'c' * (TOP / 'crates' / name / 'c').is_dir()}", "--target", target, "--backend", "llvm"]
-    return words + ["--crate-type", "staticlib"] * ("staticlib" in kinds)
+def words_of(name):
+    """Returns the words that rt gives `rattle build` for a crate, and whether it is a static library. What it uses has to be built."""
+    sys.dont_write_bytecode, os.environ["RT_ALLOW_C"] = True, name
+    sys.path.append(str(kit() / "bin"))
+    import rtlib
+    crate = rtlib.Crate(str(TOP / "crates" / name), str(TOP), {})
+    missing = [it.name for it in crate.below() if not os.path.isdir(it.rlib)]
+    if missing:
+        sys.exit(f"{', '.join(missing)}: not built. Run `rt {'lib' if crate.is_static else 'run'}` in crates/{name}")
+    return crate.words(["--jobs", os.environ.get("JOBS", "1"), "--target", X86_64, "--backend", "llvm", *rtlib.KEPT]), crate.is_static
 
 
 def toolchain_that_keeps(folder):
@@ -88,13 +58,12 @@ def lift(name, kept):
     Leaves in the folder `kept` the module that clang was given, `module.ll`, clang's `words`, and what clang made of it, `x86_64.o`
     or, of a static library, `x86_64.a`.
     """
-    kept, kinds = Path(kept).resolve(), crates()[name][0]
+    kept = Path(kept).resolve()
     kept.mkdir(parents=True, exist_ok=True)
     for left in ("module.bc", "module.ll", "words"):
         (kept / left).unlink(missing_ok=True)
-    to = kept / ("x86_64.a" if "staticlib" in kinds else "x86_64.o")
-    words = [str(kit() / "bin/rattle"), "build", *words_of(name, X86_64), "--toolchain", str(toolchain_that_keeps(kept))]
-    words += ["--incremental", "out/incremental", "-o", str(to)]
+    words, is_static = words_of(name)
+    words = [kit() / "bin/rattle", "build", *words, "--toolchain", toolchain_that_keeps(kept), "-o", kept / ("x86_64.a" if is_static else "x86_64.o")]
     ran = subprocess.run(words, cwd=TOP / "crates" / name, stdout=subprocess.PIPE, stderr=subprocess.STDOUT, text=True)
     (kept / "log").write_text(ran.stdout)
     verdict = ran.stdout.rstrip().rpartition("\n")[2]

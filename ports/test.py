@@ -1,23 +1,23 @@
 #!/usr/bin/env python3
 """Runs what ports/build.py built, compared with the proved program for x86-64: the same words have to give the same bytes.
 
-usage: ports/test.py [--folders N] [--images N] [--seed WORD] [--out FOLDER] [--times]
+usage: ports/test.py [--folders N] [--images N] [--seed WORD] [--times]
 
-- bindings/c/example.c and flash.c, with the static library for each machine and with the DLL: what they print, and the files that they leave;
-- mklittlefs for each machine and in Node, on N random folders: -c, -l, -u, --check, --cat, --put, --remove, --mkdir, --json, and words that
-  are refused: status, both streams, images and unpacked trees are compared with those of crates/mklittlefs/out/mklittlefs;
-- calls.c: 30 random calls on each of N images, of which some are damaged, by each library and by both modules in Node: each answer, what
-  is put into a buffer, and all bytes at the end are compared with those of the library for x86-64;
+- bindings/c/example.c and flash.c, with each library: what they print, and the files that they leave;
+- mklittlefs for each machine and in Node, on N random folders, all its modes: status, both streams, images and unpacked trees;
+- calls.c: 30 random calls on each of N images, of which some are damaged, by each library, and by both modules in Node: each answer, what
+  is put into a buffer, and all bytes at the end;
 - bindings/js: its own tests, and the rows of bench/program_lines.py in Node;
-- the allocator of the modules, natively.
+- memset and its kin of the modules, natively.
 
-AArch64 programs run under qemu-aarch64-static, those for Windows under wine64. With --times it prints instead how long the same work takes natively and by the modules.
+With --times it prints instead how long the same work takes natively and by the modules.
 """
 
 import argparse
 import os
 from pathlib import Path
 import random
+import re
 import shutil
 import subprocess
 import sys
@@ -29,17 +29,20 @@ import image_maker
 import profiles
 import program_lines
 
-JS = TOP / "bindings/js"
-NATIVE = TOP / "crates/mklittlefs/out/mklittlefs"
+OUT, JS = TOP / "ports/out", TOP / "bindings/js"
 RUNS = {"x86_64": [], "aarch64": ["qemu-aarch64-static"], "windows": ["/usr/lib/wine/wine64"]}
 COMPILERS = {"x86_64": ["gcc"], "aarch64": ["aarch64-linux-gnu-gcc"], "windows": ["x86_64-w64-mingw32-gcc", "-D__USE_MINGW_ANSI_STDIO=1"]}
+LIBRARIES = [*[(machine, "liblittlefs_c.a") for machine in RUNS], ("windows", "liblittlefs_c.dll.a")]
 MODULES = {"littlefs.wasm": ["node"], "littlefs64.wasm": ["node", "--experimental-wasm-memory64"]}
 SIZES = [(1024, 128, 64), (1024, 8, 96), (2048, 256, 40), (4096, 256, 16), (4096, 512, 48), (65536, 512, 4)]
 NAMES = ["a", "ab", "b", "settings.json", "log", "today.csv", "name with space", "caf\u00e9", "back\\slash", "x" * 60, ".hidden", "\u6f22\u5b57"]
-# Node has no locks, so no leftover of another run is removed; and it needs more memory itself than that row grants
-LINUX_ALONE = ["-c files image", "a file that is too big, in little memory"]
+ENTRIES = [b"a", b"b", b"ab", b"name with space", b"\\", b"caf\xc3\xa9", b"\xff\x01", b"z", b"x" * 255, b"x" * 256]
+ODD = [b"", b"a", b"//a", b"/a/", b"/"]
+CALLS = ["write"] * 4 + ["append", "mkdir", "remove", "rename"] * 2 + ["setAttribute", "getAttribute", "removeAttribute", "list", "read", "usedBlocks", "recover"]
 OPTIONS = [[], ["-b", "8192"], ["-b", "1024", "-p", "128"], ["--board", "esp32"], ["--inline-max", "64"], ["--order", "shorter-first"], ["--times"],
            ["--name-max", "32"], ["--exclude", "*.csv"]]
+# Node has no locks, so no leftover of another run is removed; and it needs more memory itself than that row grants
+LINUX_ALONE = ["-c files image", "a file that is too big, in little memory"]
 
 
 def same(what, got, wanted):
@@ -52,38 +55,27 @@ def ran(words, **how):
     return done.returncode, done.stdout, done.stderr
 
 
-def fresh(folder):
-    shutil.rmtree(folder, ignore_errors=True)
-    folder.mkdir()
-    return folder
-
-
-def compiled(out, machine, source, work, library="liblittlefs_c.a"):
+def compiled(source, machine, library, work):
     """Returns the words that run a program of C for a machine, with its library."""
     to = work / f"{source.stem}-{machine}-{library}.exe"
     words = [*COMPILERS[machine], "-std=c11", "-Wall", "-Wextra", "-Werror", "-O2", *["-static"] * library.endswith("_c.a"), f"-I{TOP / 'bindings/c'}", "-o", to]
-    subprocess.run([str(it) for it in [*words, source, out / machine / library]], check=True)
+    subprocess.run([str(it) for it in [*words, source, OUT / machine / library]], check=True)
     return [*RUNS[machine], to]
 
 
-def builds(out, work):
-    """Returns the machines, each with its libraries; the DLL is put where programs find it."""
-    shutil.copy(out / "windows/littlefs_c.dll", work)
-    return [*[(machine, "liblittlefs_c.a") for machine in RUNS], ("windows", "liblittlefs_c.dll.a")]
-
-
-def library(out, work):
+def library(work):
     for name in ("example", "flash"):
         wanted = None
-        for machine, library in builds(out, work):
-            program, image = compiled(out, machine, TOP / "bindings/c" / f"{name}.c", work, library), work / f"{name}-{machine}-{library}.img"
+        for machine, library in LIBRARIES:
+            program, image = compiled(TOP / f"bindings/c/{name}.c", machine, library, work), work / f"{name}-{machine}-{library}.img"
             runs = [ran([*program, image.name], cwd=work)[:2] for _ in range(2)]
-            found = [[status, text.replace(b"\r\n", b"\n")] for status, text in runs], image.read_bytes()
+            found = [(status, text.replace(b"\r\n", b"\n")) for status, text in runs], image.read_bytes()
             wanted = wanted or found
-            same(f"{name} for {machine}, {library}", found, wanted)
-        same(f"{name}'s status", wanted[0][0][0], 0)
-    print(f"example, flash: the same for {', '.join(RUNS)}, and with the DLL")
+            same(f"{name} for {machine}, {library}", [runs[0][0], found], [0, wanted])
+    print(f"example, flash: the same for {', '.join(RUNS)}, and with the DLL", flush=True)
 
+
+# ---- the tool
 
 def tree(folder, has_times):
     """What is in a folder, or None where there is none."""
@@ -123,84 +115,126 @@ def session(rnd, folder, work):
     ]
 
 
-def tool(out, work, rnd, count):
-    programs = {"proved": [NATIVE], **{machine: [*RUNS[machine], out / machine / "mklittlefs"] for machine in ("x86_64", "aarch64")}, "node": ["node", JS / "mklittlefs.js"]}
+def tool(work, rnd, count):
+    programs = {"proved": [TOP / "crates/mklittlefs/out/mklittlefs"], **{machine: [*RUNS[machine], OUT / machine / "mklittlefs"] for machine in ("x86_64", "aarch64")},
+                "node": ["node", JS / "mklittlefs.js"]}
     runs = images = 0
     for number in range(count):
         folder = work / f"folder{number}"
         make_folder(rnd, folder)
-        words, found = session(rnd, folder, work), {}
+        words, wanted = session(rnd, folder, work), None
         for name, program in programs.items():
-            at = fresh(work / name)
-            found[name] = []
+            at, found = work / f"{name}{number}", []
+            at.mkdir()
             for line in words:
-                done = ran([*program, *line], cwd=at)
-                found[name].append([line, *done, tree(at / "unpacked", "--times" in words[5]), (at / "disk.img").read_bytes() if (at / "disk.img").exists() else None])
-        for name in list(programs)[1:]:
-            for got, wanted in zip(found[name], found["proved"]):
-                same(f"mklittlefs for {name}, folder {number}, {' '.join(got[0])}", got[1:], wanted[1:])
-        runs, images = runs + len(words), images + (found["proved"][0][1] == 0)
-    print(f"mklittlefs: {count} folders, {images} images made, {runs} runs, the same by {', '.join(list(programs)[1:])}")
+                done, image = ran([*program, *line], cwd=at), at / "disk.img"
+                found.append([line, *done, tree(at / "unpacked", "--times" in words[5]), image.read_bytes() if image.exists() else None])
+            wanted = wanted or found
+            for got, it in zip(found, wanted):
+                same(f"mklittlefs for {name}, folder {number}, {' '.join(got[0])}", got[1:], it[1:])
+        runs, images = runs + len(words), images + (wanted[0][1] == 0)
+        for at in work.glob(f"*{number}"):
+            shutil.rmtree(at)
+    print(f"mklittlefs: {count} folders, {images} images made, {runs} runs, the same by {', '.join(list(programs)[1:])}", flush=True)
 
 
-def times(out, work):
-    """Prints the middle of three runs: natively, and by each module when its engine has compiled it, and at first."""
-    programs = {"native": compiled(out, "x86_64", TOP / "ports/times.c", work)}
-    programs |= {name: [*words, JS / "test/times.mjs", out / "wasm" / name] for name, words in MODULES.items()}
-    shown = {}
-    for name, words in programs.items():
-        each = [[line.split() for line in ran(words)[1].decode().splitlines()] for _ in range(3)]
-        for at, column in enumerate([name, f"{name} at first"][: len(each[0][0]) - 1], 1):
-            shown[column] = {rows[0][0]: sorted(float(it[at]) for it in rows)[1] for rows in zip(*each)}
-    print("| milliseconds | " + " | ".join(shown) + " |\n|---|" + "---|" * len(shown))
-    for what in shown["native"]:
-        print(f"| {what} | " + " | ".join(f"{it[what]:.1f}" for it in shown.values()) + " |")
+# ---- calls on images
+
+def line_of(what, path=b"", other=b"", *numbers):
+    """A line as calls.c reads it."""
+    return " ".join([what, path.hex() or "-", other.hex() or "-", *map(str, (numbers + (0,) * 5)[:5])])
 
 
-def make_images(work, rnd, count):
-    """Makes images, every second one empty and some of the others damaged; returns the list that calls.c reads."""
-    lines = []
-    for number in range(count):
-        if number % 2:
-            block, page, blocks = rnd.choice(SIZES)
-            lines.append(f"{block} {page} {rnd.randrange(2)} 0 {blocks} -")
-            continue
-        also_2_1 = rnd.random() < 0.3
-        plan, _ = image_maker.random_plan(rnd, profile=profiles.Profile(versions=(profiles.TWO_ZERO, profiles.TWO_ONE)) if also_2_1 else profiles.DEFAULT)
-        image = bytearray(plan.image())
+def some_path(rnd, files, folders, is_made):
+    """A path that may be there, or may be made, or none that is well formed."""
+    if rnd.random() < 0.05:
+        return rnd.choice(ODD)
+    return rnd.choice(folders) + b"/" + rnd.choice(ENTRIES) if rnd.random() < (0.7 if is_made else 0.1) else rnd.choice([*files, *folders]) or b"/"
+
+
+def lines_of(number, rnd, work):
+    """An image, made or of a file that is damaged or not; 30 calls on it, and what it is then."""
+    (block, page, blocks), versions, image, files, folders = rnd.choice(SIZES), rnd.randrange(2), b"", [], [b""]
+    if number % 2 == 0:
+        accepted = profiles.Profile(versions=(profiles.TWO_ZERO, profiles.TWO_ONE)[: 1 + versions])
+        plan, shown = image_maker.random_plan(rnd, profile=accepted)
+        block, page, blocks, image = plan.block_size, plan.page, 0, b"image%d" % number
+        for line in shown.splitlines():
+            kind, _, path = line.split(b" ", 2)
+            (folders if kind == b"d" else files).append(re.sub(rb"\\x(..)", lambda it: bytes.fromhex(it[1].decode()), path))
+        data = bytearray(plan.image())
         for _ in range(rnd.choice([1, 3, 20]) if rnd.random() < 0.3 else 0):
             at = rnd.choice([0, plan.block_size]) + rnd.randrange(64)  # in the superblock's pair
-            image[rnd.choice([at, rnd.randrange(len(image))])] ^= 1 << rnd.randrange(8)
-        (work / f"image{number}").write_bytes(image)
-        lines.append(f"{plan.block_size} {plan.page} 0 {int(also_2_1)} 0 image{number}")
+            data[rnd.choice([at, rnd.randrange(len(data))])] ^= 1 << rnd.randrange(8)
+        (work / image.decode()).write_bytes(data)
+    yield line_of("image", image, b"", block, page, versions, rnd.randrange(2), blocks)
+    for _ in range(30):
+        what, size = rnd.choice(CALLS), rnd.choice([0, 1, 30, 200, 600, 1500, 3000, 20000]) if rnd.random() < 0.9 else 200000
+        path, other = some_path(rnd, files, folders, what in ("write", "append", "mkdir")), some_path(rnd, files, folders, True)
+        yield line_of(what, path, other, rnd.randrange(4), size % 1501 if what == "setAttribute" else size)
+        if path not in ODD:
+            (folders if what == "mkdir" else files).append(path)
+    yield line_of("bytes")
+
+
+def answers(work, lines, libraries, *more):
+    """What each library and both modules print for lines of calls, by their names."""
     (work / "list").write_text("\n".join(lines) + "\n")
-    return work / "list"
+    programs = {f"{machine}, {library}": compiled(TOP / "ports/calls.c", machine, library, work) for machine, library in libraries}
+    programs |= {name: [*words, JS / "test/calls.mjs", OUT / "wasm" / name] for name, words in MODULES.items()}
+    for name, words in programs.items():
+        status, found, errors = ran([*words, "list", *more], cwd=work)
+        same(f"calls for {name}: status, with {errors.decode()!r}", status, 0)
+        yield name, found.decode().splitlines()
 
 
-def calls(out, work, rnd, count):
-    images, lines, wanted = make_images(work, rnd, count), work / "lines", None
-    for machine, library in builds(out, work):
-        _, found, errors = ran([*compiled(out, machine, TOP / "ports/calls.c", work, library), images.name], cwd=work)
-        found = found.replace(b"\r\n", b"\n").splitlines()
-        wanted = wanted or found
-        differs = next((at for at, pair in enumerate(zip(found, wanted)) if pair[0] != pair[1]), min(len(found), len(wanted)))
-        same(f"calls for {machine}, {library}, line {differs + 1} {errors}", found[differs : differs + 1], wanted[differs : differs + 1])
-    lines.write_bytes(b"\n".join(wanted))
-    print(f"calls: {count} images, {len(wanted)} answers and parts of images, the same for {', '.join(RUNS)}, and with the DLL", flush=True)
-    for name, words in MODULES.items():
-        subprocess.run([*words, JS / "test/replay.mjs", images, lines, out / "wasm" / name], check=True)
+def calls(work, rnd, count):
+    lines = [line for number in range(count) for line in lines_of(number, rnd, work)]
+    found = dict(answers(work, lines, LIBRARIES))
+    wanted = next(iter(found.values()))
+    for name, theirs in found.items():
+        same(f"calls for {name}: lines", len(theirs), len(lines))
+        for number, pair in enumerate(zip(theirs, wanted)):
+            same(f"calls for {name}, line {number + 1}: {lines[number]}", *pair)
+    all = [(line.split()[0], int(it.split()[0])) for line, it in zip(lines, wanted)]
+    made = [answer for what, answer in all if what not in ("image", "bytes") and answer != -77]
+    print(f"calls: {count} images, {sum(what == 'image' and answer < 0 for what, answer in all)} refused; {len(made)} calls, {sum(it < 0 for it in made)} refused; "
+          f"the same by {'; '.join(found)}", flush=True)
 
+
+def work_of_times():
+    """What is done for `--times`, by parts: an image of 8 MiB, and what is measured of it."""
+    files = [b"/folder%d/file%d" % (at // 50, at % 50) for at in range(500)]
+    yield None, [line_of("image", b"", b"", 4096, 256, 0, 0, 2048)]
+    yield "500 files of up to 4,900 bytes in 10 folders", [*[line_of("mkdir", b"/folder%d" % at) for at in range(10)], *[line_of("write", it, b"", 0, 100 * (at % 50)) for at, it in enumerate(files)]]
+    yield "a file of 1 MiB", [line_of("write", b"/large", b"", 0, 1 << 20)]
+    yield "1,000 appends of 100 bytes, each closed", [line_of("append", b"/log", b"", 0, 100)] * 1000
+    yield "reads of all these", [line_of("read", it, b"", 0, 1 << 20) for it in [*files, b"/large"]]
+    yield None, [line_of("bytes")]
+    yield "10 mounts", [line_of("image", b"", b"", 4096, 256)] * 10
+
+
+def times(work):
+    """Prints the middle of the last twenty of sixty rounds, and the first, while an engine compiles what it runs."""
+    parts = list(work_of_times())
+    lines = [line for _ in range(60) for _, lines in parts for line in [*lines, line_of("time")]]
+    found = {name: [float(it) for it in them] for name, them in answers(work, lines, LIBRARIES[:1], "times")}
+    print("| milliseconds | " + " | ".join(f"{name} | at first" for name in found) + " |\n|---|" + "---|---|" * len(found))
+    for at, (part, _) in enumerate(parts):
+        if part:
+            rows = [them[at :: len(parts)] for them in found.values()]
+            print(f"| {part} | " + " | ".join(f"{sorted(it[-20:])[10]:.1f} | {it[0]:.1f}" for it in rows) + " |")
+
+
+# ---- scripts
 
 def scripts(work):
     subprocess.run(["node", "--test", "--test-reporter=dot", "test/image.test.mjs"], cwd=JS, check=True)
     rows = [*program_lines.tool_rows(str(JS / "mklittlefs.js"), str(work))]
     same("the rows of bench/program_lines.py that differ in Node", [[what, came] for what, came, wanted in rows if came != wanted and what not in LINUX_ALONE], [])
-    print(f"mklittlefs in Node: {len(rows)} rows of bench/program_lines.py, {len(LINUX_ALONE)} of which need what Linux alone has")
-
-
-def allocator(work):
-    program = work / "test_memory"
-    subprocess.run(["gcc", "-O1", '-DHEAP_IN="test_memory.h"', "-fsanitize=undefined", "-fno-sanitize-recover", "-o", program, TOP / "ports/wasm/test_memory.c"], check=True)
+    print(f"mklittlefs in Node: {len(rows)} rows of bench/program_lines.py, {len(LINUX_ALONE)} of which need what Linux alone has", flush=True)
+    program = work / "test_bytes"
+    subprocess.run(["gcc", "-O1", "-fsanitize=undefined", "-fno-sanitize-recover", "-o", program, TOP / "ports/wasm/test_bytes.c"], check=True)
     subprocess.run([program], check=True)
 
 
@@ -209,20 +243,20 @@ def main():
     parser.add_argument("--folders", type=int, default=10)
     parser.add_argument("--images", type=int, default=100)
     parser.add_argument("--seed", default="1")
-    parser.add_argument("--out", type=Path, default=TOP / "ports/out")
     parser.add_argument("--times", action="store_true")
     given = parser.parse_args()
     with tempfile.TemporaryDirectory() as folder:
-        work, out = Path(folder), given.out.resolve()
+        work = Path(folder)
         if given.times:
-            return times(out, work)
+            return times(work)
         for name in ("littlefs.wasm", "mklittlefs.wasm"):
-            shutil.copy(out / "wasm" / name, JS)
-        library(out, work)
-        tool(out, work, random.Random(given.seed), given.folders)
-        calls(out, work, random.Random(given.seed), given.images)
-        scripts(fresh(work / "rows"))
-        allocator(work)
+            shutil.copy(OUT / "wasm" / name, JS)
+        shutil.copy(OUT / "windows/littlefs_c.dll", work)
+        library(work)
+        tool(work, random.Random(given.seed), given.folders)
+        calls(work, random.Random(given.seed), given.images)
+        (work / "rows").mkdir()
+        scripts(work / "rows")
 
 
 if __name__ == "__main__":

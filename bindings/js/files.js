@@ -1,18 +1,15 @@
 // Node's files and standard streams, as system.js asks for them. Paths are bytes, so a name that isn't UTF-8 stays what it is.
 import fs from "node:fs";
 import tty from "node:tty";
-import { refusal } from "./system.js";
+import { fail } from "./system.js";
 
-const { O_RDONLY, O_WRONLY, O_RDWR, O_CREAT, O_EXCL, O_TRUNC, O_APPEND, S_IFMT, S_IFLNK, S_IFDIR } = fs.constants;
+const { O_RDONLY, O_WRONLY, O_RDWR, O_CREAT, O_EXCL, O_TRUNC, O_APPEND, S_IFMT, S_IFDIR } = fs.constants;
 // Linux's flags, which other systems number in another way
 const FLAGS = [[0o1, O_WRONLY], [0o2, O_RDWR], [0o100, O_CREAT], [0o200, O_EXCL], [0o1000, O_TRUNC], [0o2000, O_APPEND]];
+const EXACT = { bigint: true };
 
 const named = (path) => (path.length ? Buffer.from(path) : fail("ENOENT"));
 const isFolder = (found) => (Number(found.mode) & S_IFMT) === S_IFDIR;
-
-function fail(code) {
-  throw refusal(code);
-}
 
 /** Does it again until the system is ready: Node opens some pipes and terminals so that they don't wait. */
 function waiting(run) {
@@ -27,29 +24,39 @@ function waiting(run) {
   }
 }
 
-class File {
-  constructor(number) {
+/** What is open: a file by its number, or a folder by its path, since not each system opens one. */
+class Opened {
+  constructor(number, path) {
     this.number = number;
+    this.path = path;
+    if (path) this.list = () => fs.readdirSync(named(path), { encoding: "buffer" });
   }
 
   get isTerminal() {
-    return tty.isatty(this.number);
+    return !this.path && tty.isatty(this.number);
   }
 
   read(room, position) {
-    return waiting(() => fs.readSync(this.number, room, 0, room.length, position));
+    return this.path ? fail("EISDIR") : waiting(() => fs.readSync(this.number, room, 0, room.length, position));
   }
 
   write(bytes) {
-    return waiting(() => fs.writeSync(this.number, bytes));
+    return this.path ? fail("EBADF") : waiting(() => fs.writeSync(this.number, bytes));
   }
 
   stat() {
-    return fs.fstatSync(this.number, { bigint: true });
+    return this.path ? fs.statSync(named(this.path), EXACT) : fs.fstatSync(this.number, EXACT);
   }
 
+  /** Has the bytes on the disk, or a folder's names if the system can. */
   sync() {
-    fs.fsyncSync(this.number);
+    if (this.path && process.platform === "win32") return;
+    const number = this.path ? fs.openSync(named(this.path), O_RDONLY) : this.number;
+    try {
+      fs.fsyncSync(number);
+    } finally {
+      if (this.path) fs.closeSync(number);
+    }
   }
 
   truncate(size) {
@@ -61,85 +68,30 @@ class File {
   }
 
   setTimes(read, changed) {
-    const now = read === undefined || changed === undefined ? fs.fstatSync(this.number) : {};
-    fs.futimesSync(this.number, read ?? now.atimeMs / 1000, changed ?? now.mtimeMs / 1000);
+    const now = this.stat(), [set, at] = this.path ? [fs.utimesSync, named(this.path)] : [fs.futimesSync, this.number];
+    set(at, read ?? Number(now.atimeNs) / 1e9, changed ?? Number(now.mtimeNs) / 1e9);
   }
 
   close() {
-    fs.closeSync(this.number);
+    if (!this.path) fs.closeSync(this.number);
   }
 }
-
-/** An open folder: its path, since not each system opens one. */
-class Folder {
-  constructor(path) {
-    this.path = path;
-  }
-
-  read() {
-    fail("EISDIR");
-  }
-
-  write() {
-    fail("EBADF");
-  }
-
-  list() {
-    return fs.readdirSync(named(this.path), { encoding: "buffer" });
-  }
-
-  stat() {
-    return fs.statSync(named(this.path), { bigint: true });
-  }
-
-  /** Has the folder's names on the disk, if the system can. */
-  sync() {
-    if (process.platform === "win32") return;
-    const number = fs.openSync(named(this.path), O_RDONLY);
-    try {
-      fs.fsyncSync(number);
-    } finally {
-      fs.closeSync(number);
-    }
-  }
-
-  setTimes(read, changed) {
-    const now = fs.statSync(named(this.path));
-    fs.utimesSync(named(this.path), read ?? now.atimeMs / 1000, changed ?? now.mtimeMs / 1000);
-  }
-}
-
-const files = {
-  open(path, flags, mode) {
-    const given = FLAGS.reduce((sum, [theirs, ours]) => (flags & theirs ? sum | ours : sum), O_RDONLY);
-    const found = fs.statSync(named(path), { throwIfNoEntry: false });
-    if (found && isFolder(found)) return flags & 0o303 ? fail(flags & 0o200 ? "EEXIST" : "EISDIR") : new Folder(path);
-    return new File(fs.openSync(named(path), given, mode));
-  },
-
-  openFolder(path) {
-    const found = files.stat(path, false);
-    if (!isFolder(found)) fail("ENOTDIR");
-    return new Folder(path);
-  },
-
-  /** With a slash at the end a link is followed, as everywhere on Linux. */
-  stat(path, follows) {
-    return follows || path.at(-1) === 0x2f ? fs.statSync(named(path), { bigint: true }) : fs.lstatSync(named(path), { bigint: true });
-  },
-
-  mkdir(path, mode) {
-    fs.mkdirSync(named(path), { mode });
-  },
-
-  unlink(path) {
-    fs.unlinkSync(named(path));
-  },
-
-  rename(from, to) {
-    fs.renameSync(named(from), named(to));
-  },
-};
 
 /** What system.js asks for, of Node. */
-export const host = { files, stream: (number) => new File(number) };
+export const host = {
+  stream: (number) => new Opened(number),
+
+  open(path, flags, mode) {
+    const found = fs.statSync(named(path), { throwIfNoEntry: false });
+    if (found && isFolder(found)) return flags & 0o303 ? fail(flags & 0o200 ? "EEXIST" : "EISDIR") : new Opened(null, path);
+    return new Opened(fs.openSync(named(path), FLAGS.reduce((sum, [theirs, ours]) => (flags & theirs ? sum | ours : sum), O_RDONLY), mode));
+  },
+
+  openFolder: (path) => (isFolder(host.stat(path, false)) ? new Opened(null, path) : fail("ENOTDIR")),
+
+  /** With a slash at the end a link is followed, as everywhere on Linux. */
+  stat: (path, follows) => (follows || path.at(-1) === 0x2f ? fs.statSync : fs.lstatSync)(named(path), EXACT),
+  mkdir: (path, mode) => void fs.mkdirSync(named(path), { mode }),
+  unlink: (path) => fs.unlinkSync(named(path)),
+  rename: (from, to) => fs.renameSync(named(from), named(to)),
+};

@@ -1,11 +1,7 @@
 // Files and folders in memory, which are only read, and standard streams, as system.js asks for them: what a page lends the program.
-import { refusal } from "./system.js";
+import { fail } from "./system.js";
 
 const FOLDER = 0o040755, FILE = 0o100644, WRITES = 0o1103;
-
-function fail(code) {
-  throw refusal(code);
-}
 
 /** A path's names, as text with a letter for each byte. */
 const namesOf = (path) => Array.from(path, (byte) => String.fromCharCode(byte)).join("").split("/").filter((it) => it && it !== ".");
@@ -43,11 +39,7 @@ class Written {
 
   get all() {
     const all = new Uint8Array(this.#parts.reduce((sum, it) => sum + it.length, 0));
-    let at = 0;
-    for (const part of this.#parts) {
-      all.set(part, at);
-      at += part.length;
-    }
+    this.#parts.reduce((at, part) => (all.set(part, at), at + part.length), 0);
     return all;
   }
 
@@ -56,16 +48,12 @@ class Written {
     return bytes.length;
   }
 
-  stat() {
-    return { mode: FILE, size: 0 };
-  }
-
+  stat = () => ({ mode: FILE, size: 0 });
   sync() {}
 }
 
 /** A host whose files and streams are in memory. `output` is what the program has written, and `errors` its messages. */
 export class MemoryHost {
-  files = this;
   #top = node(new Map());
   #streams;
 
@@ -101,19 +89,14 @@ export class MemoryHost {
     return namesOf(path).reduce((at, name) => (at.inside ?? fail("ENOTDIR")).get(name) ?? fail("ENOENT"), this.#top);
   }
 
-  open(path, flags) {
-    return flags & WRITES ? fail("EROFS") : new Opened(this.#find(path), path);
-  }
+  open = (path, flags) => (flags & WRITES ? fail("EROFS") : new Opened(this.#find(path), path));
 
   openFolder(path) {
     const found = this.#find(path);
     return found.inside ? new Opened(found, path) : fail("ENOTDIR");
   }
 
-  stat(path) {
-    return new Opened(this.#find(path)).stat();
-  }
-
+  stat = (path) => new Opened(this.#find(path)).stat();
   mkdir = () => fail("EROFS");
   unlink = () => fail("EROFS");
   rename = () => fail("EROFS");

@@ -1,7 +1,7 @@
 // What the program mklittlefs calls of a system, by JavaScript: its words, standard streams, and files that a host lends it.
 //
-// The calls and their numbers are those of Linux, for which the program is written. `files` has what they need of folders and files:
-// files.js in Node, and memory_files.js in a page. An error is thrown with a `code` such as "ENOENT".
+// The calls and their numbers are those of Linux, for which the program is written. A host has what they need of folders and files:
+// files.js in Node, and memory_files.js in a page. It throws an error with a `code` such as "ENOENT".
 
 const ERRORS = {
   EPERM: [1, "Operation not permitted"], ENOENT: [2, "No such file or directory"], EINTR: [4, "Interrupted system call"], EIO: [5, "Input/output error"],
@@ -19,10 +19,12 @@ const HERE = -100, EMPTY_PATH = 0x1000, NO_FOLLOW = 0x100; // of statx
 const NOW = 0x3fffffffn, OMIT = 0x3ffffffen; // of futimens
 const SLASH = 0x2f;
 
-/** An error as the calls of `files` throw it. */
-export const refusal = (code) => Object.assign(new Error(code), { code });
+/** Throws an error as a host does. */
+export function fail(code) {
+  throw Object.assign(new Error(code), { code });
+}
 
-/** A run of the program: its words, its environment, and `host`, which has `read`, `write`, `isTerminal` and `stat` of standard streams, and `files`. */
+/** A run of the program: its words, its environment, and its host. */
 export class System {
   #bytes;
   #opened = new Map();
@@ -89,9 +91,7 @@ export class System {
 
   #file(number) {
     if (number >= 0 && number <= 2) return this.#host.stream(number);
-    const file = this.#opened.get(number);
-    if (!file) throw refusal("EBADF");
-    return file;
+    return this.#opened.get(number) ?? fail("EBADF");
   }
 
   #open(file) {
@@ -150,11 +150,11 @@ export class System {
 
   open(path, flags, rest) {
     const mode = flags & 0o100 ? this.#view(rest, 4).getUint32(0, true) : 0;
-    return this.#open(this.#host.files.open(this.#path(path), flags, mode));
+    return this.#open(this.#host.open(this.#path(path), flags, mode));
   }
 
   rattle_open_dir_at(folder, name) {
-    return this.#open(this.#host.files.openFolder(this.#from(folder, this.#path(name))));
+    return this.#open(this.#host.openFolder(this.#from(folder, this.#path(name))));
   }
 
   close(number) {
@@ -176,24 +176,16 @@ export class System {
   }
 
   isatty(number) {
-    if (!this.#file(number).isTerminal) throw refusal("EINVAL");
+    if (!this.#file(number).isTerminal) fail("EINVAL");
     return 1;
   }
 
-  fsync(number) {
-    this.#file(number).sync();
-  }
-
-  fdatasync(number) {
-    this.#file(number).sync();
-  }
-
-  ftruncate(number, size) {
-    this.#file(number).truncate(Number(size));
-  }
-
-  fchmod(number, mode) {
-    this.#file(number).chmod(mode);
+  static {
+    for (const [name, does] of [["fsync", "sync"], ["fdatasync", "sync"], ["ftruncate", "truncate"], ["fchmod", "chmod"]]) {
+      this.prototype[name] = function (number, ...values) {
+        this.#file(number)[does](...values.map(Number));
+      };
+    }
   }
 
   futimens(number, at) {
@@ -207,24 +199,24 @@ export class System {
 
   /** Without locks the program removes no leftover of another run. */
   flock() {
-    throw refusal("ENOSYS");
+    fail("ENOSYS");
   }
 
   mkdir(path, mode) {
-    this.#host.files.mkdir(this.#path(path), mode);
+    this.#host.mkdir(this.#path(path), mode);
   }
 
   unlink(path) {
-    this.#host.files.unlink(this.#path(path));
+    this.#host.unlink(this.#path(path));
   }
 
   rename(from, to) {
-    this.#host.files.rename(this.#path(from), this.#path(to));
+    this.#host.rename(this.#path(from), this.#path(to));
   }
 
   statx(folder, path, flags, _mask, at) {
     const name = this.#path(path), isOpen = flags & EMPTY_PATH && !name.length;
-    const found = isOpen ? this.#file(folder).stat() : this.#host.files.stat(this.#from(folder, name), !(flags & NO_FOLLOW));
+    const found = isOpen ? this.#file(folder).stat() : this.#host.stat(this.#from(folder, name), !(flags & NO_FOLLOW));
     const view = this.#view(at, 256);
     this.#part(at, 256).fill(0);
     view.setUint32(0, 0x7ff, true);
@@ -245,7 +237,7 @@ export class System {
   /** Puts entries into the buffer as Linux does: a number, an offset, the length, a kind that isn't known, and the name. */
   getdents64(number, at, size) {
     const folder = this.#file(number);
-    if (!folder.list) throw refusal("ENOTDIR");
+    if (!folder.list) fail("ENOTDIR");
     folder.left ??= folder.list();
     const room = Number(size), view = this.#view(at, size);
     let used = 0;
@@ -259,7 +251,7 @@ export class System {
       folder.left.shift();
       used += length;
     }
-    if (!used && folder.left.length) throw refusal("EINVAL");
+    if (!used && folder.left.length) fail("EINVAL");
     return used;
   }
 }

@@ -1,14 +1,6 @@
 #!/usr/bin/python3
-"""Packs what a release gives out into release/out: the same files make the same bytes.
+"""Packs what ports/build.py made into release/out, as README.md here says, with SHA256SUMS."""
 
-usage: release/packages.py [--ports FOLDER] [--out FOLDER]
-
-FOLDER is what ports/build.py made, ports/out. Makes for Linux on x86-64 and AArch64 a tarball, a Debian package and a wheel; for
-Windows a .zip and a wheel; the npm package; the page; and SHA256SUMS. Times of files in them are SOURCE_DATE_EPOCH, or else the time
-of the last commit.
-"""
-
-import argparse
 import email.utils
 import gzip
 import hashlib
@@ -23,11 +15,13 @@ import time
 import zipfile
 
 TOP = Path(__file__).resolve().parent.parent
-sys.path[:0] = [str(TOP / "bindings/python"), str(TOP / "page")]
+sys.path[:0] = [str(TOP / it) for it in ("bindings/python", "page", "ports")]
 import build as page
 import build_wheel
+import rattle_words
 
 NAME, VERSION = "mklittlefs", build_wheel.VERSION
+PORTS, OUT = TOP / "ports/out", TOP / "release/out"
 SHARED = f"liblittlefs_c.so.{VERSION}"
 MACHINES = {"x86_64": ("amd64", "x86_64-linux-gnu"), "aarch64": ("arm64", "aarch64-linux-gnu")}
 MAINTAINER = "littlefs proved developers <nobody@example.org>"  # whoever releases it writes an address here
@@ -37,9 +31,10 @@ COPYRIGHT = """Format: https://www.debian.org/doc/packaging-manuals/copyright-fo
 Files: *
 Copyright: the authors of littlefs, proved
 License: BSD-3-Clause
-Comment: The program is linked with the GNU C Library, which is under the LGPL
- 2.1 or later. mklittlefs.o is the program's own code, to link it with another
- version: cc -static -o mklittlefs mklittlefs.o
+Comment: The program is linked with crates whose licences are in LICENSE, and
+ with the GNU C Library, which is under the LGPL 2.1 or later. mklittlefs.o is
+ the program's own code, to link it with another version:
+ cc -static -o mklittlefs mklittlefs.o
 
 License: BSD-3-Clause
 """
@@ -49,17 +44,23 @@ def output(words):
     return subprocess.run([str(it) for it in words], cwd=TOP, check=True, stdout=subprocess.PIPE).stdout
 
 
-def epoch():
-    return int(os.environ.get("SOURCE_DATE_EPOCH") or output(["git", "log", "-1", "--format=%ct"]))
+WHEN = int(os.environ.get("SOURCE_DATE_EPOCH") or output(["git", "log", "-1", "--format=%ct"]))
+
+
+def licences():
+    """Returns the licence, and those of the kit's crates that are linked, as THIRD_PARTY.md lists them."""
+    others = re.findall(r"^\| `(\w+)`.*?\| `(LICENSE[\w-]*)`", (TOP / "THIRD_PARTY.md").read_text(), re.M)
+    texts = [(TOP / "LICENSE").read_text(), *[f"==== {name}\n\n{(rattle_words.kit() / 'rattle' / name / file).read_text()}" for name, file in others]]
+    return "\n\n".join(texts)
 
 
 def packed(data):
     return gzip.compress(data, 9, mtime=0)
 
 
-def manual(ports):
+def manual():
     """Returns the manual page: what the tool prints for --help."""
-    text = output([ports / "x86_64" / NAME, "--help"]).decode()
+    text = output([PORTS / "x86_64" / NAME, "--help"]).decode()
     lines = [it.replace("\\", "\\e").replace("-", "\\-") for it in text.splitlines()]
     body = "".join(("\\&" if it.startswith((".", "'")) else "") + it + "\n" for it in lines)
     head = f'.TH MKLITTLEFS 1 "" "littlefs, proved {VERSION}" "User Commands"\n.SH NAME\n{NAME} \\- {SUMMARY}\n.SH DESCRIPTION\n.nf\n'
@@ -87,11 +88,12 @@ def for_builds(libdir, shared):
 
 
 def documents(name):
-    return {f"share/doc/{name}/{it}": ((TOP / path / it).read_bytes(), 0o644) for path, it in (("bindings/c", "example.c"), (".", "LICENSE"), (".", "CHANGELOG.md"))}
+    texts = {"example.c": (TOP / "bindings/c/example.c").read_text(), "CHANGELOG.md": (TOP / "CHANGELOG.md").read_text(), "LICENSE": licences()}
+    return {f"share/doc/{name}/{it}": (text.encode(), 0o644) for it, text in texts.items()}
 
 
-def files_for_linux(ports, machine, libdir="lib"):
-    made = ports / machine
+def files_for_linux(machine, libdir="lib"):
+    made = PORTS / machine
     return {
         f"bin/{NAME}": ((made / NAME).read_bytes(), 0o755),
         f"{libdir}/liblittlefs_c.a": ((made / "liblittlefs_c.a").read_bytes(), 0o644),
@@ -99,14 +101,14 @@ def files_for_linux(ports, machine, libdir="lib"):
         f"{libdir}/liblittlefs_c.so.1": SHARED,
         f"{libdir}/liblittlefs_c.so": SHARED,
         f"{libdir}/{NAME}/{NAME}.o": ((made / "program.o").read_bytes(), 0o644),
-        f"share/man/man1/{NAME}.1": manual(ports),
+        f"share/man/man1/{NAME}.1": manual(),
         **for_builds(libdir, f"{libdir}/{SHARED}"),
         **documents(NAME),
     }
 
 
-def files_for_windows(ports):
-    made = ports / "windows"
+def files_for_windows():
+    made = PORTS / "windows"
     return {
         "bin/littlefs_c.dll": ((made / "littlefs_c.dll").read_bytes(), 0o644),
         **{f"lib/{it}": ((made / it).read_bytes(), 0o644) for it in ("liblittlefs_c.a", "liblittlefs_c.dll.a")},
@@ -117,7 +119,7 @@ def files_for_windows(ports):
 
 # ---- packages
 
-def stage(root, files, when):
+def stage(root, files):
     """Puts files into a folder of their own."""
     for path, file in files.items():
         at = root / path
@@ -130,47 +132,43 @@ def stage(root, files, when):
     for at in [root, *root.rglob("*")]:
         if at.is_dir() and not at.is_symlink():
             at.chmod(0o755)
-        os.utime(at, (when, when), follow_symlinks=False)
+        os.utime(at, (WHEN, WHEN), follow_symlinks=False)
 
 
-def tarball(to, top, files, when):
+def tarball(top, files):
     with tempfile.TemporaryDirectory() as folder:
-        stage(Path(folder) / top, files, when)
-        to.write_bytes(packed(output(["tar", "--sort=name", "--owner=root:0", "--group=root:0", "-C", folder, "-cf", "-", top])))
+        stage(Path(folder) / top, files)
+        (OUT / f"{top}.tar.gz").write_bytes(packed(output(["tar", "--sort=name", "--owner=root:0", "--group=root:0", "-C", folder, "-cf", "-", top])))
 
 
-def zipped(to, top, files, when):
-    with zipfile.ZipFile(to, "w", zipfile.ZIP_DEFLATED) as archive:
+def zipped(top, files):
+    with zipfile.ZipFile(OUT / f"{top}.zip", "w", zipfile.ZIP_DEFLATED) as archive:
         for path, (data, mode) in sorted(files.items()):
-            entry = zipfile.ZipInfo(f"{top}/{path}", time.gmtime(when)[:6])
+            entry = zipfile.ZipInfo(f"{top}/{path}", time.gmtime(WHEN)[:6])
             entry.create_system, entry.external_attr = 3, (0o100000 | mode) << 16
             archive.writestr(entry, data, zipfile.ZIP_DEFLATED)
 
 
-def copyright_text():
-    licence = (TOP / "LICENSE").read_text().rstrip().splitlines()
-    return COPYRIGHT + "".join(f" {line or '.'}\n" for line in licence)
-
-
-def debian_files(ports, machine, when):
+def debian_files(machine):
     """Returns the files of the Debian package, at Debian's paths."""
     renamed = {}
-    for path, file in files_for_linux(ports, machine, f"lib/{MACHINES[machine][1]}").items():
-        if path.endswith("/LICENSE"):
-            path, file = path.replace("LICENSE", "copyright"), (copyright_text().encode(), 0o644)
-        elif path.endswith(("CHANGELOG.md", ".1")) and not isinstance(file, str):
+    for path, file in files_for_linux(machine, f"lib/{MACHINES[machine][1]}").items():
+        if path.endswith(("CHANGELOG.md", ".1")) and not isinstance(file, str):
             path, file = path.replace("CHANGELOG.md", "changelog") + ".gz", (packed(file[0]), 0o644)
         elif path.endswith("example.c"):
             path = path.replace("example.c", "examples/example.c")
         renamed[f"usr/{path}"] = file
-    date = email.utils.formatdate(when)
+    date = email.utils.formatdate(WHEN)
     changes = f"{NAME} ({VERSION}-1) unstable; urgency=medium\n\n  * Release {VERSION}: changelog.gz says what is in it.\n\n -- {MAINTAINER}  {date}\n"
+    licence = "".join(f" {line or '.'}\n" for line in (TOP / "LICENSE").read_text().rstrip().splitlines())
     renamed[f"usr/share/doc/{NAME}/changelog.Debian.gz"] = packed(changes.encode()), 0o644
+    renamed[f"usr/share/doc/{NAME}/copyright"] = (COPYRIGHT + licence).encode(), 0o644
     return renamed
 
 
-def debian(to, machine, files, when):
-    arch, real = MACHINES[machine][0], {path: file for path, file in files.items() if not isinstance(file, str)}
+def debian(machine):
+    arch, files = MACHINES[machine][0], debian_files(machine)
+    real = {path: file for path, file in files.items() if not isinstance(file, str)}
     size = sum((len(data) + 1023) // 1024 for data, _ in real.values()) + len(files)
     control = f"""Package: {NAME}
 Version: {VERSION}-1
@@ -189,51 +187,44 @@ Description: {SUMMARY}
     sums = "".join(f"{hashlib.md5(data).hexdigest()}  {path}\n" for path, (data, _) in sorted(real.items()))
     about = {"control": control, "triggers": "activate-noawait ldconfig\n", "md5sums": sums}
     with tempfile.TemporaryDirectory() as folder:
-        stage(Path(folder), {**files, **{f"DEBIAN/{name}": (text.encode(), 0o644) for name, text in about.items()}}, when)
-        env = {**os.environ, "SOURCE_DATE_EPOCH": str(when)}
-        subprocess.run(["dpkg-deb", "--root-owner-group", "-Zxz", "--threads-max=1", "--build", folder, str(to)], check=True, env=env, stdout=subprocess.DEVNULL)
+        stage(Path(folder), {**files, **{f"DEBIAN/{name}": (text.encode(), 0o644) for name, text in about.items()}})
+        to, env = OUT / f"{NAME}_{VERSION}-1_{arch}.deb", {**os.environ, "SOURCE_DATE_EPOCH": str(WHEN)}
+        subprocess.run(["dpkg-deb", "--root-owner-group", "-Zxz", "--threads-max=1", "--build", folder, to], check=True, env=env, stdout=subprocess.DEVNULL)
 
 
-def wheel_for_linux(out, ports, machine):
-    library = ports / machine / "littlefs_c.so"
+def wheel_for_linux(machine):
+    library = PORTS / machine / "littlefs_c.so"
     needed = [tuple(map(int, it.split("."))) for it in re.findall(r"GLIBC_([\d.]+)", output(["readelf", "-W", "--version-info", library]).decode())]
     if max(needed) > (2, 17):
         sys.exit(f"{library} needs a glibc above 2.17, and the tag of its wheel and the Debian package say that 2.17 is enough")
-    build_wheel.write_wheel(out, library, f"py3-none-manylinux_2_17_{machine}")
+    build_wheel.write_wheel(OUT, library, f"py3-none-manylinux_2_17_{machine}", licences())
 
 
-def npm(out, ports):
+def npm():
     with tempfile.TemporaryDirectory() as folder:
         at = Path(folder) / "package"
         shutil.copytree(TOP / "bindings/js", at, ignore=shutil.ignore_patterns("test", "*.wasm", "*.tgz", "node_modules"))
-        shutil.copy(TOP / "LICENSE", at)
+        (at / "LICENSE").write_text(licences())
         for name in ("littlefs.wasm", "littlefs64.wasm", "mklittlefs.wasm"):
-            shutil.copy(ports / "wasm" / name, at)
+            shutil.copy(PORTS / "wasm" / name, at)
         for file in at.iterdir():
             file.chmod(0o755 if file.name == f"{NAME}.js" else 0o644)
-        subprocess.run(["npm", "pack", "--silent", "--offline", "--pack-destination", str(out)], cwd=at, check=True, stdout=subprocess.DEVNULL)
+        subprocess.run(["npm", "pack", "--silent", "--offline", "--pack-destination", OUT], cwd=at, check=True, stdout=subprocess.DEVNULL)
 
 
 def main():
-    parser = argparse.ArgumentParser(usage=__doc__.split("usage: ")[1].split("\n")[0])
-    parser.add_argument("--ports", type=Path, default=TOP / "ports/out")
-    parser.add_argument("--out", type=Path, default=TOP / "release/out")
-    given = parser.parse_args()
-    out, ports, when = given.out.resolve(), given.ports.resolve(), epoch()
-    shutil.rmtree(out, ignore_errors=True)
-    out.mkdir(parents=True)
-    for machine, (arch, _) in MACHINES.items():
-        name = f"{NAME}-{VERSION}-linux-{machine}"
-        tarball(out / f"{name}.tar.gz", name, files_for_linux(ports, machine), when)
-        debian(out / f"{NAME}_{VERSION}-1_{arch}.deb", machine, debian_files(ports, machine, when), when)
-        wheel_for_linux(out, ports, machine)
-    name = f"littlefs_c-{VERSION}-windows-x86_64"
-    zipped(out / f"{name}.zip", name, files_for_windows(ports), when)
-    build_wheel.write_wheel(out, ports / "windows/littlefs_c.dll", "py3-none-win_amd64")
-    npm(out, ports)
-    (out / f"littlefs-page-{VERSION}.html").write_text(page.page(ports / "wasm"))
-    made = sorted(it for it in out.iterdir())
-    (out / "SHA256SUMS").write_text("".join(f"{hashlib.sha256(it.read_bytes()).hexdigest()}  {it.name}\n" for it in made))
+    shutil.rmtree(OUT, ignore_errors=True)
+    OUT.mkdir()
+    for machine in MACHINES:
+        tarball(f"{NAME}-{VERSION}-linux-{machine}", files_for_linux(machine))
+        debian(machine)
+        wheel_for_linux(machine)
+    zipped(f"littlefs_c-{VERSION}-windows-x86_64", files_for_windows())
+    build_wheel.write_wheel(OUT, PORTS / "windows/littlefs_c.dll", "py3-none-win_amd64", licences())
+    npm()
+    (OUT / f"littlefs-page-{VERSION}.html").write_text(page.page(licences()))
+    made = sorted(OUT.iterdir())
+    (OUT / "SHA256SUMS").write_text("".join(f"{hashlib.sha256(it.read_bytes()).hexdigest()}  {it.name}\n" for it in made))
     for it in made:
         print(f"{it.stat().st_size:>9}  {it.name}")
 

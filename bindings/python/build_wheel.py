@@ -16,7 +16,7 @@ import sys
 import zipfile
 
 HERE = Path(__file__).resolve().parent
-LIBRARY = HERE.parent / "c" / "littlefs_c.so"
+LIBRARY, LICENCE = HERE.parent / "c" / "littlefs_c.so", HERE.parent.parent / "LICENSE"
 NAME, VERSION = "littlefs_c", "1.0.0"
 TAG = f"py3-none-linux_{platform.machine()}"
 METADATA = f"""Metadata-Version: 2.1
@@ -34,14 +34,15 @@ Tag: {}
 LONG_AGO = 1980, 1, 1, 0, 0, 0
 
 
-def files_of_wheel(library, tag):
+def files_of_wheel(library, tag, licences):
     """The bytes of each file of the wheel, by its name there."""
     if not library.exists():
         sys.exit(f"{library} isn't there: run `rt lib` in crates/littlefs_c and `make` in bindings/c")
     package = HERE / NAME
     files = {f"{NAME}/{path.name}": path.read_bytes() for path in sorted(package.iterdir()) if path.suffix in (".py", ".typed")}
     info = f"{NAME}-{VERSION}.dist-info"
-    return {**files, f"{NAME}/{library.name}": library.read_bytes(), f"{info}/METADATA": METADATA.encode(), f"{info}/WHEEL": WHEEL.format(tag).encode()}
+    about = {"LICENSE": licences, "METADATA": METADATA, "WHEEL": WHEEL.format(tag)}
+    return {**files, f"{NAME}/{library.name}": library.read_bytes(), **{f"{info}/{name}": text.encode() for name, text in about.items()}}
 
 
 def line_of_record(name, data):
@@ -54,9 +55,9 @@ def build_wheel(folder, config_settings=None, metadata_directory=None):
     return write_wheel(folder, LIBRARY, TAG)
 
 
-def write_wheel(folder, library, tag):
+def write_wheel(folder, library, tag, licences=LICENCE.read_text()):
     """Writes a wheel with a library, for the machines of a tag, and answers its name."""
-    files = files_of_wheel(library, tag)
+    files = files_of_wheel(library, tag, licences)
     record = f"{NAME}-{VERSION}.dist-info/RECORD"
     files[record] = ("".join(line_of_record(*it) for it in files.items()) + f"{record},,\n").encode()
     wheel = f"{NAME}-{VERSION}-{tag}.whl"

@@ -1,7 +1,8 @@
 #!/bin/sh
 # Uses the packages in release/out as their users do: release/test_packages.sh
 #
-# The tarball by pkg-config, by CMake and by hand; the wheel by pip; the npm package by npx; the .zip for Windows by CMake, under wine.
+# The tarball by pkg-config, by CMake and by hand; the wheel by pip; the npm package by npx; the .zip for Windows by CMake, under wine;
+# and as root, where MIRROR is an address of Debian's packages, the Debian package in a system of its own.
 set -eu
 top=$(realpath "$(dirname "$0")/..") made=$(realpath "$(dirname "$0")/out") work=$(mktemp -d)
 trap 'rm -rf "$work"' EXIT
@@ -58,3 +59,20 @@ import { Image } from "littlefs-proved";
 console.log("npm:", Image.mount(readFileSync("disk.img")).readText("/log/today").trim());
 JS
 node read.js
+cd ..
+
+# the Debian package
+[ -n "${MIRROR:-}" ] || exit 0
+debootstrap --variant=minbase bookworm debian "$MIRROR" > log
+cp -r data "$made"/mklittlefs_*_amd64.deb debian
+chroot debian /bin/sh -eu <<'INSIDE'
+dpkg -i mklittlefs_*.deb
+mklittlefs -c data -s 64k disk.img
+mklittlefs --check disk.img
+mklittlefs -u copy disk.img && cmp data/log/today copy/log/today
+ls /usr/include/littlefs_c.h /usr/lib/*/liblittlefs_c.a /usr/lib/*/pkgconfig/littlefs_c.pc /usr/share/man/man1/mklittlefs.1.gz
+ldconfig -p | grep -q liblittlefs_c.so.1
+dpkg -r mklittlefs && [ ! -e /usr/bin/mklittlefs ]
+INSIDE
+cmp disk.img debian/disk.img
+echo "the Debian package works in a system of its own"

@@ -8,7 +8,7 @@ import time
 
 
 class Browser:
-    """A browser that has the page. `script` and `give` are each browser's own."""
+    """A browser that has the page. `open`, `script` and `give` are each browser's own."""
 
     def text(self, selector):
         return self.script("return document.querySelector(arguments[0])?.innerText ?? ''", selector)
@@ -70,8 +70,8 @@ class Chromium(Browser):
         self.driver, self.downloads = webdriver.Chrome(service=Service("/usr/bin/chromedriver"), options=options), downloads
         self.driver.execute_cdp_cmd("Browser.setDownloadBehavior", {"behavior": "allow", "downloadPath": str(downloads)})
         self.driver.execute_cdp_cmd("Page.setInterceptFileChooserDialog", {"enabled": True})
-        self.script = self.driver.execute_script
-        self.driver.get(page)
+        self.script, self.open = self.driver.execute_script, self.driver.get
+        self.open(page)
 
     def give(self, selector, *paths):
         self.driver.find_element("css selector", selector).send_keys("\n".join(map(str, paths)))
@@ -108,7 +108,7 @@ class Firefox(Browser):
         self.stream, self.number, self.downloads = self.connected(port), 0, downloads
         self.message()
         self.ask("WebDriver:NewSession", capabilities={})
-        self.ask("WebDriver:Navigate", url=page)
+        self.open(page)
 
     def connected(self, port):
         end = time.monotonic() + 180
@@ -134,6 +134,9 @@ class Firefox(Browser):
         if error:
             raise SystemExit(f"{what}: {error['error']}: {error['message']}")
         return answer
+
+    def open(self, page):
+        self.ask("WebDriver:Navigate", url=page)
 
     def script(self, text, *arguments):
         return self.ask("WebDriver:ExecuteScript", script=text, args=list(arguments))["value"]

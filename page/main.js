@@ -243,10 +243,14 @@ const folderChosen = () => (disk.rows.find((it) => it.path === disk.chosen).isDi
 
 const beside = (folder, name) => (folder === "/" ? "" : folder) + "/" + name;
 
-/** Opens the folders above a path in the tree. */
-function reveal(path) {
+/** Asks for a path, makes a change by it, and shows the path then. */
+async function changeBy(title, field, run) {
+  const path = await ask(title, [field], run);
+  if (!path) return;
   for (let at = 0; at >= 0; at = path.indexOf("/", at + 1)) disk.shown.set(path.slice(0, at) || "/", ROWS_AT_ONCE);
+  disk.isChanged = true;
   disk.chosen = path;
+  await refresh(true);
 }
 
 const ASKED = {
@@ -265,16 +269,10 @@ const ASKED = {
     say(`${path} is put into the image`);
   },
 
-  async rename(row) {
-    const path = await ask(`Another path for ${row.path}`, [["path", "Path", row.path]], async ({ path }) => {
-      await disk.engine.call("change", "rename", row.path, path);
-      return path;
-    });
-    if (!path) return;
-    disk.isChanged = true;
-    reveal(path);
-    await refresh();
-  },
+  rename: (row) => changeBy(`Another path for ${row.path}`, ["path", "Path", row.path], async ({ path }) => {
+    await disk.engine.call("change", "rename", row.path, path);
+    return path;
+  }),
 
   async remove({ path, isDirectory, depth }) {
     const count = isDirectory ? await disk.engine.call("countBelow", path) : 0;
@@ -344,19 +342,13 @@ const DOING = {
   "new-empty": makeEmpty,
   "add-files": () => pick("#pick-files", (entries) => add(folderChosen(), entries)),
   "add-folder": () => pick("#pick-folder", (entries) => add(folderChosen(), entries)),
-  "new-folder": async () => {
-    const folder = folderChosen();
-    const path = await ask("A new folder", [["name", `Its name, in ${folder}`, ""]], async ({ name }) => {
-      if (!name || name.includes("/")) throw new Error("a name has no /, and isn't empty");
-      await disk.engine.call("change", "mkdir", beside(folder, name));
-      return beside(folder, name);
-    });
-    if (!path) return;
-    disk.isChanged = true;
-    reveal(path);
+  "new-folder": () => changeBy("A new folder", ["name", `Its name, in ${folderChosen()}`, ""], async ({ name }) => {
+    if (!name || name.includes("/")) throw new Error("a name has no /, and isn't empty");
+    const path = beside(folderChosen(), name);
+    await disk.engine.call("change", "mkdir", path);
     disk.shown.set(path, ROWS_AT_ONCE);
-    await refresh(true);
-  },
+    return path;
+  }),
   save,
   "download-all": () => ASKED.download({ isDirectory: true, path: "/", name: disk.name.replace(/\.[^.]*$/, "") }),
   close: async () => (await mayLeave()) && close(),

@@ -1,34 +1,26 @@
 #!/usr/bin/python3
 """Uses the page as a person does, in Chromium and in Firefox: the built file alone, from the disk.
 
-usage: page/test_page.py [--page FILE] [--tool PROGRAM] [chromium] [firefox]
+usage: page/test_page.py [--page FILE] [chromium] [firefox]
 
-PROGRAM is a built mklittlefs, which makes the images and reads what the page saves. Needs Debian's chromium-driver, python3-selenium and
-firefox-esr, so it runs by /usr/bin/python3. Fails at the first thing that isn't as it should be. In Chromium files and folders are also
-dropped, and the page may ask for nothing but itself.
+ports/out/x86_64/mklittlefs makes the images and reads what the page saves. Fails at the first thing that isn't as it should be. In
+Chromium files and folders are also dropped, and the page may ask for nothing but itself.
 """
 
 import argparse
 from pathlib import Path
 import random
+import re
 import shutil
-import struct
 import subprocess
 import tempfile
 import time
 import zipfile
-import zlib
 
 import browsers
 
 TOP = Path(__file__).resolve().parent.parent
-
-
-def png(width, height):
-    """A picture with colours that run over."""
-    rows = b"".join(b"\0" + bytes(v for x in range(width) for v in (x * 255 // width, y * 255 // height, 150)) for y in range(height))
-    part = lambda kind, data: struct.pack(">I", len(data)) + kind + data + struct.pack(">I", zlib.crc32(kind + data))
-    return b"\x89PNG\r\n\x1a\n" + part(b"IHDR", struct.pack(">IIBBBBB", width, height, 8, 2, 0, 0, 0)) + part(b"IDAT", zlib.compress(rows)) + part(b"IEND", b"")
+GIF = bytes.fromhex("47494638396101000100800000ffffff00000021f90401000000002c00000000010001000002024401003b")  # a picture of one dot
 
 
 def same(what, got, wanted):
@@ -43,7 +35,7 @@ def make_folder(at):
         "log/2026-11-29.csv": b"time,degrees\n" + b"".join(b"%02d:%02d,%d.%d\n" % (h, m, 18 + h % 5, m % 10) for h in range(24) for m in range(0, 60, 5)),
         "log/today.csv": b"time,degrees\n00:00,19.5\n",
         "www/index.html": b"<!doctype html><title>board</title><h1>Board</h1>\n",
-        "www/logo.png": png(180, 120),
+        "www/logo.gif": GIF,
         "firmware.bin": random.Random(5).randbytes(40000),
         "empty": b"",
     }
@@ -68,14 +60,14 @@ PAUSES = """document.body.dataset.pause = 0;
 class Use:
     """A person who uses the page, with a folder of their own and the tool beside it."""
 
-    def __init__(self, page, tool, work):
-        self.page, self.tool, self.work = page, tool, work
+    def __init__(self, page, work):
+        self.page, self.work = page, work
         self.files = make_folder(work / "board")
         same("the tool", self.run("-c", work / "board", "-s", "256k", "--times", work / "board.img").returncode, 0)
         self.listed = [line.split(" ", 2)[2] for line in self.run("-l", work / "board.img").stdout.decode().splitlines()]
 
     def run(self, *words):
-        return subprocess.run([self.tool, *map(str, words)], stdout=subprocess.PIPE, stderr=subprocess.PIPE)
+        return subprocess.run([TOP / "ports/out/x86_64/mklittlefs", *map(str, words)], capture_output=True)
 
     def give(self, what, selector, *paths):
         """Clicks a button that asks for files, and gives it these."""
@@ -101,8 +93,8 @@ class Use:
         same("the verdict", page.text("#verdict"), "Accepted; nothing is left to recover")
         page.choose("/settings/wifi.json")
         page.until("its text is shown", lambda: '"ssid": "workshop"' in page.text("#panel"))
-        page.choose("/www/logo.png")
-        page.until("the picture is shown", lambda: page.script("return document.querySelector('#panel img')?.naturalWidth") == 180)
+        page.choose("/www/logo.gif")
+        page.until("the picture is shown", lambda: page.script("return document.querySelector('#panel img')?.naturalWidth") == 1)
         page.choose("/firmware.bin")
         page.until("bytes are shown", lambda: page.text("#panel").startswith("000000  " + self.files["firmware.bin"][:8].hex(" ")))
         page.button("#view", "Download")
@@ -150,7 +142,7 @@ class Use:
         page.until("files are added", lambda: {"/spare/deep/new file.txt", "/spare/deep/name"} <= set(page.rows()))
         if page.takes_folders:
             self.give("add-folder", "#pick-folder", work / "board/www")
-            page.until("a folder is added", lambda: "/spare/deep/www/logo.png" in page.rows())
+            page.until("a folder is added", lambda: "/spare/deep/www/logo.gif" in page.rows())
         page.choose("/settings/wifi.json")
         page.button("#view", "Edit")
         page.script("document.querySelector('#panel textarea').value += '// changed'; document.querySelector('#panel button.main').click()")
@@ -208,7 +200,9 @@ class Use:
         else:
             shutil.copytree(work / "board/log", plain)
             page.drop_texts({it.name: it.read_text() for it in plain.iterdir()})
-        page.answer()
+        page.answer(size="8k")
+        page.until("a folder that doesn't fit is refused", lambda: "2 blocks are too few" in page.text("#ask .error"))
+        page.answer(size="auto")
         name = "plain.img" if page.takes_folders else "the files.img"
         page.until("an image is made", lambda: page.text("#image-name") == name)
         page.do("save")
@@ -267,10 +261,17 @@ class Use:
         same("a pause of a second", pause if pause > 1000 else None, None)
         return pause
 
+    def lacking(self, file):
+        """The page in a browser that has no CompressionStream."""
+        without = re.sub("<meta http-equiv=[^>]*>", "<script>delete window.CompressionStream</script>", file.read_text(), count=1)
+        (self.work / "lacking.html").write_text(without)
+        self.page.open((self.work / "lacking.html").as_uri())
+        self.page.until("what it lacks is said", lambda: "this browser has no CompressionStream: take a newer one" in self.page.text("#status"))
+
     def drops(self):
         page, work = self.page, self.work
         page.drop("#image .columns", work / "board/www")
-        page.until("a folder is dropped into the image", lambda: page.rows() == ["/", "/www", "/www/index.html", "/www/logo.png"])
+        page.until("a folder is dropped into the image", lambda: page.rows() == ["/", "/www", "/www/index.html", "/www/logo.gif"])
         page.drop("#image .columns", work / "board/firmware.bin")
         page.until("a file is dropped into it", lambda: "/firmware.bin" in page.rows())
 
@@ -278,7 +279,6 @@ class Use:
 def main():
     parser = argparse.ArgumentParser(usage=__doc__.split("usage: ")[1].split("\n")[0])
     parser.add_argument("--page", type=Path, default=TOP / "page/out/index.html")
-    parser.add_argument("--tool", default=str(TOP / "ports/out/x86_64/mklittlefs"))
     parser.add_argument("which", nargs="*", choices=[[], "chromium", "firefox"])
     given = parser.parse_args()
     for name in given.which or ["chromium", "firefox"]:
@@ -290,11 +290,12 @@ def main():
             page = getattr(browsers, name.capitalize())(address, profile, saved)
             try:
                 page.until("the library starts", lambda: page.script("return document.body.dataset.ready") == "yes")
-                use = Use(page, given.tool, work)
+                use = Use(page, work)
                 use.view(), use.keys(), use.change(), use.refusals(), use.flash(), use.said()
                 pause = use.many()
                 if name == "chromium":
                     same("nothing else is asked for", [it for it in page.requests() if not it.startswith((address, "blob:", "data:", "chrome:"))], [])
+                use.lacking(given.page)
             finally:
                 page.quit()
         print(f"{page.name}: all as it should be; the longest pause with 10,000 files and with a hostile file: {pause:.0f} ms", flush=True)

@@ -1,13 +1,11 @@
 // The metadata pairs of an image and their revisions. Erases aren't counted anywhere; but each compaction of a pair erases one of its
 // blocks, and adds one to its revision. It only looks: what is no log ends it.
 
-const TABLE = Uint32Array.from({ length: 256 }, (_, byte) => {
-  for (let bit = 0; bit < 8; bit++) byte = (byte >>> 1) ^ (byte & 1 ? 0xedb88320 : 0);
-  return byte;
-});
-
 function checksum(sum, bytes) {
-  for (const byte of bytes) sum = TABLE[(sum ^ byte) & 0xff] ^ (sum >>> 8);
+  for (const byte of bytes) {
+    sum ^= byte;
+    for (let bit = 0; bit < 8; bit++) sum = (sum >>> 1) ^ (sum & 1 ? 0xedb88320 : 0);
+  }
   return sum >>> 0;
 }
 

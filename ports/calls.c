@@ -15,7 +15,7 @@ enum { MOST = 1 << 23, ROOM = 1 << 20, LONGEST = 1 << 13, FROM = 7 };
 typedef struct { uint8_t *bytes; size_t len; } path;
 typedef struct { char what[20]; path path, other; uint32_t kind, size, versions, order, blocks; } call;
 
-static lfs_c_session fs = LFS_C_CLOSED;
+static lfs_c_volume fs = LFS_C_CLOSED;
 static uint8_t image[MOST], buffer[ROOM], data[ROOM];
 static size_t image_size;
 
@@ -42,11 +42,10 @@ static int64_t put(const path *at, size_t size, uint32_t flags) {
     int64_t file = lfs_c_open(&fs, at->bytes, at->len, LFS_C_WRITE | LFS_C_CREATE | flags);
     if (file < 0) return file;
     int64_t answer = lfs_c_file_write(&fs, (uint32_t)file, data, size);
-    if (answer >= 0) answer = lfs_c_file_close(&fs, (uint32_t)file);
-    if (answer >= 0) return 0;
-    if (is_new && lfs_c_file_close(&fs, (uint32_t)file) >= 0) lfs_c_remove_at(&fs, at->bytes, at->len);
-    else lfs_c_remount(&fs);
-    return answer;
+    if (answer < 0) lfs_c_remount(&fs); /* a close would store the file as it was opened */
+    else answer = lfs_c_file_close(&fs, (uint32_t)file);
+    if (answer < 0 && is_new) lfs_c_remove_at(&fs, at->bytes, at->len);
+    return answer < 0 ? answer : 0;
 }
 
 static int64_t get(const path *at, uint32_t from, size_t size) {

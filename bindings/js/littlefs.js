@@ -5,6 +5,7 @@ const ERRORS = {
   2: ["NoEnt", "nothing is there, or a folder above it is missing"],
   9: ["BadFile", "no such file is open"],
   12: ["NoMemory", "memory was wanted and not granted"],
+  16: ["Busy", "the volume is mounted already"],
   17: ["Exist", "something is there already"],
   20: ["NotDir", "a file stands where a folder is needed"],
   21: ["IsDir", "a folder stands where a file is needed"],
@@ -156,21 +157,9 @@ class Library {
 
   /** Puts bytes or a path into room, and returns where they are and how many. */
   put(data) {
-    if (typeof data === "string") return this.#putText(data);
-    const bytes = bytesIn(data), at = this.room(bytes.length || 1);
+    const bytes = bytesOf(data), at = this.room(bytes.length || 1);
     this.bytes.set(bytes, at);
     return [BigInt(at), BigInt(bytes.length)];
-  }
-
-  /** Most paths are short and have ASCII alone, which is put fastest letter by letter. */
-  #putText(text) {
-    const at = this.room(text.length || 1), memory = this.bytes;
-    for (let n = 0; n < text.length; n++) {
-      const code = text.charCodeAt(n);
-      if (code > 0x7f) return this.put(bytesOf(text));
-      memory[at + n] = code;
-    }
-    return [BigInt(at), BigInt(text.length)];
   }
 }
 
@@ -184,12 +173,12 @@ export async function load(source) {
   library = new Library(await WebAssembly.instantiate(module, {}));
 }
 
-const forgotten = typeof FinalizationRegistry === "undefined" ? null : new FinalizationRegistry(({ library, session }) => end(library, session));
+const forgotten = typeof FinalizationRegistry === "undefined" ? null : new FinalizationRegistry(({ library, volume }) => end(library, volume));
 
-function end(library, session) {
+function end(library, volume) {
   if (library.failure) return;
-  library.call("unmount", session);
-  library.call("free", session);
+  library.call("unmount", volume);
+  library.call("free", volume);
 }
 
 // ---- images
@@ -214,7 +203,7 @@ export function usualPage(blockSize) {
 /** A littlefs image in memory, mounted. index.d.ts says what each call is for. A refused call leaves the image as it was. */
 export class Image {
   #library;
-  #session;
+  #volume;
   #size;
 
   static mount(data, options = {}) {
@@ -228,14 +217,14 @@ export class Image {
       bytes = bytes.subarray(0, found.blockCount * found.blockSize);
     }
     const image = new Image();
-    image.#begin(given, bytes.length, (lib, session, config) => lib.call("mount", session, config, ...lib.put(bytes)));
+    image.#begin(given, bytes.length, (lib, volume, config) => lib.call("mount", volume, config, ...lib.put(bytes)));
     return image;
   }
 
   static format(options) {
     const { blockCount, blockSize = 4096 } = options;
     const image = new Image();
-    image.#begin({ ...options, blockSize }, blockSize * blockCount, (lib, session, config) => lib.call("mkfs", session, config, number32(blockCount)));
+    image.#begin({ ...options, blockSize }, blockSize * blockCount, (lib, volume, config) => lib.call("mkfs", volume, config, number32(blockCount)));
     return image;
   }
 
@@ -244,28 +233,28 @@ export class Image {
     const { blockSize, page = usualPage(blockSize), order = "longer-first", also21 = false, pairCycles = 0 } = given;
     const limits = Object.fromEntries(Object.entries(LARGEST).map(([name, largest]) => [name, given[name] ?? largest]));
     const numbers = [blockSize, page, order === "shorter-first" ? 1 : 0, also21 ? 1 : 0, ...Object.values(limits), pairCycles];
-    const lib = library, at = lib.take(16), session = BigInt(at);
+    const lib = library, at = lib.take(16), volume = BigInt(at);
     try {
       lib.bytes.fill(0, at, at + 16);
       lib.with(() => {
         const [config] = lib.put(Uint32Array.from(numbers, number32));
-        const answer = start(lib, session, config);
+        const answer = start(lib, volume, config);
         if (answer < 0) throw new LittlefsError(-answer);
       });
     } catch (error) {
-      if (!lib.failure) lib.call("free", session);
+      if (!lib.failure) lib.call("free", volume);
       throw error;
     }
-    [this.#library, this.#session, this.#size] = [lib, session, size];
+    [this.#library, this.#volume, this.#size] = [lib, volume, size];
     const said = { blockSize, blockCount: size / blockSize, page, limits: Object.freeze(limits) };
     for (const [name, value] of Object.entries(said)) Object.defineProperty(this, name, { value, enumerable: true });
-    forgotten?.register(this, { library: lib, session }, this);
+    forgotten?.register(this, { library: lib, volume }, this);
   }
 
-  /** What a call of the session answers: an error as minus its number. */
+  /** What a call of the volume answers: an error as minus its number. */
   #ask(name, ...values) {
-    if (!this.#session) throw new LittlefsError(CLOSED);
-    return this.#library.call(name, this.#session, ...values);
+    if (!this.#volume) throw new LittlefsError(CLOSED);
+    return this.#library.call(name, this.#volume, ...values);
   }
 
   #call(name, path, ...values) {
@@ -275,7 +264,7 @@ export class Image {
   }
 
   #with(run) {
-    if (!this.#session) throw new LittlefsError(CLOSED);
+    if (!this.#volume) throw new LittlefsError(CLOSED);
     return this.#library.with(run);
   }
 
@@ -299,15 +288,15 @@ export class Image {
   // ---- the image
 
   get closed() {
-    return !this.#session;
+    return !this.#volume;
   }
 
   close() {
-    if (!this.#session) return;
+    if (!this.#volume) return;
     forgotten?.unregister(this);
-    const session = this.#session;
-    this.#session = null;
-    end(this.#library, session);
+    const volume = this.#volume;
+    this.#volume = null;
+    end(this.#library, volume);
   }
 
   bytes() {
@@ -456,20 +445,18 @@ export class Image {
     const isOther = file === -(flags === APPEND ? NO_ENT : EXIST), isNew = isOther === (flags === APPEND);
     if (isOther) file = this.#at("open", path, WRITE | CREATE | flags);
     else if (file < 0) throw new LittlefsError(-file, path);
+    let isWritten = false;
     try {
       this.#with((lib) => this.#call("file_write", path, file, ...lib.put(bytes)));
+      isWritten = true;
       this.#call("file_close", path, file);
     } catch (error) {
-      this.#forget(path, file, isNew);
+      if (this.#library.failure) throw error;
+      // a close would store the file as it was opened, and without memory the volume may have failed
+      if (!isWritten || error.number === NO_MEMORY) this.#ask("remount");
+      if (isNew) this.#with((lib) => this.#ask("remove_at", ...lib.put(path)));
       throw error;
     }
-  }
-
-  /** Takes a file back that couldn't be written: one that is new is removed, and else a remount forgets what isn't saved. */
-  #forget(path, file, isNew) {
-    if (this.#library.failure) return;
-    if (isNew) this.#ask("file_close", file);
-    if (!isNew || this.#with((lib) => this.#ask("remove_at", ...lib.put(path))) < 0) this.#ask("remount");
   }
 }
 

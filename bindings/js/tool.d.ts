@@ -1,3 +1,7 @@
+import type { Options as ImageOptions } from "./index.js";
+
+type Options = Omit<ImageOptions, "pairCycles">;
+
 export type Check =
   | { ok: false; reason: string; behind?: number }
   | {
@@ -19,11 +23,7 @@ export declare class Tool {
   /** Runs the tool with the words of a command line and the bytes of its standard input, `-`. It sees no file. */
   run(words: string[], input?: Uint8Array): { status: number; output: Uint8Array; errors: string };
   /** What `--check --json` says of an image. Version 2.1 is accepted unless `also21` is false. */
-  check(bytes: Uint8Array, options?: {
-    blockSize?: number; page?: number; also21?: boolean; nameMax?: number; fileMax?: number; attrMax?: number; inlineMax?: number;
-  }): Check;
+  check(bytes: Uint8Array, options?: Options): Check;
   /** Returns the image that `-c` makes of files and folders. Throws an error with the tool's lines if it refuses. */
-  make(entries: FileEntry[], options?: {
-    size?: number | string; blockSize?: number; page?: number; nameMax?: number; inlineMax?: number; times?: boolean;
-  }): Uint8Array;
+  make(entries: FileEntry[], options?: Pick<Options, "blockSize" | "page" | "nameMax" | "inlineMax"> & { size?: number | string; times?: boolean }): Uint8Array;
 }

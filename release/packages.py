@@ -4,6 +4,7 @@
 import email.utils
 import gzip
 import hashlib
+import json
 import os
 from pathlib import Path
 import re
@@ -135,10 +136,10 @@ def stage(root, files):
         os.utime(at, (WHEN, WHEN), follow_symlinks=False)
 
 
-def tarball(top, files):
+def tarball(name, top, files):
     with tempfile.TemporaryDirectory() as folder:
         stage(Path(folder) / top, files)
-        (OUT / f"{top}.tar.gz").write_bytes(packed(output(["tar", "--sort=name", "--owner=root:0", "--group=root:0", "-C", folder, "-cf", "-", top])))
+        (OUT / name).write_bytes(packed(output(["tar", "--sort=name", "--owner=root:0", "--group=root:0", "-C", folder, "-cf", "-", top])))
 
 
 def zipped(top, files):
@@ -201,22 +202,21 @@ def wheel_for_linux(machine):
 
 
 def npm():
-    with tempfile.TemporaryDirectory() as folder:
-        at = Path(folder) / "package"
-        shutil.copytree(TOP / "bindings/js", at, ignore=shutil.ignore_patterns("test", "*.wasm", "*.tgz", "node_modules"))
-        (at / "LICENSE").write_text(licences())
-        for name in ("littlefs.wasm", "littlefs64.wasm", "mklittlefs.wasm"):
-            shutil.copy(PORTS / "wasm" / name, at)
-        for file in at.iterdir():
-            file.chmod(0o755 if file.name == f"{NAME}.js" else 0o644)
-        subprocess.run(["npm", "pack", "--silent", "--offline", "--pack-destination", OUT], cwd=at, check=True, stdout=subprocess.DEVNULL)
+    """Packs what package.json lists; not by npm, whose versions make other bytes."""
+    scripts, files = TOP / "bindings/js", {}
+    about = json.loads((scripts / "package.json").read_text())
+    for name in ["package.json", *about["files"]]:
+        data = licences().encode() if name == "LICENSE" else ((PORTS / "wasm" if name.endswith(".wasm") else scripts) / name).read_bytes()
+        files[name] = data, 0o755 if name in about["bin"].values() else 0o644
+    tarball(f"{about['name']}-{about['version']}.tgz", "package", files)
 
 
 def main():
     shutil.rmtree(OUT, ignore_errors=True)
     OUT.mkdir()
     for machine in MACHINES:
-        tarball(f"{NAME}-{VERSION}-linux-{machine}", files_for_linux(machine))
+        name = f"{NAME}-{VERSION}-linux-{machine}"
+        tarball(f"{name}.tar.gz", name, files_for_linux(machine))
         debian(machine)
         wheel_for_linux(machine)
     zipped(f"littlefs_c-{VERSION}-windows-x86_64", files_for_windows())

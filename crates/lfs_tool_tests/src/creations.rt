@@ -28,13 +28,11 @@ fn is_made_image_as_expected(
         return Ok(with_error_line(alloc, image, result)?.as_slice() == lines);
     }
     let layout = ImageLayout::new(geometry.block_size, geometry.page);
-    let mut reader = WatchedStream::new(image.as_slice());
-    let is_listed = list_text(alloc, &mut reader, layout)?.as_slice() == lines;
+    let is_listed = list_text(alloc, image.as_slice(), layout)?.as_slice() == lines;
     let Some(actions) = actions else {
         return Ok(is_listed);
     };
-    let mut reader = WatchedStream::new(image.as_slice());
-    let done = unpack_text(alloc, &mut reader, layout)?;
+    let done = unpack_text(alloc, image.as_slice(), layout)?;
     Ok(is_listed && done.as_slice() == actions)
 }
 

@@ -2,22 +2,18 @@
 
 use crate::images::shifting_block;
 use crate::sources::memory_source_of_items;
-use crate::texts::{create_of_source, list_text, unpack_text, with_error_line};
+use crate::texts::{create_of_source, with_error_line};
 use lfs_device::{Error, Geometry};
 use lfs_fixtures::image_with_pair;
-use lfs_tool::{ImageLayout, WatchedStream, list};
-use std::alloc::{AllocError, Global};
+use lfs_tool::{ImageLayout, ToolError, WatchedStream, list, read_image};
+use std::alloc::Global;
 use std::io;
 use std::io::{ErrorKind, Read, Write};
 use std::test::Fail;
 
 const LINES: &[u8] = b"f 0 /b\n";
 
-const INPUT: &[u8] = b"error: input\n";
-
 const OUTPUT: &[u8] = b"error: output\n";
-
-const INVALID: &[u8] = b"error: Invalid (22)\n";
 
 // Gives or takes at most so many bytes a call, and fails at the call `fails_at`, a flush too.
 #[derive(Drop)]
@@ -84,54 +80,24 @@ fn stream_failing_at_call<'a>(
 // How a call fails, and whether that is a failure: one that a signal interrupted is made again.
 const KINDS: [(ErrorKind, bool); 2] = [(ErrorKind::Other, true), (ErrorKind::Interrupted, false)];
 
-// Whether an image is unpacked or listed, with which block size, how many bytes a call gives, how many
-// calls that takes, and what is shown where none fails. The image's 65,536 bytes take 22 calls of 3,000
-// bytes, or three of 30,000, also where no image has such blocks; a further call finds its end.
-const READERS: [(bool, u32, usize, u32, &[u8]); 4] = [
-    (false, 4096, 3000, 23, LINES),
-    (true, 4096, 30000, 4, b"f /b \n"),
-    (false, 3, 30000, 4, INVALID),
-    (true, 3, 30000, 4, INVALID),
-];
-
-// What is shown of an image whose reader fails at a call.
-fn text_from_failing_reader(
-    alloc: Global,
-    reader: WatchedStream<Faulty<'_>>,
-    is_unpacked: bool,
-    block_size: u32,
-) -> Result<Vec<u8>, AllocError> {
-    let mut reader = reader;
-    let layout = ImageLayout::new(block_size, 256);
-    if is_unpacked {
-        unpack_text(alloc, &mut reader, layout)
-    } else {
-        list_text(alloc, &mut reader, layout)
-    }
-}
+// How many bytes a call gives, and how many calls find the end of 65,536 bytes.
+const READERS: [(usize, u32); 2] = [(3000, 23), (30000, 4)];
 
 #[test]
 fn failing_readers_are_reported(rt: HostRuntime) -> Result<(), Fail> {
-    let block = shifting_block(rt.alloc())?;
-    let image = image_with_pair(rt.alloc(), block.as_slice(), &[])?;
+    let image = Vec::from_elem(rt.alloc(), b'x', 65536)?;
     for (kind, is_failure) in KINDS {
-        for (is_unpacked, block_size, most, calls, text) in READERS {
+        for (most, calls) in READERS {
             for fails_at in 0..calls + 3 {
-                let reader = stream_failing_at_call(
-                    rt.alloc(),
-                    image.as_slice(),
-                    most,
-                    fails_at,
-                    kind,
-                );
-                let told = text_from_failing_reader(rt.alloc(), reader, is_unpacked, block_size)?;
+                let left = image.as_slice();
+                let mut reader = stream_failing_at_call(rt.alloc(), left, most, fails_at, kind);
+                let read = read_image(rt.alloc(), &mut reader, 0);
                 let fails = is_failure && (1..=calls).contains(&fails_at);
-                let wanted = if fails { INPUT } else { text };
-                let is_reported = told.as_slice() == wanted;
-                assert!(rt;
-                    is_reported,
-                    "{kind:?}, {is_unpacked}, {block_size}, {fails_at}"
-                );
+                let is_reported = match read {
+                    Ok(bytes) => !fails && bytes.as_slice() == left,
+                    Err(error) => fails && error == ToolError::Input,
+                };
+                assert!(rt; is_reported, "{kind:?}, {most}, {fails_at}");
             }
         }
     }

@@ -11,7 +11,7 @@ use lfs_fixtures::{
     BlockFilling, FixtureEntries, block_with_entries, commits_beginning, image_with_commit,
     image_with_pair,
 };
-use lfs_tool::{ImageLayout, WatchedStream};
+use lfs_tool::ImageLayout;
 use std::alloc::{AllocError, Global};
 use std::test::Fail;
 
@@ -306,12 +306,11 @@ fn has_expected_list_or_unpack_text(
 ) -> Result<bool, AllocError> {
     let (entries, others, wanted) = row;
     let image = image_with_commit(alloc, entries, others)?;
-    let mut image = WatchedStream::new(image.as_slice());
     let layout = ImageLayout::new(4096, 256);
     let text = if is_unpacked {
-        unpack_text(alloc, &mut image, layout)?
+        unpack_text(alloc, image.as_slice(), layout)?
     } else {
-        list_text(alloc, &mut image, layout)?
+        list_text(alloc, image.as_slice(), layout)?
     };
     Ok(text.as_slice() == wanted.as_bytes())
 }
@@ -457,8 +456,7 @@ fn is_odd_image_listed(
     wanted: &str,
 ) -> Result<bool, AllocError> {
     let image = odd_image(alloc, odd)?;
-    let mut image = WatchedStream::new(image.as_slice());
-    let text = list_text(alloc, &mut image, ImageLayout::new(block_size, page))?;
+    let text = list_text(alloc, image.as_slice(), ImageLayout::new(block_size, page))?;
     Ok(text.as_slice() == wanted.as_bytes())
 }
 
@@ -519,7 +517,7 @@ fn is_image_listed_with_inverted_byte(
 ) -> Result<bool, AllocError> {
     invert_byte(image, at);
     let layout = ImageLayout::new(4096, 256);
-    let text = list_text(alloc, &mut WatchedStream::new(&*image), layout)?;
+    let text = list_text(alloc, image, layout)?;
     invert_byte(image, at);
     Ok(text.as_slice() == wanted.as_bytes())
 }

@@ -7,13 +7,13 @@ mod checks;
 #[cfg(test)]
 mod creations;
 #[cfg(test)]
-mod disk;
-#[cfg(test)]
 mod faults;
 #[cfg(test)]
 mod faulty_streams;
 #[cfg(test)]
 mod images;
+#[cfg(test)]
+mod limited_files;
 #[cfg(test)]
 mod lines;
 #[cfg(test)]

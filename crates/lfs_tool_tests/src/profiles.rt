@@ -257,7 +257,7 @@ fn has_expected_check_text(alloc: Global, row: Row<'_>) -> Result<bool, AllocErr
     let (entries, others, profile, wanted) = row;
     let image = image_with_commit(alloc, entries, others)?;
     let layout = ImageLayout::new(4096, 256).with_profile(profile);
-    let text = check_text(alloc, &mut WatchedStream::new(image.as_slice()), layout)?;
+    let text = check_text(alloc, image.as_slice(), layout)?;
     Ok(text.as_slice() == wanted.as_bytes())
 }
 
@@ -278,8 +278,8 @@ fn is_later_image_read_as(
 ) -> Result<bool, AllocError> {
     let image = image_with_commit(alloc, &[], &[(0, COMPACTED)])?;
     let layout = ImageLayout::new(4096, 256).with_profile(profile);
-    let list = list_text(alloc, &mut WatchedStream::new(image.as_slice()), layout)?;
-    let done = unpack_text(alloc, &mut WatchedStream::new(image.as_slice()), layout)?;
+    let list = list_text(alloc, image.as_slice(), layout)?;
+    let done = unpack_text(alloc, image.as_slice(), layout)?;
     Ok(list.as_slice() == listed.as_bytes() && done.as_slice() == unpacked.as_bytes())
 }
 
@@ -368,7 +368,7 @@ fn text_of_made_image(alloc: Global, items: Items<'_>, profile: Profile) -> Resu
         ..profile
     };
     let layout = ImageLayout::new(4096, 256).with_profile(limits);
-    let text = check_text(alloc, &mut WatchedStream::new(image.as_slice()), layout)?;
+    let text = check_text(alloc, image.as_slice(), layout)?;
     Ok(text)
 }
 

@@ -3,8 +3,8 @@
 use lfs_device::Geometry;
 use lfs_model::NameOrder;
 use lfs_tool::{
-    Fault, FollowsProgress, ImageInput, ImageLayout, MemoryTarget, Source, TargetAction, ToolError,
-    ToolOutput, WatchedStream, check, list, read_image, report, unpack,
+    Fault, FollowsProgress, ImageLayout, MemoryTarget, Source, TargetAction, ToolError, ToolOutput,
+    WatchedStream, check, list, report, unpack,
 };
 use lfs_tool_run::{create, read_source_entries};
 use std::alloc::{AllocError, Global};
@@ -43,30 +43,24 @@ pub(crate) fn with_error_line(
 }
 
 // What listing an image prints.
-pub(crate) fn list_text<R: ImageInput>(
+pub(crate) fn list_text(
     alloc: Global,
-    image: &mut R,
+    image: &[u8],
     layout: ImageLayout,
 ) -> Result<Vec<u8>, AllocError> {
     let mut out = WatchedStream::new(Vec::new(alloc));
-    let result = match read_image(alloc, image, 0) {
-        Ok(bytes) => list(alloc, bytes, layout, &mut out),
-        Err(error) => Err(error),
-    };
-    with_error_line(alloc, out.into_inner(), result)
+    let answer = list(alloc, image.to_vec(alloc)?, layout, &mut out);
+    with_error_line(alloc, out.into_inner(), answer)
 }
 
 // What checking an image prints.
-pub(crate) fn check_text<R: ImageInput>(
+pub(crate) fn check_text(
     alloc: Global,
-    image: &mut R,
+    image: &[u8],
     layout: ImageLayout,
 ) -> Result<Vec<u8>, AllocError> {
     let mut out = WatchedStream::new(Vec::new(alloc));
-    let answer = match read_image(alloc, image, 0) {
-        Ok(bytes) => check(alloc, bytes, layout, &mut out).map(|_accepted| ()),
-        Err(error) => Err(error),
-    };
+    let answer = check(alloc, image.to_vec(alloc)?, layout, &mut out).map(|_accepted| ());
     with_error_line(alloc, out.into_inner(), answer)
 }
 
@@ -87,33 +81,21 @@ fn push_unpacked_entry(text: &mut Vec<u8>, done: &TargetAction) -> Result<(), Al
     Ok(())
 }
 
-// What was done to a target, a line for each action, and behind it the line of an error.
-pub(crate) fn target_text(
-    alloc: Global,
-    target: &MemoryTarget,
-    answer: Result<(), ToolError>,
-) -> Result<Vec<u8>, AllocError> {
-    let mut text = Vec::new(alloc);
-    for done in &target.done {
-        push_unpacked_entry(&mut text, done)?;
-    }
-    with_error_line(alloc, text, answer)
-}
-
 // What is done where an image is unpacked.
-pub(crate) fn unpack_text<R: ImageInput>(
+pub(crate) fn unpack_text(
     alloc: Global,
-    image: &mut R,
+    image: &[u8],
     layout: ImageLayout,
 ) -> Result<Vec<u8>, AllocError> {
     let mut target = MemoryTarget {
         done: Vec::new(alloc),
     };
-    let answer = match read_image(alloc, image, 0) {
-        Ok(bytes) => unpack(alloc, bytes, layout, &mut target, &mut ()),
-        Err(error) => Err(error),
-    };
-    target_text(alloc, &target, answer)
+    let answer = unpack(alloc, image.to_vec(alloc)?, layout, &mut target, &mut ());
+    let mut text = Vec::new(alloc);
+    for done in &target.done {
+        push_unpacked_entry(&mut text, done)?;
+    }
+    with_error_line(alloc, text, answer)
 }
 
 // Writes the image of all that a source has.

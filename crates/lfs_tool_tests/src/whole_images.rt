@@ -1,202 +1,131 @@
 // Images that are written whole or not at all.
 
-use crate::disk::{DiskFiles, DiskHabit, MemoryFileSystem, PathAndKind};
+use crate::limited_files::{LimitedFiles, Refusal};
 use lfs_tool::NewImage;
-use std::alloc::Global;
-use std::fs::Files;
-use std::io;
+use std::cell::Cell;
+use std::fs::{Files, Permissions};
 use std::io::Write;
+use std::os::unix::fs::{PermissionsExt, symlink};
 use std::test::Fail;
+use std::{fs, io};
 
-const PATH: &str = "out/image";
+const PATH: &str = "whole/image";
 
 const IMAGE: &[u8] = b"the bytes of a new image";
 
 const OLD: &[u8] = b"an old image";
 
-// What stands at the path, how many bytes are free, what the file system does, whether the image is made, what stands
-// at the path then, and how many names there are.
-const ROWS: [(
-    Option<PathAndKind>,
-    usize,
-    DiskHabit,
-    bool,
-    Option<&[u8]>,
-    usize,
-); 12] = [
-    (None, 24, DiskHabit::Plain, true, Some(IMAGE), 1),
-    (None, 23, DiskHabit::Plain, false, None, 0),
+// What stands at the path. A link leads to a file in another folder.
+#[derive(Clone, Copy, PartialEq, Eq, Debug)]
+enum Standing {
+    Nothing,
+    File,
+    Link,
+}
+
+// What stands at the path, how many bytes are taken, what is refused, whether the image is made, and the bytes at the
+// path then.
+const ROWS: [(Standing, usize, Refusal, bool, Option<&[u8]>); 12] = [
+    (Standing::Nothing, 24, Refusal::Nothing, true, Some(IMAGE)),
+    (Standing::Nothing, 23, Refusal::Nothing, false, None),
+    (Standing::File, 24, Refusal::Nothing, true, Some(IMAGE)),
+    (Standing::File, 23, Refusal::Nothing, false, Some(OLD)),
+    (Standing::File, 0, Refusal::Nothing, false, Some(OLD)),
+    (Standing::File, 99, Refusal::Writing, false, Some(OLD)),
+    (Standing::Link, 99, Refusal::Nothing, true, Some(IMAGE)),
     (
-        Some(PathAndKind::File),
-        24,
-        DiskHabit::Plain,
-        true,
-        Some(IMAGE),
-        1,
-    ),
-    (
-        Some(PathAndKind::File),
-        23,
-        DiskHabit::Plain,
-        false,
-        Some(OLD),
-        1,
-    ),
-    (
-        Some(PathAndKind::File),
-        0,
-        DiskHabit::Plain,
-        false,
-        Some(OLD),
-        1,
-    ),
-    (
-        Some(PathAndKind::ReadOnly),
-        99,
-        DiskHabit::Plain,
-        false,
-        Some(OLD),
-        1,
-    ),
-    (
-        Some(PathAndKind::Link),
-        99,
-        DiskHabit::Plain,
-        true,
-        Some(IMAGE),
-        1,
-    ),
-    (
-        Some(PathAndKind::Link),
-        8,
-        DiskHabit::Plain,
+        Standing::Link,
+        20,
+        Refusal::Nothing,
         false,
         Some(b"the bytes of a new i"),
-        1,
     ),
-    (None, 99, DiskHabit::NoNewNames, false, None, 0),
-    (
-        Some(PathAndKind::File),
-        99,
-        DiskHabit::NoNewNames,
-        true,
-        Some(IMAGE),
-        1,
-    ),
-    (
-        Some(PathAndKind::File),
-        99,
-        DiskHabit::NoNewPlaces,
-        true,
-        Some(IMAGE),
-        1,
-    ),
-    (
-        Some(PathAndKind::File),
-        23,
-        DiskHabit::NoNewPlaces,
-        false,
-        Some(OLD),
-        1,
-    ),
+    (Standing::Nothing, 99, Refusal::NewNames, false, None),
+    (Standing::File, 99, Refusal::NewNames, true, Some(IMAGE)),
+    (Standing::File, 99, Refusal::Renames, true, Some(IMAGE)),
+    (Standing::File, 23, Refusal::Renames, false, Some(OLD)),
 ];
 
-// A disk on which that stands at the path.
-fn disk_with_old_image(
-    alloc: Global,
-    kind: Option<PathAndKind>,
-    room: usize,
-    habit: DiskHabit,
-) -> io::Result<MemoryFileSystem> {
-    let disk = MemoryFileSystem::new(alloc, room, habit);
-    if let Some(kind) = kind {
-        disk.add_node(alloc, PATH, kind, OLD)?;
+// Makes the folder anew, in which that stands at the path.
+fn make_folder(rt: &HostRuntime, standing: Standing) -> io::Result<()> {
+    let _ = fs::remove_dir_all(rt, "whole");
+    fs::create_dir_all(rt, "whole")?;
+    match standing {
+        Standing::Nothing => Ok(()),
+        Standing::File => fs::write(rt, PATH, OLD),
+        Standing::Link => {
+            fs::write(rt, "whole_target", OLD)?;
+            symlink(rt, "../whole_target", PATH)
+        }
     }
-    Ok(disk)
+}
+
+// The names in the folder.
+fn count_names(rt: &HostRuntime) -> io::Result<usize> {
+    let mut count = 0usize;
+    for entry in fs::read_dir(rt, "whole")? {
+        let _entry = entry?;
+        count = count.saturating_add(1);
+    }
+    Ok(count)
 }
 
 // Writes the image, and flushes it.
-fn write_new_image<R: Files>(alloc: Global, files: &R) -> io::Result<NewImage<'_, R>> {
-    let mut image = NewImage::new(alloc, files, PATH)?;
+fn write_new_image<'a, R: Files>(rt: &HostRuntime, files: &'a R) -> io::Result<NewImage<'a, R>> {
+    let mut image = NewImage::new(rt.alloc(), files, PATH)?;
     image.write_all(IMAGE)?;
     image.flush()?;
     Ok(image)
 }
 
-// Writes the image, and puts it in its place.
-fn make_new_image<R: Files>(alloc: Global, files: &R) -> io::Result<()> {
-    write_new_image(alloc, files)?.place()
+// Whether an image that isn't put in its place leaves what was there, and whether names that are taken are left alone, and
+// the permissions of the old file are kept.
+fn are_old_images_and_names_kept(rt: &HostRuntime) -> io::Result<bool> {
+    make_folder(rt, Standing::File)?;
+    fs::set_permissions(rt, PATH, Permissions::from_mode(0o640))?;
+    drop(write_new_image(rt, rt)?);
+    if fs::read(rt, PATH)?.as_slice() != OLD || count_names(rt)? != 1 {
+        return Ok(false);
+    }
+    fs::write(rt, "whole/.mklittlefs-0", b"another")?;
+    write_new_image(rt, rt)?.place()?;
+    let mode = fs::metadata(rt, PATH)?.permissions().mode() & 0o777;
+    Ok(fs::read(rt, PATH)?.as_slice() == IMAGE && count_names(rt)? == 2 && mode == 0o640)
+}
+
+// Whether nothing is made where nothing is written.
+fn is_nothing_made_unwritten(rt: &HostRuntime) -> io::Result<bool> {
+    make_folder(rt, Standing::Nothing)?;
+    let mut image = NewImage::new(rt.alloc(), rt, PATH)?;
+    image.flush()?;
+    image.place()?;
+    Ok(count_names(rt)? == 0)
 }
 
 #[test]
 fn images_are_whole_or_not_there(rt: HostRuntime) -> Result<(), Fail> {
-    for (kind, room, habit, is_made, bytes, names) in ROWS {
-        let disk = disk_with_old_image(rt.alloc(), kind, room, habit)?;
-        let files = DiskFiles {
-            alloc: rt.alloc(),
-            disk: &disk,
+    for (standing, room, refusal, is_made, bytes) in ROWS {
+        make_folder(&rt, standing)?;
+        let room = Cell::new(room);
+        let files = LimitedFiles {
+            files: &rt,
+            room: &room,
+            refusal,
         };
-        assert_eq!(rt;
-            make_new_image(rt.alloc(), &files).is_ok(),
-            is_made,
-            "{kind:?} {room} {habit:?}"
-        );
-        let found = disk.bytes_of_named_node(rt.alloc(), PATH)?;
+        let made = match write_new_image(&rt, &files) {
+            Ok(image) => image.place(),
+            Err(error) => Err(error),
+        };
+        assert_eq!(rt; made.is_ok(), is_made, "{standing:?} {refusal:?}");
+        let found = fs::read(&rt, PATH).ok();
         assert!(rt;
             found.as_ref().map(|v| v.as_slice()) == bytes,
-            "{kind:?} {room} {habit:?}"
+            "{standing:?} {refusal:?}"
         );
-        assert_eq!(rt; disk.count(), names, "{kind:?} {room} {habit:?}");
+        assert_eq!(rt; count_names(&rt)?, usize::from(bytes.is_some()));
     }
-    Ok(())
-}
-
-// An image that isn't put in its place leaves what was there.
-#[test]
-fn images_that_are_dropped_leave_the_old_one(rt: HostRuntime) -> Result<(), Fail> {
-    let disk = disk_with_old_image(rt.alloc(), Some(PathAndKind::File), 99, DiskHabit::Plain)?;
-    let files = DiskFiles {
-        alloc: rt.alloc(),
-        disk: &disk,
-    };
-    drop(write_new_image(rt.alloc(), &files)?);
-    let found = disk.bytes_of_named_node(rt.alloc(), PATH)?;
-    assert!(rt; found.as_ref().map(|bytes| bytes.as_slice()) == Some(OLD));
-    assert_eq!(rt; disk.count(), 1);
-    Ok(())
-}
-
-// Names that are taken are left alone, and the permissions of the old file are kept.
-#[test]
-fn other_names_are_left_alone(rt: HostRuntime) -> Result<(), Fail> {
-    let disk = disk_with_old_image(rt.alloc(), Some(PathAndKind::File), 99, DiskHabit::Plain)?;
-    disk.add_node(
-        rt.alloc(),
-        "out/.mklittlefs-0",
-        PathAndKind::File,
-        b"another",
-    )?;
-    let files = DiskFiles {
-        alloc: rt.alloc(),
-        disk: &disk,
-    };
-    make_new_image(rt.alloc(), &files)?;
-    assert_eq!(rt; disk.count(), 2);
-    assert_eq!(rt; disk.mode_of_named_node(PATH), 0o100644);
-    Ok(())
-}
-
-// Nothing is made where nothing is written.
-#[test]
-fn nothing_written_makes_nothing(rt: HostRuntime) -> Result<(), Fail> {
-    let disk = disk_with_old_image(rt.alloc(), None, 99, DiskHabit::Plain)?;
-    let files = DiskFiles {
-        alloc: rt.alloc(),
-        disk: &disk,
-    };
-    let mut image = NewImage::new(rt.alloc(), &files, PATH)?;
-    image.flush()?;
-    image.place()?;
-    assert_eq!(rt; disk.count(), 0);
+    assert!(rt; are_old_images_and_names_kept(&rt)? && is_nothing_made_unwritten(&rt)?);
+    fs::remove_file(&rt, "whole_target")?;
+    fs::remove_dir_all(&rt, "whole")?;
     Ok(())
 }

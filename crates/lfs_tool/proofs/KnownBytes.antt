@@ -47,25 +47,7 @@ ended_behind old mid new front back first second ends = (front ++ back, (reads_o
 pub past_the_most : (old new : Option (List ℕ)) (items : List ℕ) → Consumes old new items → 268435456 < length items → IsReadToEnd old new
 past_the_most old new items read many = (items, (read, inr many))
 
--- so many bytes have been passed
-abbrev pub HasPassed : Option (List ℕ) → Option (List ℕ) → ℕ → Type 0
-HasPassed old new n = (bytes : List ℕ) × (Consumes old new bytes × (length bytes ≡ n))
-
-pub passed_none : (known : Option (List ℕ)) → HasPassed known known 0
-passed_none None = ([], (tt, refl))
-passed_none (Some bytes) = ([], (refl, refl))
-
-pub passed_more : (old mid new : Option (List ℕ)) (len n : ℕ) (buf : List ℕ) → HasPassed old mid len → Consumes mid new (take n buf) → n ≤ length buf → HasPassed old new (len + n)
-passed_more old mid new len n buf (bytes, (read, is)) more within =
-    (bytes ++ take n buf, (reads_on old mid new bytes (take n buf) read more, length-append bytes (take n buf) ∙ ap₂ (λ a b. a + b) is (length-take-le n buf within)))
-
-pub passed_to_end : (old mid new : Option (List ℕ)) (len n : ℕ) (buf : List ℕ) → HasPassed old mid len → Consumes mid new (take n buf) → IsAtEnd new → IsReadToEnd old new
-passed_to_end old mid new len n buf (bytes, (read, is)) more ends = ended_behind old mid new bytes (take n buf) read more ends
-
-pub passed_the_most : (old new : Option (List ℕ)) (len : ℕ) → HasPassed old new len → 268435456 < len → IsReadToEnd old new
-passed_the_most old new len (bytes, (read, is)) many = past_the_most old new bytes read (omega (arith, is, many))
-
--- ---- a call that is made again, after calls that kept the known bytes
+-- ---- a call that failed, or that a signal interrupted
 
 pub consumes_behind : (old mid new : Option (List ℕ)) (bs : List ℕ) → Keeps old mid → Consumes mid new bs → Consumes old new bs
 consumes_behind None mid new bs kept read = tt
@@ -73,15 +55,8 @@ consumes_behind (Some xs) None new bs kept read = absurd kept
 consumes_behind (Some xs) (Some ys) None bs kept read = absurd read
 consumes_behind (Some xs) (Some ys) (Some zs) bs kept read = sym kept ∙ read
 
-pub appends_behind : (old mid new : Option (List ℕ)) (bs : List ℕ) → Keeps old mid → Appends mid new bs → Appends old new bs
-appends_behind None mid new bs kept written = tt
-appends_behind (Some xs) None new bs kept written = absurd kept
-appends_behind (Some xs) (Some ys) None bs kept written = absurd written
-appends_behind (Some xs) (Some ys) (Some zs) bs kept written = written ∙ ap (λ s. s ++ bs) kept
-
--- to write none of some bytes is to keep what is there
-pub keeps_behind : (old mid new : Option (List ℕ)) (n : ℕ) (bs : List ℕ) → n ≡ 0 → Keeps old mid → Appends mid new (take n bs) → Keeps old new
-keeps_behind None mid new n bs none kept written = tt
-keeps_behind (Some xs) None new n bs none kept written = absurd kept
-keeps_behind (Some xs) (Some ys) None n bs none kept written = absurd written
-keeps_behind (Some xs) (Some ys) (Some zs) n bs none kept written = written ∙ ap (λ i. ys ++ take i bs) none ∙ append-nil ys ∙ kept
+pub appends_kept : (old mid new : Option (List ℕ)) (bs : List ℕ) → Appends old mid bs → Keeps mid new → Appends old new bs
+appends_kept None mid new bs written kept = tt
+appends_kept (Some xs) None new bs written kept = absurd written
+appends_kept (Some xs) (Some ys) None bs written kept = absurd kept
+appends_kept (Some xs) (Some ys) (Some zs) bs written kept = kept ∙ written

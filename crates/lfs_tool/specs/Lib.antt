@@ -3,7 +3,7 @@ pub mod WrongNumbers
 pub mod ImageSummaries
 pub mod Verdict
 pub mod RunEnds
-pub mod WatchedStreams
+pub mod Streams
 pub mod Reports
 pub mod KnownBytes
 pub mod EitherOrder

@@ -6,7 +6,7 @@ use Rattle.std.specs.Option.{option_and_then}
 use Rattle.std.specs.Str.{bytes_eq}
 use Rattle.lfs_model.specs.format.Names.{Name, slash_byte}
 use Rattle.lfs_model.specs.layers.Source.{TreeSource}
-use Rattle.lfs_tool.specs.declared.source_memory.MemorySourceEntry.{MemorySourceEntry}
+use Rattle.lfs_tool.specs.declared.entries.SourceEntry.{SourceEntry}
 
 -- a path, and the bytes of a file there
 abbrev pub PathAndBytes : Type 0
@@ -16,7 +16,7 @@ abbrev pub optional_bytes_view : Option (Vec ℕ Global) → Option (List ℕ)
 optional_bytes_view None = None
 optional_bytes_view (Some bytes) = Some bytes.items
 
-abbrev pub memory_view : MemorySourceEntry → PathAndBytes
+abbrev pub memory_view : SourceEntry → PathAndBytes
 memory_view h = (h.path.items, optional_bytes_view h.bytes)
 
 abbrev pub has_no_bytes : Option (List ℕ) → Bool

@@ -1,23 +1,24 @@
--- What a result means for the reader and the writer that were used.
-use Rattle.std.specs.Prelude.{◌≡◌, ◌<◌, ◌⊎◌, ℕ, suc, List, Option, Result, Ok, Err, IsErrOf, length}
+-- What a result means for the reader, the writer, the source or the target that was used.
+use Rattle.std.specs.Prelude.{◌≡◌, ◌<◌, ◌⊎◌, ℕ, Bool, true, false, List, Option, Result, Ok, Err, IsErrOf, length}
 use Rattle.std.specs.Io.KnownBytes.{Consumes, IsAtEnd}
 use Rattle.lfs_tool.specs.declared.errors.ToolError.{ToolError}
 use Rattle.lfs_tool.specs.declared.errors.ToolError.TheVariants.{Output}
-use Rattle.lfs_tool.specs.declared.writer.ToolOutput.{Ghosts}
+use Rattle.lfs_tool.specs.declared.stream.Stream.{Stream}
+use Rattle.lfs_tool.specs.Streams.{has_failed, has_shown}
 
--- this error comes exactly where a call failed, and then only one did
-abbrev pub ReportsOneFault : {X : Type 0} → ToolError → ℕ → ℕ → Result X ToolError → Type 0
-ReportsOneFault e old new r = (IsErrOf r e → new ≡ suc old) × (¬ IsErrOf r e → new ≡ old)
+-- This error comes exactly if a call failed: it has failed then, and else as before.
+abbrev pub ReportsFault : {X E : Type 0} → E → Bool → Bool → Result X E → Type 0
+ReportsFault e old new r = (IsErrOf r e → new ≡ true) × (¬ IsErrOf r e → new ≡ old)
 
--- `Output` comes exactly where the writer fails, which it does once. After any other error the writer is as it was.
-abbrev pub ReportsWriterFaults : {W X : Type 0} → Ghosts W → W → W → Result X ToolError → Type 0
-ReportsWriterFaults g old new (Ok x) = g.faults new ≡ g.faults old
-ReportsWriterFaults g old new (Err Output) = g.faults new ≡ suc (g.faults old)
-ReportsWriterFaults g old new (Err e) = new ≡ old
+-- `Output` comes exactly if the writer failed. After any other error the writer is as it was.
+abbrev pub ReportsWriterFaults : {W X : Type 0} → Stream W → Stream W → Result X ToolError → Type 0
+ReportsWriterFaults old new (Ok x) = has_failed new ≡ has_failed old
+ReportsWriterFaults old new (Err Output) = has_failed new ≡ true
+ReportsWriterFaults old new (Err e) = new ≡ old
 
--- unless it failed, it has shown one value more
-abbrev pub HasShownOne : {W : Type 0} → Ghosts W → W → W → Type 0
-HasShownOne g old new = g.faults new ≡ g.faults old → g.shown new ≡ suc (g.shown old)
+-- unless it failed, it has shown a value
+abbrev pub HasShown : {W : Type 0} → Stream W → Type 0
+HasShown new = has_failed new ≡ false → has_shown new ≡ true
 
 -- known bytes were read to their end, or more of them than an image may have
 abbrev pub IsReadToEnd : Option (List ℕ) → Option (List ℕ) → Type 0

@@ -1,5 +1,5 @@
 -- The entries of a source, after it is read.
-use Rattle.std.specs.Prelude.{◌≡◌, ◌⊎◌, ◌++◌, ◌&&◌, ℕ, suc, Bool, true, false, List, [], ◌∷◌, Option, Some, None, All, AllPairs, Contains, IfSome, map}
+use Rattle.std.specs.Prelude.{◌≡◌, ◌⊎◌, ◌++◌, ◌&&◌, ℕ, Bool, true, false, List, [], ◌∷◌, Option, Some, None, All, AllPairs, Contains, IfSome, map}
 use Rattle.std.specs.List.Sorted.{IsPermutation}
 use Rattle.std.specs.declared.cmp.Ordering.TheVariants.{Less}
 use Rattle.lfs_model.specs.declared.order.NameOrder.TheVariants.{ShorterFirst}
@@ -67,9 +67,9 @@ AreSourceEntries known entries = (top : List (Name × Bool)) × (AreSortedFolder
 
 -- ---- faults
 
--- one call more has had a fault, or none has and this holds
-abbrev pub HasFaultOr : ℕ → ℕ → Type 0 → Type 0
-HasFaultOr old new other = (new ≡ suc old) ⊎ ((new ≡ old) × other)
+-- a call has had a fault, or none more has and this holds
+abbrev pub HasFaultOr : Bool → Bool → Type 0 → Type 0
+HasFaultOr old new other = (new ≡ true) ⊎ ((new ≡ old) × other)
 
 -- Names lead from one folder to another, each a folder's in the one before.
 abbrev pub IsFolderReached : TreeSource → List ℕ → List Name → List ℕ → Type 0

@@ -1,5 +1,5 @@
 -- What an unpacking returns.
-use Rattle.std.specs.Prelude.{ℕ, ◌≡◌, ◌⊎◌, ◌++◌, suc, List, Option, Some, None, Result, Ok, Err, map, take}
+use Rattle.std.specs.Prelude.{ℕ, ◌≡◌, ◌⊎◌, ◌++◌, Bool, true, List, Option, Some, None, Result, Ok, Err, map, take}
 use Rattle.std.specs.List.{AllByRecursion}
 use Rattle.lfs_tool.specs.declared.image_layout.ImageLayout.{ImageLayout}
 use Rattle.lfs_model.specs.format.Disk.{Disk, IsWholeImage}
@@ -52,12 +52,12 @@ HaveFormedLists disk places = AllByRecursion (λ p. IsFormedList disk p.struct) 
 
 -- `Output` comes where the target has failed, and any other result where it hasn't: then memory ran out, if the result is an
 -- error
-abbrev pub IsTargetError : ℕ → ℕ → ToolError → Type 0
-IsTargetError old new Output = new ≡ suc old
+abbrev pub IsTargetError : Bool → Bool → ToolError → Type 0
+IsTargetError old new Output = new ≡ true
 IsTargetError old new (Fs NoMemory) = new ≡ old
 IsTargetError old new other = ⊥
 
-abbrev pub ReportsTargetFaults : {X : Type 0} → ℕ → ℕ → Result X ToolError → Type 0
+abbrev pub ReportsTargetFaults : {X : Type 0} → Bool → Bool → Result X ToolError → Type 0
 ReportsTargetFaults old new (Ok x) = new ≡ old
 ReportsTargetFaults old new (Err e) = IsTargetError old new e
 

@@ -5,7 +5,7 @@ ghost use Rattle.lfs_tool.specs.MemorySources.{optional_bytes_view};
 ghost use Rattle.lfs_tool.specs.SourceEntries.{AreSourceEntries, AreSortedFolderNames, HasFaultOr, HasBadNames, HasSourceContents, waiting_view, paths_in_folder};
 
 use crate::names::{are_names_allowed, sort_names};
-use crate::{ListedName, Source, SourceError, SourceKind};
+use crate::{FileError, ListedName, Source, SourceKind};
 use std::alloc::Global;
 
 /// A file or a folder of a source.
@@ -15,6 +15,8 @@ pub struct SourceEntry {
     pub path: Vec<u8>,
     /// A file's bytes, and none for a folder.
     pub bytes: Option<Vec<u8>>,
+    /// When it was modified, in seconds since 1970, if that is known and before 2106.
+    pub modified: Option<u32>,
 }
 
 // A file or a folder that is known to be there, and is still to be read.
@@ -23,20 +25,21 @@ struct WaitingEntry {
     path: Vec<u8>,
     kind: SourceKind,
     len: u64,
+    modified: Option<u32>,
 }
 
 // Returns the path of a name in a folder.
-fn join_path(alloc: Global, folder: &[u8], name: &[u8]) -> Result<Vec<u8>, SourceError>
+fn join_path(alloc: Global, folder: &[u8], name: &[u8]) -> Result<Vec<u8>, FileError>
     ensures path { IfOk result (λ v. v.items ≡ path_in_folder folder.now name.now) }
-    ensures memory { (e : _) → result ≡ Err e → e ≡ SourceError.NoMemory }
+    ensures memory { (e : _) → result ≡ Err e → e ≡ FileError.NoMemory }
 {
     let len = folder.len().saturating_add(1).saturating_add(name.len());
-    let mut path = Vec::with_capacity(alloc, len).map_err(|_| SourceError::NoMemory)?;
+    let mut path = Vec::with_capacity(alloc, len).map_err(|_| FileError::NoMemory)?;
     path.extend_from_slice(folder)
-        .map_err(|_| SourceError::NoMemory)?;
-    path.push(b'/').map_err(|_| SourceError::NoMemory)?;
+        .map_err(|_| FileError::NoMemory)?;
+    path.push(b'/').map_err(|_| FileError::NoMemory)?;
     path.extend_from_slice(name)
-        .map_err(|_| SourceError::NoMemory)?;
+        .map_err(|_| FileError::NoMemory)?;
     Ok(path)
 }
 
@@ -45,27 +48,27 @@ fn sorted_names<S: Source>(
     alloc: Global,
     source: &mut S,
     folder: &[u8],
-) -> Result<Vec<ListedName>, SourceError>
+) -> Result<Vec<ListedName>, FileError>
     ensures names { IfOk result (λ v. AreSortedFolderNames (S.shown source.old) folder.now (map listed_view v.items)) }
     ensures shown { IsUnchanged (S.shown source.old) (S.shown source.new) }
-    ensures kept { OnOk result (S.faults source.new ≡ S.faults source.old) }
-    ensures fault { IsErrOf result SourceError.Fault
-        → HasFaultOr (S.faults source.old) (S.faults source.new) (IfSome (S.shown source.old) (λ s. HaveBadOrRepeated (source_names (s.names folder.now)))) }
-    ensures no_memory { IsErrOf result SourceError.NoMemory → S.faults source.new ≡ S.faults source.old }
+    ensures kept { OnOk result (S.has_failed source.new ≡ S.has_failed source.old) }
+    ensures fault { IsErrOf result FileError.Fault
+        → HasFaultOr (S.has_failed source.old) (S.has_failed source.new) (IfSome (S.shown source.old) (λ s. HaveBadOrRepeated (source_names (s.names folder.now)))) }
+    ensures no_memory { IsErrOf result FileError.NoMemory → S.has_failed source.new ≡ S.has_failed source.old }
 {
     let mut names = source.list(alloc, folder)?;
     sort_names(&mut names);
     if !are_names_allowed(names.as_slice()) {
-        return Err(SourceError::Fault);
+        return Err(FileError::Fault);
     }
     Ok(names)
 }
 
-fn push_waiting_entry(waiting: &mut Vec<WaitingEntry>, one: WaitingEntry) -> Result<(), SourceError>
+fn push_waiting_entry(waiting: &mut Vec<WaitingEntry>, one: WaitingEntry) -> Result<(), FileError>
     ensures waiting { OnOk result (waiting.new.items ≡ waiting.old.items ++ one ∷ []) }
-    ensures memory { (e : _) → result ≡ Err e → e ≡ SourceError.NoMemory }
+    ensures memory { (e : _) → result ≡ Err e → e ≡ FileError.NoMemory }
 {
-    waiting.push(one).map_err(|_| SourceError::NoMemory)
+    waiting.push(one).map_err(|_| FileError::NoMemory)
 }
 
 fn push_names_waiting(
@@ -73,15 +76,19 @@ fn push_names_waiting(
     folder: &[u8],
     names: &[ListedName],
     waiting: &mut Vec<WaitingEntry>,
-) -> Result<(), SourceError>
+) -> Result<(), FileError>
     ensures places { OnOk result (map waiting_view waiting.new.items ≡ map waiting_view waiting.old.items ++ paths_in_folder folder.now (map listed_view names.now)) }
-    ensures memory { (e : _) → result ≡ Err e → e ≡ SourceError.NoMemory }
+    ensures memory { (e : _) → result ≡ Err e → e ≡ FileError.NoMemory }
 {
     for one in names {
         let path = join_path(alloc, folder, one.name.as_slice())?;
-        let kind = one.kind;
-        let len = one.len;
-        push_waiting_entry(waiting, WaitingEntry { path, kind, len })?;
+        let entry = WaitingEntry {
+            path,
+            kind: one.kind,
+            len: one.len,
+            modified: one.modified,
+        };
+        push_waiting_entry(waiting, entry)?;
     }
     Ok(())
 }
@@ -92,14 +99,14 @@ fn push_folder_names<S: Source>(
     source: &mut S,
     folder: &[u8],
     waiting: &mut Vec<WaitingEntry>,
-) -> Result<(), SourceError>
+) -> Result<(), FileError>
     ensures within { OnOk result ((within : _) × (AreSortedFolderNames (S.shown source.old) folder.now within
         × (map waiting_view waiting.new.items ≡ map waiting_view waiting.old.items ++ reverse (paths_in_folder folder.now within)))) }
     ensures shown { IsUnchanged (S.shown source.old) (S.shown source.new) }
-    ensures kept { OnOk result (S.faults source.new ≡ S.faults source.old) }
-    ensures fault { IsErrOf result SourceError.Fault
-        → HasFaultOr (S.faults source.old) (S.faults source.new) (IfSome (S.shown source.old) (λ s. HaveBadOrRepeated (source_names (s.names folder.now)))) }
-    ensures no_memory { IsErrOf result SourceError.NoMemory → S.faults source.new ≡ S.faults source.old }
+    ensures kept { OnOk result (S.has_failed source.new ≡ S.has_failed source.old) }
+    ensures fault { IsErrOf result FileError.Fault
+        → HasFaultOr (S.has_failed source.old) (S.has_failed source.new) (IfSome (S.shown source.old) (λ s. HaveBadOrRepeated (source_names (s.names folder.now)))) }
+    ensures no_memory { IsErrOf result FileError.NoMemory → S.has_failed source.new ≡ S.has_failed source.old }
 {
     let mut names = sorted_names(alloc, source, folder)?;
     names.reverse();
@@ -113,15 +120,15 @@ fn read_waiting_entry<S: Source>(
     source: &mut S,
     one: &WaitingEntry,
     waiting: &mut Vec<WaitingEntry>,
-) -> Result<Option<Vec<u8>>, SourceError>
+) -> Result<Option<Vec<u8>>, FileError>
     ensures holds { IfOk result (λ bytes. (within : _) × (HasSourceContents (S.shown source.old) one.now.path.items (is_folder one.now.kind) (optional_bytes_view bytes) within
         × (map waiting_view waiting.new.items ≡ map waiting_view waiting.old.items ++ reverse (paths_in_folder one.now.path.items within)))) }
     ensures shown { IsUnchanged (S.shown source.old) (S.shown source.new) }
-    ensures kept { OnOk result (S.faults source.new ≡ S.faults source.old) }
-    ensures fault { IsErrOf result SourceError.Fault
-        → HasFaultOr (S.faults source.old) (S.faults source.new)
+    ensures kept { OnOk result (S.has_failed source.new ≡ S.has_failed source.old) }
+    ensures fault { IsErrOf result FileError.Fault
+        → HasFaultOr (S.has_failed source.old) (S.has_failed source.new)
         ((is_folder one.now.kind ≡ true) × IfSome (S.shown source.old) (λ s. HaveBadOrRepeated (source_names (s.names one.now.path.items)))) }
-    ensures no_memory { IsErrOf result SourceError.NoMemory → S.faults source.new ≡ S.faults source.old }
+    ensures no_memory { IsErrOf result FileError.NoMemory → S.has_failed source.new ≡ S.has_failed source.old }
 {
     match one.kind {
         SourceKind::Folder => {
@@ -135,11 +142,11 @@ fn read_waiting_entry<S: Source>(
     }
 }
 
-fn push_source_entry(entries: &mut Vec<SourceEntry>, entry: SourceEntry) -> Result<(), SourceError>
+fn push_source_entry(entries: &mut Vec<SourceEntry>, entry: SourceEntry) -> Result<(), FileError>
     ensures entries { OnOk result (entries.new.items ≡ entries.old.items ++ entry ∷ []) }
-    ensures memory { (e : _) → result ≡ Err e → e ≡ SourceError.NoMemory }
+    ensures memory { (e : _) → result ≡ Err e → e ≡ FileError.NoMemory }
 {
-    entries.push(entry).map_err(|_| SourceError::NoMemory)
+    entries.push(entry).map_err(|_| FileError::NoMemory)
 }
 
 /// Reads all that a source has, depth first and in name order. A folder comes before its entries.
@@ -148,12 +155,12 @@ fn push_source_entry(entries: &mut Vec<SourceEntry>, entry: SourceEntry) -> Resu
 /// - `Fault` where the source couldn't be read, or a name in a folder is given twice, is empty, `.` or
 ///   `..`, or has a byte 0x00 or `/`.
 /// - `NoMemory` where memory isn't granted.
-pub fn read_tree<S: Source>(alloc: Global, source: &mut S) -> Result<Vec<SourceEntry>, SourceError>
+pub fn read_tree<S: Source>(alloc: Global, source: &mut S) -> Result<Vec<SourceEntry>, FileError>
     ensures entries { IfOk result (λ v. AreSourceEntries (S.shown source.old) v.items) }
     ensures shown { IsUnchanged (S.shown source.old) (S.shown source.new) }
-    ensures kept { OnOk result (S.faults source.new ≡ S.faults source.old) }
-    ensures fault { IsErrOf result SourceError.Fault → HasFaultOr (S.faults source.old) (S.faults source.new) (IfSome (S.shown source.old) HasBadNames) }
-    ensures no_memory { IsErrOf result SourceError.NoMemory → S.faults source.new ≡ S.faults source.old }
+    ensures kept { OnOk result (S.has_failed source.new ≡ S.has_failed source.old) }
+    ensures fault { IsErrOf result FileError.Fault → HasFaultOr (S.has_failed source.old) (S.has_failed source.new) (IfSome (S.shown source.old) HasBadNames) }
+    ensures no_memory { IsErrOf result FileError.NoMemory → S.has_failed source.new ≡ S.has_failed source.old }
 {
     let mut entries = Vec::new(alloc);
     let mut waiting = Vec::new(alloc);
@@ -164,8 +171,12 @@ pub fn read_tree<S: Source>(alloc: Global, source: &mut S) -> Result<Vec<SourceE
             return Ok(entries);
         };
         let bytes = read_waiting_entry(alloc, source, &one, &mut waiting)?;
-        let path = one.path;
-        push_source_entry(&mut entries, SourceEntry { path, bytes })?;
+        let entry = SourceEntry {
+            path: one.path,
+            bytes,
+            modified: one.modified,
+        };
+        push_source_entry(&mut entries, entry)?;
     }
-    Err(SourceError::NoMemory)
+    Err(FileError::NoMemory)
 }

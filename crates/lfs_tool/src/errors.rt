@@ -6,16 +6,18 @@ ghost use Rattle.lfs_model.specs.layers.Listing.{newline};
 ghost use Rattle.lfs_tool.specs.Errors.{error_line, error_line_of, error_status};
 ghost use Rattle.lfs_tool.specs.ExitStatus.{is_help_request};
 ghost use Rattle.lfs_tool.specs.KnownBytes.{AppendsBeginning};
-ghost use Rattle.lfs_tool.specs.Reports.{HasShownOne};
+ghost use Rattle.lfs_tool.specs.Reports.{HasShown};
 ghost use Rattle.lfs_tool.specs.RunEnds.{IsFailureReported};
+ghost use Rattle.lfs_tool.specs.Streams.{has_failed, stream_inner};
 
-use crate::output::write_and_flush;
-use crate::{LineError, ToolOutput};
+use crate::LineError;
+use crate::stream::{Stream, show, write_and_flush};
 use arrayvec::ArrayString;
 use clap::error::ErrorKind;
 use itoa::Buffer;
 use lfs_device::Error;
 use std::alloc::AllocError;
+use std::io::Write;
 
 /// The cause for which a call of the tool failed.
 #[derive(Clone, Copy, Debug, PartialEq, Eq, thiserror::Error)]
@@ -114,11 +116,11 @@ fn text_of_error(error: Error) -> LineText
 }
 
 // Writes the line of a mistake in a command line, and returns its status. A failed write is ignored.
-fn write_mistake<E: ToolOutput>(err: &mut E, rule: &str) -> u8
+fn write_mistake<E: Write>(err: &mut Stream<E>, rule: &str) -> u8
     requires { length rule.now ≤ 80 }
     ensures status { result ≡ 2 }
-    ensures beginning { AppendsBeginning (E.contents err.old) (E.contents err.new) (codes "error: " ++ rule.now ++ newline) }
-    ensures line { E.faults err.new ≡ E.faults err.old → Appends (E.contents err.old) (E.contents err.new) (codes "error: " ++ rule.now ++ newline) }
+    ensures beginning { AppendsBeginning (E.contents (stream_inner err.old)) (E.contents (stream_inner err.new)) (codes "error: " ++ rule.now ++ newline) }
+    ensures line { has_failed err.new ≡ false → Appends (E.contents (stream_inner err.old)) (E.contents (stream_inner err.new)) (codes "error: " ++ rule.now ++ newline) }
 {
     let text = line_of_words(rule);
     let _ = write_and_flush(err, text.as_bytes());
@@ -126,10 +128,10 @@ fn write_mistake<E: ToolOutput>(err: &mut E, rule: &str) -> u8
 }
 
 // Writes the line of an error. A failed write is ignored.
-fn write_error_line<E: ToolOutput>(err: &mut E, error: ToolError) -> u8
+fn write_error_line<E: Write>(err: &mut Stream<E>, error: ToolError) -> u8
     ensures status { result ≡ error_status error }
-    ensures beginning { AppendsBeginning (E.contents err.old) (E.contents err.new) (error_line_of error) }
-    ensures line { E.faults err.new ≡ E.faults err.old → Appends (E.contents err.old) (E.contents err.new) (error_line_of error) }
+    ensures beginning { AppendsBeginning (E.contents (stream_inner err.old)) (E.contents (stream_inner err.new)) (error_line_of error) }
+    ensures line { has_failed err.new ≡ false → Appends (E.contents (stream_inner err.old)) (E.contents (stream_inner err.new)) (error_line_of error) }
 {
     let line = error.error_line_text();
     let _ = write_and_flush(err, line.as_bytes());
@@ -148,10 +150,10 @@ fn write_error_line<E: ToolOutput>(err: &mut E, error: ToolError) -> u8
 /// A failed write is ignored. The writer that gets nothing isn't called. Unless its writer failed,
 /// a line of the tool's own is written whole, or the parser's text is shown. Either is flushed.
 /// No promise is made of the parser's text.
-pub fn report<O: ToolOutput, E: ToolOutput>(fault: &Fault, out: &mut O, err: &mut E) -> u8
-    ensures shown { IsFailureReported E.ToolOutput fault.now result err.old err.new }
+pub fn report<O: Write, E: Write>(fault: &Fault, out: &mut Stream<O>, err: &mut Stream<E>) -> u8
+    ensures shown { IsFailureReported E.contents fault.now result err.old err.new }
     ensures out { is_help_request fault.now ≡ false → out.new ≡ out.old }
-    ensures help { is_help_request fault.now ≡ true → HasShownOne O.ToolOutput out.old out.new }
+    ensures help { is_help_request fault.now ≡ true → HasShown out.new }
 {
     match fault {
         Fault::Line(LineError::Modes) => write_mistake(err, "give exactly one of -c, -u, -l"),
@@ -173,11 +175,11 @@ pub fn report<O: ToolOutput, E: ToolOutput>(fault: &Fault, out: &mut O, err: &mu
         Fault::Line(LineError::Parser(error)) => match error.kind() {
             ErrorKind::OutOfMemory => write_error_line(err, ToolError::Fs(Error::NoMemory)),
             ErrorKind::DisplayHelp | ErrorKind::DisplayVersion => {
-                let _ = out.show(error);
+                let _ = show(out, error);
                 0
             }
             _ => {
-                let _ = err.show(error);
+                let _ = show(err, error);
                 2
             }
         },

@@ -5,8 +5,8 @@ ghost use Rattle.lfs_tool.specs.CheckResults.{AreRefusedBytes, IsCheckResult, Ar
 
 use crate::ImageLayout;
 use crate::image_devices::ram_device_of;
-use crate::input::IMAGE_MAX;
 use crate::judgement::judge_device;
+use crate::stream::IMAGE_MAX;
 use crate::superblocks::image_wrong_number;
 use crate::verdict::{CheckResult, GivenSizes, ImageVerdict, RefusalReason, WrongNumber};
 use lfs_device::Error;

@@ -1,6 +1,5 @@
 ghost use Rattle.std.specs.Prelude.{◌≡◌, IfOk};
 
-use crate::full_path::joined_path;
 use std::alloc::{AllocError, Global};
 use std::cell::RefCell;
 use std::io;
@@ -43,20 +42,19 @@ impl FaultLog {
 
     /// Notes a fault at a path, unless something is noted already. Where memory runs out it notes that.
     pub fn note(&self, alloc: Global, path: &[u8], error: &io::Error) {
-        if self.is_empty() {
-            match path_fault_of(alloc, path, error) {
-                Ok(fault) => {
-                    let _ = self.first.try_replace(Ok(Some(fault)));
-                }
-                Err(AllocError) => self.note_lost_fault(),
-            }
-        }
+        self.note_first(path_fault_of(alloc, path, error).map(|fault| Some(fault)));
     }
 
     /// Notes that memory ran out as a fault was to be noted, unless something is noted already.
     pub fn note_lost_fault(&self) {
-        if self.is_empty() {
-            let _ = self.first.try_replace(Err(AllocError));
+        self.note_first(Err(AllocError));
+    }
+
+    fn note_first(&self, fault: Result<Option<PathFault>, AllocError>) {
+        if let Ok(mut first) = self.first.try_borrow_mut() {
+            if matches!(&*first, Ok(None)) {
+                *first = fault;
+            }
         }
     }
 
@@ -65,32 +63,6 @@ impl FaultLog {
     /// # Errors
     /// Where memory ran out as the first fault was to be noted.
     pub fn take(&self) -> Result<Option<PathFault>, AllocError> {
-        match self.first.try_replace(Ok(None)) {
-            Ok(first) => first,
-            Err(_) => Ok(None),
-        }
-    }
-
-    // Returns whether nothing is noted yet.
-    fn is_empty(&self) -> bool {
-        match self.first.try_borrow() {
-            Ok(first) => matches!(&*first, Ok(None)),
-            Err(_) => false,
-        }
-    }
-
-    // Notes a fault at a path below a root, or of a name in the folder there.
-    pub(crate) fn note_below_root(
-        &self,
-        alloc: Global,
-        root: &str,
-        path: &[u8],
-        name: &[u8],
-        error: &io::Error,
-    ) {
-        match joined_path(alloc, root, path, name) {
-            Ok(full) => self.note(alloc, full.as_slice(), error),
-            Err(AllocError) => self.note_lost_fault(),
-        }
+        self.first.try_replace(Ok(None)).unwrap_or(Ok(None))
     }
 }

@@ -4,16 +4,18 @@ ghost use Rattle.std.specs.Prelude.{◌≡◌, IfOk, IsErrOf};
 ghost use Rattle.std.specs.Io.KnownBytes.{Appends};
 ghost use Rattle.lfs_tool.specs.KnownBytes.{AppendsBeginning};
 ghost use Rattle.lfs_tool.specs.Reports.{ReportsWriterFaults};
+ghost use Rattle.lfs_tool.specs.Streams.{stream_inner};
 ghost use Rattle.lfs_tool.specs.CheckResults.{IsCheckResult, is_accepted_result};
 ghost use Rattle.lfs_tool.specs.CheckedLines.{result_text};
 
 use crate::checked_lines::check_result_lines;
 use crate::examination::result_of_image;
-use crate::output::write_and_flush;
+use crate::stream::{Stream, write_and_flush};
 use crate::verdict::CheckResult;
-use crate::{ImageLayout, ToolError, ToolOutput};
+use crate::{ImageLayout, ToolError};
 use lfs_device::Error;
 use std::alloc::Global;
+use std::io::Write;
 
 fn is_result_accepted(checked: &CheckResult) -> bool
     ensures { result ≡ is_accepted_result checked.now }
@@ -35,19 +37,19 @@ fn is_result_accepted(checked: &CheckResult) -> bool
 /// # Errors
 /// - `Fs(NoMemory)` if memory isn't granted.
 /// - `Output` if the writer failed. It has then got a beginning of the lines.
-pub fn check<W: ToolOutput>(
+pub fn check<W: Write>(
     alloc: Global,
     image: Vec<u8>,
     layout: ImageLayout,
-    out: &mut W,
+    out: &mut Stream<W>,
 ) -> Result<bool, ToolError>
     ensures ok { IfOk result (λ accepted.
-        (checked : _) × (IsCheckResult layout image.items checked × (accepted ≡ is_accepted_result checked) × Appends (W.contents out.old) (W.contents out.new) (result_text checked))) }
+        (checked : _) × (IsCheckResult layout image.items checked × (accepted ≡ is_accepted_result checked) × Appends (W.contents (stream_inner out.old)) (W.contents (stream_inner out.new)) (result_text checked))) }
 
     // Where the writer fails, a beginning of the lines may be written.
-    ensures writer { ReportsWriterFaults W.ToolOutput out.old out.new result }
+    ensures writer { ReportsWriterFaults out.old out.new result }
     ensures beginning { IsErrOf result ToolError.Output →
-        (checked : _) × (IsCheckResult layout image.items checked × AppendsBeginning (W.contents out.old) (W.contents out.new) (result_text checked)) }
+        (checked : _) × (IsCheckResult layout image.items checked × AppendsBeginning (W.contents (stream_inner out.old)) (W.contents (stream_inner out.new)) (result_text checked)) }
 
     // When each other error comes.
     ensures refused { (e : _) → IsErrOf result (ToolError.Fs e) → e ≡ Error.NoMemory }

@@ -9,7 +9,7 @@ ghost use Rattle.lfs_model.specs.declared.order.NameOrder.TheVariants.{LongerFir
 ghost use Rattle.lfs_tool.specs.Listings.{IsWalkedThread, IsMountError};
 ghost use Rattle.lfs_lookup.specs.TreeWalk.{tree_items_view};
 
-use crate::input::IMAGE_MAX;
+use crate::stream::IMAGE_MAX;
 use crate::{ImageLayout, geometry_of_sizes};
 use lfs_device::{Error, Geometry, RamDevice};
 use lfs_lookup::{TreeItem, walk_tree};

@@ -6,15 +6,17 @@ ghost use Rattle.lfs_lookup.specs.TreeWalk.{tree_items_view};
 ghost use Rattle.lfs_thread.specs.Kept.{ThreadView};
 ghost use Rattle.lfs_tool.specs.KnownBytes.{AppendsBeginning};
 ghost use Rattle.lfs_tool.specs.Reports.{ReportsWriterFaults};
+ghost use Rattle.lfs_tool.specs.Streams.{stream_inner};
 ghost use Rattle.lfs_tool.specs.Listings.{IsImageListing, IsImageWalk, IsMountError, IsWalkedThread, RefusesToList};
 
 use crate::image_devices::{ram_device_of, tree_items_of};
 use crate::lines::tree_item_lines;
-use crate::output::write_and_flush;
-use crate::{ImageLayout, ToolError, ToolOutput};
+use crate::stream::{Stream, write_and_flush};
+use crate::{ImageLayout, ToolError};
 use lfs_device::{Error, RamDevice};
 use lfs_lookup::TreeItem;
 use std::alloc::Global;
+use std::io::Write;
 
 fn items_of_ram(alloc: Global, device: RamDevice) -> Result<Vec<TreeItem>, Error>
     ensures items { IfOk result (λ items. (t : ThreadView) × IsWalkedThread (shown (ram_geometry device) (ram_blocks device)) t (tree_items_view items.items)) }
@@ -55,17 +57,17 @@ pub fn items_of_image(
 /// # Errors
 /// - `Fs` with each error of `items_of_image`.
 /// - `Output` if the writer failed. It has then got a beginning of the lines.
-pub fn list<W: ToolOutput>(
+pub fn list<W: Write>(
     alloc: Global,
     image: Vec<u8>,
     layout: ImageLayout,
-    out: &mut W,
+    out: &mut Stream<W>,
 ) -> Result<(), ToolError>
-    ensures ok { OnOk result ((text : _) × (IsImageListing layout image.items text × Appends (W.contents out.old) (W.contents out.new) text)) }
+    ensures ok { OnOk result ((text : _) × (IsImageListing layout image.items text × Appends (W.contents (stream_inner out.old)) (W.contents (stream_inner out.new)) text)) }
 
     // Where the writer fails, a beginning of the lines may be written.
-    ensures writer { ReportsWriterFaults W.ToolOutput out.old out.new result }
-    ensures beginning { IsErrOf result ToolError.Output → (text : _) × (IsImageListing layout image.items text × AppendsBeginning (W.contents out.old) (W.contents out.new) text) }
+    ensures writer { ReportsWriterFaults out.old out.new result }
+    ensures beginning { IsErrOf result ToolError.Output → (text : _) × (IsImageListing layout image.items text × AppendsBeginning (W.contents (stream_inner out.old)) (W.contents (stream_inner out.new)) text) }
 
     // When each other error comes.
     ensures refused { (e : _) → IsErrOf result (ToolError.Fs e) → RefusesToList layout image.items e }

@@ -1,7 +1,8 @@
-ghost use Rattle.std.specs.Prelude.{◌≡◌, ℕ, IfOk, IfSome, IsErrOf, None, OnOk, Option, map, suc};
+ghost use Rattle.std.specs.Prelude.{◌≡◌, Bool, IfOk, IfSome, IsErrOf, None, OnOk, Option, map, true};
 ghost use Rattle.lfs_model.specs.layers.Source as model;
 ghost use Rattle.lfs_tool.specs.SourceTrees.{IsUnchanged, listed_view};
 
+use crate::FileError;
 use std::alloc::Global;
 
 /// The kind of a name.
@@ -22,15 +23,8 @@ pub struct ListedName {
     pub kind: SourceKind,
     /// A file's length when it was listed, which may be wrong by now. Of a folder it says nothing.
     pub len: u64,
-}
-
-/// The cause for which a source gave nothing.
-#[derive(Clone, Copy, Debug, PartialEq, Eq, Drop)]
-pub enum SourceError {
-    /// It couldn't be read, or a folder has bad names.
-    Fault,
-    /// A growth was refused.
-    NoMemory,
+    /// When it was modified, in seconds since 1970, if that is known and before 2106.
+    pub modified: Option<u32>,
 }
 
 /// A folder and all below it. A path has `/` before each name, and is empty for the folder itself.
@@ -38,20 +32,20 @@ pub trait Source {
     // The tree of the source, where it is known.
     ghost shown: { Self → Option model.TreeSource } = { λ _. None };
 
-    // How many calls have met a fault.
-    ghost faults: { Self → ℕ };
+    // Whether a call has met a fault.
+    ghost has_failed: { Self → Bool };
 
     /// Returns the names in a folder, in any order.
     ///
     /// # Errors
     /// - `Fault` where the folder couldn't be read.
     /// - `NoMemory` where memory isn't granted.
-    fn list(&mut self, alloc: Global, folder: &[u8]) -> Result<Vec<ListedName>, SourceError>
+    fn list(&mut self, alloc: Global, folder: &[u8]) -> Result<Vec<ListedName>, FileError>
         ensures names { IfOk result (λ v. IfSome (shown self.old) (λ s. map listed_view v.items ≡ s.names folder.now)) }
         ensures shown { IsUnchanged (shown self.old) (shown self.new) }
-        ensures kept { OnOk result (faults self.new ≡ faults self.old) }
-        ensures fault { IsErrOf result SourceError.Fault → faults self.new ≡ suc (faults self.old) }
-        ensures no_memory { IsErrOf result SourceError.NoMemory → faults self.new ≡ faults self.old };
+        ensures kept { OnOk result (has_failed self.new ≡ has_failed self.old) }
+        ensures fault { IsErrOf result FileError.Fault → has_failed self.new ≡ true }
+        ensures no_memory { IsErrOf result FileError.NoMemory → has_failed self.new ≡ has_failed self.old };
 
     /// Returns the bytes of a file. `listed_len` is the length in its `ListedName`. The file may have become
     /// longer or shorter since, and all bytes that it has are returned.
@@ -59,10 +53,10 @@ pub trait Source {
     /// # Errors
     /// - `Fault` where the file couldn't be read.
     /// - `NoMemory` where memory isn't granted.
-    fn read(&mut self, alloc: Global, file: &[u8], listed_len: u64) -> Result<Vec<u8>, SourceError>
+    fn read(&mut self, alloc: Global, file: &[u8], listed_len: u64) -> Result<Vec<u8>, FileError>
         ensures bytes { IfOk result (λ v. IfSome (shown self.old) (λ s. v.items ≡ s.bytes file.now)) }
         ensures shown { IsUnchanged (shown self.old) (shown self.new) }
-        ensures kept { OnOk result (faults self.new ≡ faults self.old) }
-        ensures fault { IsErrOf result SourceError.Fault → faults self.new ≡ suc (faults self.old) }
-        ensures no_memory { IsErrOf result SourceError.NoMemory → faults self.new ≡ faults self.old };
+        ensures kept { OnOk result (has_failed self.new ≡ has_failed self.old) }
+        ensures fault { IsErrOf result FileError.Fault → has_failed self.new ≡ true }
+        ensures no_memory { IsErrOf result FileError.NoMemory → has_failed self.new ≡ has_failed self.old };
 }

@@ -1,15 +1,15 @@
-ghost use Rattle.std.specs.Prelude.{◌≡◌, ◌↔◌, IfOk, suc};
-ghost use Rattle.std.specs.IoError.{error_kind};
+ghost use Rattle.std.specs.Prelude.{◌≡◌, IfOk};
 ghost use Rattle.lfs_tool.specs.Roots.{source_image_size, source_root};
 
 use crate::file_bytes::read_at_most;
-use crate::full_path::{full_path, joined_path};
-use crate::{FaultLog, FolderRules, Links, ListedName, Source, SourceError, SourceKind, Tally};
+use crate::root::{Root, joined_path};
+use crate::{FaultLog, FileError, FolderRules, Links, ListedName, Source, SourceKind};
 use std::alloc::{AllocError, Global};
 use std::fs::{File, FileType, Metadata, OpenFile};
 use std::io::{ErrorKind, Read};
 use std::os::unix::fs::MetadataExt;
 use std::rt::Files;
+use std::time::UNIX_EPOCH;
 use std::{fs, io};
 
 /// A file that is longer than the image that its folder is read for.
@@ -25,19 +25,16 @@ pub struct LongFile {
 /// folder. So is a symbolic link, unless the folder's rules say otherwise, and a folder to which one leads that is above
 /// it. A fault is noted in a log, with the path that it comes from.
 ///
-/// It can be made for an image of so many bytes. Then a file that is longer than that isn't read, since
-/// no such image holds it: it counts as empty, and `first_long_file` names the first one.
+/// It is made for an image of so many bytes. A file that is longer than that isn't read, since no such image holds it: it
+/// counts as empty, and `first_long_file` names the first one.
 #[derive(Drop)]
 pub struct Folder<'a, R> {
-    rt: &'a R,
-    root: String,
-    log: &'a FaultLog,
+    root: Root<'a, R>,
     // How many bytes the image has.
     image: u64,
     // The first file that was longer.
     too_long: Option<LongFile>,
     rules: FolderRules<'a>,
-    faults: Tally,
 }
 
 fn file_type_kind(kind: FileType) -> io::Result<SourceKind> {
@@ -53,52 +50,46 @@ fn file_type_kind(kind: FileType) -> io::Result<SourceKind> {
     }
 }
 
-// Returns an entry of a folder: its name, kind and length.
+// Returns an entry of a folder: its name, kind, length and time.
 fn listed_name_of(
     alloc: Global,
     name: &[u8],
     metadata: io::Result<Metadata>,
 ) -> io::Result<ListedName> {
     let metadata = metadata?;
-    let kind = file_type_kind(metadata.file_type())?;
-    let name = name.to_vec(alloc)?;
-    let len = metadata.len();
-    Ok(ListedName { name, kind, len })
+    Ok(ListedName {
+        kind: file_type_kind(metadata.file_type())?,
+        name: name.to_vec(alloc)?,
+        len: metadata.len(),
+        modified: seconds_of_change(&metadata),
+    })
+}
+
+// Returns when a file was modified, if that is from 1970 to 2106.
+fn seconds_of_change(metadata: &Metadata) -> Option<u32> {
+    let since = metadata.modified().ok()?.duration_since(UNIX_EPOCH).ok()?;
+    u32::try_from(since.as_secs()).ok()
 }
 
 impl<'a, R: Files + AllocGlobal + Clone + Drop> Folder<'a, R> {
-    /// Makes a source of the folder at a path of the file system. Nothing is read yet.
-    pub fn new(rt: &'a R, log: &'a FaultLog, root: &str) -> Result<Folder<'a, R>, AllocError>
-        ensures root { IfOk result (λ f. source_root f ≡ root.now) }
-    {
-        Folder::for_image_size(rt, log, root, u64::MAX)
-    }
-
-    /// Makes the same source for an image of so many bytes.
-    pub fn for_image_size(
+    /// Makes a source of the folder at a path of the file system, for an image of so many bytes, read by these rules.
+    /// Nothing is read yet.
+    pub fn new(
         rt: &'a R,
         log: &'a FaultLog,
         root: &str,
         image: u64,
+        rules: FolderRules<'a>,
     ) -> Result<Folder<'a, R>, AllocError>
         ensures root { IfOk result (λ f. source_root f ≡ root.now) }
         ensures image { IfOk result (λ f. source_image_size f ≡ image) }
     {
         Ok(Folder {
-            rt,
-            root: String::from_str(rt.alloc(), root)?,
-            log,
+            root: Root::new(rt, log, root)?,
             image,
             too_long: None,
-            rules: FolderRules::new(),
-            faults: Tally::none(),
+            rules,
         })
-    }
-
-    /// Makes the same source, read by these rules.
-    pub fn with_rules(mut self, rules: FolderRules<'a>) -> Folder<'a, R> {
-        self.rules = rules;
-        self
     }
 
     // Returns the entry of a name, or none where it is left out.
@@ -108,7 +99,7 @@ impl<'a, R: Files + AllocGlobal + Clone + Drop> Folder<'a, R> {
         name: &[u8],
         own: io::Result<Metadata>,
     ) -> io::Result<Option<ListedName>> {
-        let alloc = self.rt.alloc();
+        let alloc = self.root.rt.alloc();
         let path = joined_path(alloc, "", folder, name)?;
         if self.rules.is_left_out(path.as_slice(), name) {
             return Ok(None);
@@ -118,8 +109,8 @@ impl<'a, R: Files + AllocGlobal + Clone + Drop> Folder<'a, R> {
                 Links::Refuse => Ok(metadata),
                 Links::Skip => return Ok(None),
                 Links::Follow => {
-                    let full = full_path(alloc, self.root.as_str(), path.as_slice())?;
-                    fs::metadata(self.rt, full.as_str())
+                    let full = self.root.full_path(path.as_slice())?;
+                    fs::metadata(self.root.rt, full.as_str())
                 }
             },
             own => own,
@@ -141,8 +132,8 @@ impl<'a, R: Files + AllocGlobal + Clone + Drop> Folder<'a, R> {
         for end in 0..path.len().saturating_add(1) {
             if matches!(path.get(end), None | Some(b'/')) {
                 let beginning = path.get(..end).unwrap_or(path);
-                let full = full_path(self.rt.alloc(), self.root.as_str(), beginning)?;
-                let above = fs::metadata(self.rt, full.as_str())?;
+                let full = self.root.full_path(beginning)?;
+                let above = fs::metadata(self.root.rt, full.as_str())?;
                 if above.dev() == found.dev() && above.ino() == found.ino() {
                     return Ok(true);
                 }
@@ -157,9 +148,9 @@ impl<'a, R: Files + AllocGlobal + Clone + Drop> Folder<'a, R> {
     }
 
     fn list_names(&self, alloc: Global, path: &[u8]) -> io::Result<Vec<ListedName>> {
-        let full = full_path(self.rt.alloc(), self.root.as_str(), path)?;
+        let full = self.root.full_path(path)?;
         let mut names = Vec::new(alloc);
-        for entry in fs::read_dir(self.rt, full.as_str())? {
+        for entry in fs::read_dir(self.root.rt, full.as_str())? {
             if entry.is_err() {
                 self.note_bad_name(path)?;
             }
@@ -167,7 +158,7 @@ impl<'a, R: Files + AllocGlobal + Clone + Drop> Folder<'a, R> {
             let name = entry.file_name();
             let listed = self.name_by_rules(path, name.as_bytes(), entry.metadata());
             if let Err(error) = &listed {
-                self.note_name_error(path, name.as_bytes(), error);
+                self.root.note(path, name.as_bytes(), error);
             }
             if let Some(listed) = listed? {
                 names.push(listed)?;
@@ -178,34 +169,30 @@ impl<'a, R: Files + AllocGlobal + Clone + Drop> Folder<'a, R> {
 
     // Notes the first name in a folder that isn't UTF-8, where there is one.
     fn note_bad_name(&self, path: &[u8]) -> io::Result<()> {
-        let mut full = full_path(self.rt.alloc(), self.root.as_str(), path)?;
+        let mut full = self.root.full_path(path)?;
         // As `fs::read_dir` opens it.
         full.push('/')?;
-        let mut names = Vec::new(self.rt.alloc());
-        self.rt.open_dir(full.as_str())?.read_to_end(&mut names)?;
+        let mut names = Vec::new(self.root.rt.alloc());
+        self.root
+            .rt
+            .open_dir(full.as_str())?
+            .read_to_end(&mut names)?;
         for name in names.split(|byte| *byte == 0) {
             if str::from_utf8(name).is_err() {
                 let error = io::Error::new(ErrorKind::InvalidFilename, "the name is not UTF-8");
-                self.note_name_error(path, name, &error);
+                self.root.note(path, name, &error);
             }
         }
         Ok(())
     }
 
-    // Notes a fault of a name in a folder. With no name it is the fault of the path itself.
-    fn note_name_error(&self, path: &[u8], name: &[u8], error: &io::Error) {
-        let root = self.root.as_str();
-        self.log
-            .note_below_root(self.rt.alloc(), root, path, name, error);
-    }
-
     // Returns the bytes of a file. A listed length that is too great is asked for again, since the file may be
     // shorter by now.
     fn read_file_bytes(&mut self, path: &[u8], listed_len: u64) -> io::Result<Vec<u8>>
-        ensures { self.new.faults ≡ self.old.faults }
+        ensures { self.new.root ≡ self.old.root }
     {
-        let full = full_path(self.rt.alloc(), self.root.as_str(), path)?;
-        let file = File::open(self.rt, full.as_str())?;
+        let full = self.root.full_path(path)?;
+        let file = File::open(self.root.rt, full.as_str())?;
         let len = if listed_len > self.image {
             file.metadata()?.len()
         } else {
@@ -213,50 +200,31 @@ impl<'a, R: Files + AllocGlobal + Clone + Drop> Folder<'a, R> {
         };
         if len > self.image {
             if self.too_long.is_none() {
-                let path = path.to_vec(self.rt.alloc())?;
+                let path = path.to_vec(self.root.rt.alloc())?;
                 self.too_long = Some(LongFile { path, len });
             }
-            return Ok(Vec::new(self.rt.alloc()));
+            return Ok(Vec::new(self.root.rt.alloc()));
         }
         // A file that has become longer since is too long, too.
         let most = self.image.saturating_add(1);
-        read_at_most(self.rt.alloc(), file, len as usize, most)
-    }
-
-    // Returns the source's error for an error of std.
-    fn convert_source_error(&mut self, path: &[u8], error: io::Error) -> SourceError
-        ensures kind { (error_kind error ≡ ErrorKind.OutOfMemory) ↔ (result ≡ SourceError.NoMemory) }
-        ensures fault { result ≡ SourceError.Fault → self.new.faults.count ≡ suc self.old.faults.count }
-        ensures no_memory { result ≡ SourceError.NoMemory → self.new.faults.count ≡ self.old.faults.count }
-    {
-        if error.kind() == ErrorKind::OutOfMemory {
-            return SourceError::NoMemory;
-        }
-        self.note_name_error(path, b"", &error);
-        self.faults = self.faults.one_more();
-        SourceError::Fault
+        read_at_most(self.root.rt.alloc(), file, len as usize, most)
     }
 }
 
 impl<'a, R: Files + AllocGlobal + Clone + Drop> Source for Folder<'a, R> {
-    ghost faults = { λ s. s.faults.count };
+    ghost has_failed = { λ s. s.root.has_failed };
 
-    fn list(&mut self, alloc: Global, folder: &[u8]) -> Result<Vec<ListedName>, SourceError> {
+    fn list(&mut self, alloc: Global, folder: &[u8]) -> Result<Vec<ListedName>, FileError> {
         match self.list_names(alloc, folder) {
             Ok(names) => Ok(names),
-            Err(error) => Err(self.convert_source_error(folder, error)),
+            Err(error) => Err(self.root.fail(folder, error)),
         }
     }
 
-    fn read(
-        &mut self,
-        _alloc: Global,
-        file: &[u8],
-        listed_len: u64,
-    ) -> Result<Vec<u8>, SourceError> {
+    fn read(&mut self, _alloc: Global, file: &[u8], listed_len: u64) -> Result<Vec<u8>, FileError> {
         match self.read_file_bytes(file, listed_len) {
             Ok(bytes) => Ok(bytes),
-            Err(error) => Err(self.convert_source_error(file, error)),
+            Err(error) => Err(self.root.fail(file, error)),
         }
     }
 }

@@ -1,9 +1,8 @@
-ghost use Rattle.std.specs.Prelude.{◌≡◌, ◌↔◌, IfOk, suc};
-ghost use Rattle.std.specs.IoError.{error_kind};
+ghost use Rattle.std.specs.Prelude.{◌≡◌, IfOk};
 ghost use Rattle.lfs_tool.specs.Roots.{target_root};
 
-use crate::full_path::full_path;
-use crate::{FaultLog, Tally, Target, TargetError};
+use crate::root::Root;
+use crate::{FaultLog, FileError, Target};
 use std::alloc::{AllocError, Global};
 use std::fs::File;
 use std::io::{ErrorKind, Write};
@@ -15,10 +14,7 @@ use std::{fs, io};
 /// or a folder, as a symbolic link. A fault is noted in a log, with the path that it comes from.
 #[derive(Drop)]
 pub struct TargetFolder<'a, R> {
-    rt: &'a R,
-    root: String,
-    log: &'a FaultLog,
-    faults: Tally,
+    root: Root<'a, R>,
 }
 
 // Makes a folder, unless there is one.
@@ -61,28 +57,18 @@ impl<'a, R: Files + AllocGlobal + Clone + Drop> TargetFolder<'a, R> {
         ensures root { IfOk result (λ f. target_root f ≡ root.now) }
     {
         Ok(TargetFolder {
-            rt,
-            root: String::from_str(rt.alloc(), root)?,
-            log,
-            faults: Tally::none(),
+            root: Root::new(rt, log, root)?,
         })
     }
 
     // Returns the path in the file system, where it is text. The folder itself is there then.
     fn make_target_folder(&self, path: &[u8]) -> io::Result<String> {
-        let full = full_path(self.rt.alloc(), self.root.as_str(), path)?;
-        if let Err(error) = make_folders(self.rt, self.root.as_str()) {
-            self.note_target_error(b"", &error);
+        let full = self.root.full_path(path)?;
+        if let Err(error) = make_folders(self.root.rt, self.root.path.as_str()) {
+            self.root.note(b"", b"", &error);
             return Err(error);
         }
         Ok(full)
-    }
-
-    // Notes a fault at a path.
-    fn note_target_error(&self, path: &[u8], error: &io::Error) {
-        let root = self.root.as_str();
-        self.log
-            .note_below_root(self.rt.alloc(), root, path, b"", error);
     }
 
     // Makes the folder at a path. The empty path is that of the target itself.
@@ -91,45 +77,31 @@ impl<'a, R: Files + AllocGlobal + Clone + Drop> TargetFolder<'a, R> {
         if path.is_empty() {
             return Ok(());
         }
-        ensure_folder(self.rt, full.as_str())
+        ensure_folder(self.root.rt, full.as_str())
     }
 
     fn write_file_at(&self, path: &[u8], bytes: &[u8]) -> io::Result<()> {
         let full = self.make_target_folder(path)?;
-        check_free_path(self.rt, full.as_str())?;
-        let mut file = File::create(self.rt, full.as_str())?;
+        check_free_path(self.root.rt, full.as_str())?;
+        let mut file = File::create(self.root.rt, full.as_str())?;
         file.write_all(bytes)
-    }
-
-    // Returns the target's error for an error of std.
-    fn convert_target_error(&mut self, path: &[u8], error: io::Error) -> TargetError
-        ensures kind { (error_kind error ≡ ErrorKind.OutOfMemory) ↔ (result ≡ TargetError.NoMemory) }
-        ensures fault { result ≡ TargetError.Fault → self.new.faults.count ≡ suc self.old.faults.count }
-        ensures no_memory { result ≡ TargetError.NoMemory → self.new.faults.count ≡ self.old.faults.count }
-    {
-        if error.kind() == ErrorKind::OutOfMemory {
-            return TargetError::NoMemory;
-        }
-        self.note_target_error(path, &error);
-        self.faults = self.faults.one_more();
-        TargetError::Fault
     }
 }
 
 impl<'a, R: Files + AllocGlobal + Clone + Drop> Target for TargetFolder<'a, R> {
-    ghost faults = { λ t. t.faults.count };
+    ghost has_failed = { λ t. t.root.has_failed };
 
-    fn make_folder(&mut self, _alloc: Global, path: &[u8]) -> Result<(), TargetError> {
+    fn make_folder(&mut self, _alloc: Global, path: &[u8]) -> Result<(), FileError> {
         match self.make_folder_at(path) {
             Ok(()) => Ok(()),
-            Err(error) => Err(self.convert_target_error(path, error)),
+            Err(error) => Err(self.root.fail(path, error)),
         }
     }
 
-    fn put_file(&mut self, _alloc: Global, path: &[u8], bytes: &[u8]) -> Result<(), TargetError> {
+    fn put_file(&mut self, _alloc: Global, path: &[u8], bytes: &[u8]) -> Result<(), FileError> {
         match self.write_file_at(path, bytes) {
             Ok(()) => Ok(()),
-            Err(error) => Err(self.convert_target_error(path, error)),
+            Err(error) => Err(self.root.fail(path, error)),
         }
     }
 }

@@ -1,7 +1,8 @@
-ghost use Rattle.std.specs.Prelude.{◌≡◌, IfOk, Some, map};
+ghost use Rattle.std.specs.Prelude.{◌≡◌, IfOk, Some, false, map};
 ghost use Rattle.lfs_tool.specs.Actions.{action_view};
 
-use crate::{Target, TargetError};
+use crate::file_error::copy_bytes;
+use crate::{FileError, Target};
 use std::alloc::Global;
 
 /// An action on a target in memory.
@@ -19,30 +20,23 @@ pub struct MemoryTarget {
     pub done: Vec<TargetAction>,
 }
 
-fn copy_bytes(alloc: Global, bytes: &[u8]) -> Result<Vec<u8>, TargetError>
-    ensures bytes { IfOk result (λ v. v.items ≡ bytes.now) }
-    ensures memory { (e : _) → result ≡ Err e → e ≡ TargetError.NoMemory }
-{
-    bytes.to_vec(alloc).map_err(|_| TargetError::NoMemory)
-}
-
 impl Target for MemoryTarget {
     ghost done = { λ t. Some (map action_view t.done.items) };
 
-    ghost faults = { λ _. 0 };
+    ghost has_failed = { λ _. false };
 
-    fn make_folder(&mut self, alloc: Global, path: &[u8]) -> Result<(), TargetError> {
+    fn make_folder(&mut self, alloc: Global, path: &[u8]) -> Result<(), FileError> {
         let path = copy_bytes(alloc, path)?;
         self.done
             .push(TargetAction::Folder(path))
-            .map_err(|_| TargetError::NoMemory)
+            .map_err(|_| FileError::NoMemory)
     }
 
-    fn put_file(&mut self, alloc: Global, path: &[u8], bytes: &[u8]) -> Result<(), TargetError> {
+    fn put_file(&mut self, alloc: Global, path: &[u8], bytes: &[u8]) -> Result<(), FileError> {
         let path = copy_bytes(alloc, path)?;
         let bytes = copy_bytes(alloc, bytes)?;
         self.done
             .push(TargetAction::File(path, bytes))
-            .map_err(|_| TargetError::NoMemory)
+            .map_err(|_| FileError::NoMemory)
     }
 }

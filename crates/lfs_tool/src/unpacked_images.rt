@@ -10,11 +10,11 @@ ghost use Rattle.lfs_thread.specs.ThreadSteps.{OnlyReadsThread};
 ghost use Rattle.lfs_lookup.specs.FileBytes.{struct_file_bytes};
 ghost use Rattle.lfs_lookup.specs.Items.{owned_view};
 ghost use Rattle.lfs_lookup.specs.TreeWalk.{tree_item_view, tree_items_view};
-ghost use Rattle.lfs_tool.specs.Reports.{ReportsOneFault};
+ghost use Rattle.lfs_tool.specs.Reports.{ReportsFault};
 ghost use Rattle.lfs_model.specs.format.Disk.{Disk};
 
 use crate::image_devices::{ram_device_of, tree_items_of};
-use crate::{FilesAndBytes, FollowsProgress, ImageLayout, Target, TargetError, ToolError};
+use crate::{FileError, FilesAndBytes, FollowsProgress, ImageLayout, Target, ToolError};
 use lfs_device::{Error, RamDevice};
 use lfs_lookup::{OwnedStruct, TreeItem, read_struct_bytes};
 use lfs_thread::Thread;
@@ -44,12 +44,12 @@ fn file_bytes(
 }
 
 /// Returns the tool's error for a target's error.
-pub fn target_tool_error(error: TargetError) -> ToolError
-    ensures { (error ≡ TargetError.Fault × (result ≡ ToolError.Output)) ⊎ (error ≡ TargetError.NoMemory × (result ≡ ToolError.Fs Error.NoMemory)) }
+pub fn target_tool_error(error: FileError) -> ToolError
+    ensures { (error ≡ FileError.Fault × (result ≡ ToolError.Output)) ⊎ (error ≡ FileError.NoMemory × (result ≡ ToolError.Fs Error.NoMemory)) }
 {
     match error {
-        TargetError::Fault => ToolError::Output,
-        TargetError::NoMemory => ToolError::Fs(Error::NoMemory),
+        FileError::Fault => ToolError::Output,
+        FileError::NoMemory => ToolError::Fs(Error::NoMemory),
     }
 }
 
@@ -62,7 +62,7 @@ fn put_item_bytes<T: Target>(
 ) -> Result<(), ToolError>
     ensures done { (disk : Disk) → bytes.now ≡ struct_file_bytes disk (owned_view item.now.structure) → OnOk result (AddsAction (T.done target.old) (T.done target.new) (place_action disk (tree_item_view item.now))) }
     ensures undone { OnErr result (T.done target.new ≡ T.done target.old) }
-    ensures reports { ReportsTargetFaults (T.faults target.old) (T.faults target.new) result }
+    ensures reports { ReportsTargetFaults (T.has_failed target.old) (T.has_failed target.new) result }
 {
     let result = match &item.structure {
         OwnedStruct::Branch(_) => target.make_folder(alloc, &item.path),
@@ -85,7 +85,7 @@ fn unpack_tree_item<T: Target>(
     ensures done { OnOk result (AddsAction (T.done target.old) (T.done target.new) (place_action thread.old.kept.disk (tree_item_view item.now))) }
     ensures undone { OnErr result (T.done target.new ≡ T.done target.old) }
     ensures only { (OnlyReadsThread thread.old.kept thread.new.kept) × (thread.new.failed ≡ false) }
-    ensures reports { ReportsTargetFaults (T.faults target.old) (T.faults target.new) result }
+    ensures reports { ReportsTargetFaults (T.has_failed target.old) (T.has_failed target.new) result }
 {
     let bytes = file_bytes(alloc, thread, &item.structure)?;
     put_item_bytes(alloc, item, &bytes, target)
@@ -118,7 +118,7 @@ fn unpack_tree_items<T: Target, F: FollowsProgress>(
     requires lists { HaveFormedLists thread.old.kept.disk (tree_items_view items.now) }
     ensures done { OnOk result (HasDoneActions (T.done target.old) (T.done target.new) (place_actions thread.old.kept.disk (tree_items_view items.now))) }
     ensures begun { OnErr result (ActionsPartlyDone (T.done target.old) (T.done target.new) (place_actions thread.old.kept.disk (tree_items_view items.now))) }
-    ensures reports { ReportsTargetFaults (T.faults target.old) (T.faults target.new) result }
+    ensures reports { ReportsTargetFaults (T.has_failed target.old) (T.has_failed target.new) result }
 {
     progress.begin(counts_of_items(items));
     for item in items {
@@ -136,7 +136,7 @@ fn unpack_ram_device<T: Target, F: FollowsProgress>(
 ) -> Result<(), ToolError>
     ensures done { OnOk result (HasUnpackedDisk (shown (ram_geometry device) (ram_blocks device)) (T.done target.old) (T.done target.new)) }
     ensures failed { IfErr result (FailsUnpackingDisk (shown (ram_geometry device) (ram_blocks device)) (T.done target.old) (T.done target.new)) }
-    ensures output { ReportsOneFault ToolError.Output (T.faults target.old) (T.faults target.new) result }
+    ensures output { ReportsFault ToolError.Output (T.has_failed target.old) (T.has_failed target.new) result }
 {
     match tree_items_of(alloc, device) {
         Ok((mut thread, items)) => unpack_tree_items(alloc, &mut thread, &items, target, progress),
@@ -163,7 +163,7 @@ pub fn unpack<T: Target, F: FollowsProgress>(
 
     // Nothing is done, or a beginning of the actions, if the target failed or memory ran out.
     ensures failed { IfErr result (FailsUnpackingImage layout image.items (T.done target.old) (T.done target.new)) }
-    ensures output { ReportsOneFault ToolError.Output (T.faults target.old) (T.faults target.new) result }
+    ensures output { ReportsFault ToolError.Output (T.has_failed target.old) (T.has_failed target.new) result }
 {
     match ram_device_of(image, layout) {
         Ok(device) => unpack_ram_device(alloc, device, target, progress),

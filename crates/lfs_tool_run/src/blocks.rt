@@ -3,7 +3,7 @@
 use crate::creation::{read_source_entries, session_of_entries};
 use crate::files::Host;
 use crate::run::{folder_of_line, geometry_of_line};
-use crate::times::{keep_times, times_of_entries};
+use crate::times::keep_times;
 use lfs_device::{Error, Geometry, RamDevice};
 use lfs_tool::{Extras, FollowsProgress, Line, Mode, SourceEntry, ToolError};
 
@@ -15,13 +15,6 @@ const BLOCKS_MAX: u32 = 65_536;
 // No longer file is in its folder's entry.
 const INLINE_MAX: usize = 1022;
 
-/// What a folder has, read once: its entries, and their times if these are kept.
-#[derive(Drop)]
-pub(crate) struct FolderContents {
-    pub(crate) entries: Vec<SourceEntry>,
-    pub(crate) times: Vec<Option<[u8; 4]>>,
-}
-
 /// Reads all that the folder of a line has, for an image of at most so many bytes.
 ///
 /// # Errors
@@ -32,48 +25,39 @@ pub(crate) fn read_line_folder(
     line: &Line<'_>,
     folder: &str,
     size: u32,
-) -> Result<FolderContents, ToolError> {
+) -> Result<Vec<SourceEntry>, ToolError> {
     let mut source = folder_of_line(host, folder, size)?;
     let entries = read_source_entries(host.alloc(), &mut source)?;
-    if let Some(file) = source.first_long_file() {
-        let is_past_limit = file.len > u64::from(line.profile.file_max);
-        let error = if is_past_limit {
-            Error::TooBig
-        } else {
-            Error::NoSpace
-        };
-        return Err(ToolError::Fs(error));
+    match source.first_long_file() {
+        Some(file) if file.len > u64::from(line.profile.file_max) => Err(Error::TooBig.into()),
+        Some(_) => Err(Error::NoSpace.into()),
+        None => Ok(entries),
     }
-    let times = if host.times {
-        times_of_entries(host, folder, entries.as_slice())?
-    } else {
-        Vec::new(host.alloc())
-    };
-    Ok(FolderContents { entries, times })
 }
 
-/// Makes the image of a folder's contents in memory, with the times that were read.
-pub(crate) fn image_of_contents<F: FollowsProgress>(
+/// Makes the image of a folder's entries in memory, with their times if these are kept.
+pub(crate) fn image_of_entries<F: FollowsProgress>(
     host: Host<'_>,
     line: &Line<'_>,
     geometry: Geometry,
-    contents: &FolderContents,
+    entries: &[SourceEntry],
     progress: &mut F,
 ) -> Result<RamDevice, ToolError> {
-    let entries = contents.entries.as_slice();
     let mut session = session_of_entries(host.alloc(), geometry, line.order, entries, progress)?;
-    keep_times(host, &mut session, entries, contents.times.as_slice())?;
+    if host.times {
+        keep_times(host, &mut session, entries)?;
+    }
     Ok(session.unmount())
 }
 
 fn are_blocks_enough(
     host: Host<'_>,
     line: &Line<'_>,
-    contents: &FolderContents,
+    entries: &[SourceEntry],
     count: u32,
 ) -> Result<bool, ToolError> {
     let geometry = Geometry::new(line.block_size, line.page, count)?.with_profile(line.profile);
-    match image_of_contents(host, line, geometry, contents, &mut ()) {
+    match image_of_entries(host, line, geometry, entries, &mut ()) {
         Ok(_image) => Ok(true),
         Err(ToolError::Fs(Error::NoSpace)) => Ok(false),
         Err(error) => Err(error),
@@ -105,13 +89,13 @@ fn blocks_of_bytes(entries: &[SourceEntry], block_size: u32) -> u32 {
 pub(crate) fn enough_blocks(
     host: Host<'_>,
     line: &Line<'_>,
-    contents: &FolderContents,
+    entries: &[SourceEntry],
     given: u32,
 ) -> Result<Option<u32>, ToolError> {
     let most = most_blocks(line.block_size);
     // One block less than `next` is too few, or fewer aren't wanted; so many are enough where that is known.
     let mut few = given
-        .max(blocks_of_bytes(contents.entries.as_slice(), line.block_size).min(most))
+        .max(blocks_of_bytes(entries, line.block_size).min(most))
         .saturating_sub(1);
     let mut enough: Option<u32> = None;
     let mut step = 1u32;
@@ -122,7 +106,7 @@ pub(crate) fn enough_blocks(
             None if few >= most => break,
             None => few.saturating_add(step).min(most.max(given)),
         };
-        if are_blocks_enough(host, line, contents, next)? {
+        if are_blocks_enough(host, line, entries, next)? {
             enough = Some(next);
         } else {
             few = next;
@@ -140,7 +124,7 @@ pub(crate) fn enough_for_folder(
     given: u32,
 ) -> Result<Option<u32>, ToolError> {
     match read_line_folder(host, line, folder, IMAGE_MAX) {
-        Ok(contents) => enough_blocks(host, line, &contents, given),
+        Ok(entries) => enough_blocks(host, line, &entries, given),
         Err(ToolError::Fs(Error::NoSpace)) => Ok(None),
         Err(error) => Err(error),
     }
@@ -152,17 +136,17 @@ pub(crate) fn fit_size(
     host: Host<'_>,
     line: &mut Line<'_>,
     extras: &Extras<'_>,
-) -> Result<Option<FolderContents>, ToolError> {
+) -> Result<Option<Vec<SourceEntry>>, ToolError> {
     let (Mode::Create(folder), true) = (line.mode, extras.is_size_auto) else {
         return Ok(None);
     };
     line.size = most_blocks(line.block_size).saturating_mul(line.block_size);
     geometry_of_line(line)?;
-    let contents = read_line_folder(host, line, folder, IMAGE_MAX)?;
-    let Some(count) = enough_blocks(host, line, &contents, 2)? else {
+    let entries = read_line_folder(host, line, folder, IMAGE_MAX)?;
+    let Some(count) = enough_blocks(host, line, &entries, 2)? else {
         return Err(ToolError::Fs(Error::NoSpace));
     };
     let count = count.saturating_add(extras.spare);
     line.size = count.saturating_mul(line.block_size);
-    Ok(Some(contents))
+    Ok(Some(entries))
 }

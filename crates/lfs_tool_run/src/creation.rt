@@ -2,6 +2,7 @@ ghost use Rattle.std.specs.Prelude.{◌≡◌, ◌≢◌, IfErr, IfOk, IsErrOf, 
 ghost use Rattle.lfs_device.specs.RamDevice.{ram_bytes};
 ghost use Rattle.lfs_fs.specs.SessionView.{system_state};
 ghost use Rattle.lfs_tool.specs.Reports.{ReportsWriterFaults};
+ghost use Rattle.lfs_tool.specs.Streams.{stream_inner};
 ghost use Rattle.lfs_tool_run.specs.MadeImages.{AreImageBytes, BeginsFresh, HasCopiedEntries, HasWrittenBeginning, HasWrittenImage, RefusesEntries, ReportsSourceFaults};
 ghost use Rattle.lfs_tool.specs.SourceEntries.{AreSourceEntries};
 
@@ -10,10 +11,10 @@ use lfs_device::{Error, Geometry, RamDevice};
 use lfs_fs::{Session, format_ordered};
 use lfs_model::NameOrder;
 use lfs_tool::{
-    FollowsProgress, Source, SourceEntry, SourceError, ToolError, ToolOutput, read_tree,
-    write_and_flush,
+    FileError, FollowsProgress, Source, SourceEntry, Stream, ToolError, read_tree, write_and_flush,
 };
 use std::alloc::Global;
+use std::io::Write;
 
 /// Reads all that a source has, depth first and in name order.
 ///
@@ -25,13 +26,13 @@ pub fn read_source_entries<S: Source>(
     source: &mut S,
 ) -> Result<Vec<SourceEntry>, ToolError>
     ensures entries { IfOk result (λ v. AreSourceEntries (S.shown source.old) v.items) }
-    ensures source { ReportsSourceFaults (S.faults source.old) (S.faults source.new) (S.shown source.old) result }
+    ensures source { ReportsSourceFaults (S.has_failed source.old) (S.has_failed source.new) (S.shown source.old) result }
     ensures other { IfErr result (λ e. e ≢ ToolError.Input → e ≡ ToolError.Fs Error.NoMemory) }
 {
     match read_tree(alloc, source) {
         Ok(entries) => Ok(entries),
-        Err(SourceError::Fault) => Err(ToolError::Input),
-        Err(SourceError::NoMemory) => Err(ToolError::Fs(Error::NoMemory)),
+        Err(FileError::Fault) => Err(ToolError::Input),
+        Err(FileError::NoMemory) => Err(ToolError::Fs(Error::NoMemory)),
     }
 }
 
@@ -100,20 +101,20 @@ pub fn new_image<F: FollowsProgress>(
 ///   `Fs(NameTooLong)` if a name is longer than the profile's limit, and `Fs(TooBig)` if a file is.
 /// - `Fs(NoMemory)` if memory isn't granted.
 /// - `Output` if the writer failed. It has then got a beginning of the image.
-pub fn create<W: ToolOutput, F: FollowsProgress>(
+pub fn create<W: Write, F: FollowsProgress>(
     alloc: Global,
     entries: &[SourceEntry],
     geometry: Geometry,
     order: NameOrder,
-    out: &mut W,
+    out: &mut Stream<W>,
     progress: &mut F,
 ) -> Result<(), ToolError>
-    ensures ok { OnOk result (HasWrittenImage geometry order entries.now (W.contents out.old) (W.contents out.new)) }
+    ensures ok { OnOk result (HasWrittenImage geometry order entries.now (W.contents (stream_inner out.old)) (W.contents (stream_inner out.new))) }
 
     // Where the writer fails, a beginning of the image may be written.
-    ensures writer { ReportsWriterFaults W.ToolOutput out.old out.new result }
+    ensures writer { ReportsWriterFaults out.old out.new result }
     ensures beginning { IsErrOf result ToolError.Output
-        → HasWrittenBeginning geometry order entries.now (W.contents out.old) (W.contents out.new) }
+        → HasWrittenBeginning geometry order entries.now (W.contents (stream_inner out.old)) (W.contents (stream_inner out.new)) }
 
     // When each other error comes.
     ensures refused { (e : _) → IsErrOf result (ToolError.Fs e) → e ≢ Error.NoMemory → RefusesEntries geometry order entries.now e }

@@ -9,10 +9,11 @@ use lfs_device::{AcceptedVersions, Error};
 use lfs_tag::Superblock;
 use lfs_tool::{
     CheckResult, Fault, Folder, ImageLayout, Line, LineError, Mode, RefusalReason, Sizes,
-    SourceEntry, ToolError, ToolOutput, check_result_lines, image_superblock_at, layout_by_blocks,
+    SourceEntry, Stream, ToolError, check_result_lines, image_superblock_at, layout_by_blocks,
     push_escaped_path, report, result_of_image, write_and_flush,
 };
 use std::alloc::AllocError;
+use std::io::Write;
 
 // The modes, for words that don't give exactly one.
 const MODES: &str =
@@ -308,19 +309,19 @@ fn push_explanation(
 }
 
 /// Writes which modes there are, after the error of words that don't give exactly one. A failed write is ignored.
-pub(crate) fn write_modes<E: ToolOutput>(fault: &Fault, err: &mut E) {
+pub(crate) fn write_modes<E: Write>(fault: &Fault, err: &mut Stream<E>) {
     if let Fault::Line(LineError::Modes) = fault {
         let _ = write_and_flush(err, MODES.as_bytes());
     }
 }
 
 /// Writes why a line ended in this error, or the error that comes in place of that. A failed write is ignored.
-pub(crate) fn write_explanation<O: ToolOutput, E: ToolOutput>(
+pub(crate) fn write_explanation<O: Write, E: Write>(
     host: Host<'_>,
     line: &Line<'_>,
     error: ToolError,
-    out: &mut O,
-    err: &mut E,
+    out: &mut Stream<O>,
+    err: &mut Stream<E>,
 ) {
     let mut text = Vec::new(host.alloc());
     match push_explanation(host, line, error, &mut text) {

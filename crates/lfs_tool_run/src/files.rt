@@ -3,7 +3,6 @@
 use crate::leftovers::{begin_new_image, remove_leftovers};
 use lfs_tool::{FaultLog, FolderRules, NewImage, ToolError};
 use std::alloc::Global;
-use std::cell::Cell;
 use std::fs::File;
 use std::io;
 use std::io::{ErrorKind, Read, Stdin, Stdout, Write};
@@ -22,24 +21,17 @@ pub struct Host<'a> {
     pub rules: FolderRules<'a>,
     /// Whether the times of files and folders are kept in an image that is made, or set where one is unpacked.
     pub times: bool,
-    /// Why standard output didn't take the lines.
-    pub fault_of_lines: &'a Cell<Option<ErrorKind>>,
 }
 
 impl<'a> Host<'a> {
     /// The system, of which nothing is requested yet.
-    pub fn new(
-        rt: &'a HostRuntime,
-        log: &'a FaultLog,
-        fault_of_lines: &'a Cell<Option<ErrorKind>>,
-    ) -> Host<'a> {
+    pub fn new(rt: &'a HostRuntime, log: &'a FaultLog) -> Host<'a> {
         Host {
             rt,
             log,
             explains: false,
             rules: FolderRules::new(),
             times: false,
-            fault_of_lines,
         }
     }
 
@@ -65,37 +57,6 @@ impl<'a> Host<'a> {
     ) -> Result<T, ToolError> {
         self.note_error(path, &called);
         called.map_err(|_| error)
-    }
-}
-
-/// Standard output. It notes why it fails.
-#[derive(Drop)]
-pub struct Lines<'a> {
-    /// The stream.
-    pub stream: Stdout,
-    /// Why it failed last.
-    pub fault: &'a Cell<Option<ErrorKind>>,
-}
-
-impl Lines<'_> {
-    fn note_error<T>(&self, called: &io::Result<T>) {
-        if let Err(error) = called {
-            self.fault.set(Some(error.kind()));
-        }
-    }
-}
-
-impl Write for Lines<'_> {
-    fn write(&mut self, buf: &[u8]) -> io::Result<usize> {
-        let written = self.stream.write(buf);
-        self.note_error(&written);
-        written
-    }
-
-    fn flush(&mut self) -> io::Result<()> {
-        let flushed = self.stream.flush();
-        self.note_error(&flushed);
-        flushed
     }
 }
 

@@ -17,5 +17,5 @@ mod source_entries;
 mod times;
 
 pub use creation::{create, new_image, read_source_entries};
-pub use files::{Host, Lines};
+pub use files::Host;
 pub use run::run_words;

@@ -4,16 +4,17 @@ use crate::files::Host;
 use crate::json::{json_of_check, json_of_items};
 use crate::parts::{ImagePart, read_part};
 use lfs_tool::{
-    CheckResult, Line, ToolError, ToolOutput, check, items_of_image, list, result_of_image,
+    CheckResult, Line, Stream, ToolError, check, items_of_image, list, result_of_image,
     write_and_flush,
 };
+use std::io::Write;
 
 /// Lists the image of a line.
-pub(crate) fn list_image<W: ToolOutput>(
+pub(crate) fn list_image<W: Write>(
     host: Host<'_>,
     line: &Line<'_>,
     json: bool,
-    out: &mut W,
+    out: &mut Stream<W>,
 ) -> Result<(), ToolError> {
     let part = read_part(host, line)?;
     if !json {
@@ -25,11 +26,11 @@ pub(crate) fn list_image<W: ToolOutput>(
 }
 
 /// Checks the image of a line, and returns whether it is accepted. With `-b auto` says how many bytes are behind it.
-pub(crate) fn check_image<W: ToolOutput>(
+pub(crate) fn check_image<W: Write>(
     host: Host<'_>,
     line: &Line<'_>,
     json: bool,
-    out: &mut W,
+    out: &mut Stream<W>,
 ) -> Result<bool, ToolError> {
     let ImagePart {
         bytes,

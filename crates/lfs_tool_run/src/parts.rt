@@ -4,8 +4,7 @@ use crate::files::{Host, NotedReader, open_file};
 use crate::run::layout_of_line;
 use lfs_device::Error;
 use lfs_tool::{
-    ImageLayout, Line, Mode, ToolError, WatchedStream, layout_by_blocks, layout_by_superblock,
-    read_image,
+    ImageLayout, Line, Mode, Stream, ToolError, layout_by_blocks, layout_by_superblock, read_image,
 };
 use std::io;
 use std::io::{Cursor, ErrorKind, Read};
@@ -92,7 +91,7 @@ pub(crate) fn read_part(host: Host<'_>, line: &Line<'_>) -> Result<ImagePart, To
     let (file, head) = open_part(host, line)?;
     let (layout, size) = layout_of_head(line, head.as_slice())?;
     let expected = file.stated_len(line.offset).min(size);
-    let mut stream = WatchedStream::new(Cursor::new(head).chain(file).take(size));
+    let mut stream = Stream::new(Cursor::new(head).chain(file).take(size));
     let bytes = read_image(host.alloc(), &mut stream, expected as usize)?;
     let mut rest = stream.into_inner();
     let _image = skip_bytes(&mut rest, u64::MAX)?;
@@ -117,7 +116,7 @@ pub(crate) fn read_part(host: Host<'_>, line: &Line<'_>) -> Result<ImagePart, To
 pub(crate) fn read_file(host: Host<'_>, path: &str) -> Result<Vec<u8>, ToolError> {
     let file = open_file(host, path)?;
     let expected = file.stated_len(0);
-    let mut stream = WatchedStream::new(file);
+    let mut stream = Stream::new(file);
     let bytes = read_image(host.alloc(), &mut stream, expected as usize)?;
     stream.into_inner().confirm_unchanged()?;
     Ok(bytes)

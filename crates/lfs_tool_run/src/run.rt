@@ -1,6 +1,6 @@
 // What a command line requests.
 
-use crate::blocks::{FolderContents, fit_size, image_of_contents, read_line_folder};
+use crate::blocks::{fit_size, image_of_entries, read_line_folder};
 use crate::creation::create;
 use crate::explain::{write_explanation, write_modes};
 use crate::files::{Host, NotedWriter};
@@ -11,11 +11,11 @@ use crate::times::{set_times, times_in_image};
 use lfs_device::{Error, Geometry};
 use lfs_tool::{
     Extras, Fault, Folder, FolderRules, ImageLayout, Line, LineError, Links, Mode, ProgressLine,
-    Request, Target, TargetFolder, ToolError, ToolOutput, WatchedStream, geometry_of_sizes,
+    Request, SourceEntry, Stream, Target, TargetFolder, ToolError, geometry_of_sizes,
     ram_device_of, read_request, report, target_tool_error, unpack, write_and_flush,
 };
 use std::io;
-use std::io::{ErrorKind, IsTerminal, Stderr};
+use std::io::{ErrorKind, IsTerminal, Stderr, Write};
 
 /// The layout of a line's image.
 pub(crate) fn layout_of_line(line: &Line<'_>) -> ImageLayout {
@@ -34,8 +34,8 @@ pub(crate) fn folder_of_line<'a>(
     path: &str,
     size: u32,
 ) -> Result<Folder<'a, HostRuntime>, ToolError> {
-    let folder = Folder::for_image_size(host.rt, host.log, path, u64::from(size))?;
-    Ok(folder.with_rules(host.rules))
+    let size = u64::from(size);
+    Ok(Folder::new(host.rt, host.log, path, size, host.rules)?)
 }
 
 // The line of a work that begins now, where standard error is a terminal.
@@ -49,23 +49,22 @@ fn create_image(
     host: Host<'_>,
     line: &Line<'_>,
     folder: &str,
-    read: Option<FolderContents>,
+    read: Option<Vec<SourceEntry>>,
 ) -> Result<(), ToolError> {
     let geometry = geometry_of_line(line)?;
-    let contents = match read {
-        Some(contents) => contents,
+    let entries = match read {
+        Some(entries) => entries,
         None => read_line_folder(host, line, folder, line.size)?,
     };
-    let mut image = WatchedStream::new(NotedWriter::new(host, line.image)?);
+    let mut image = Stream::new(NotedWriter::new(host, line.image)?);
     let mut progress = progress_at_terminal(host.rt);
     if host.times {
-        let made = image_of_contents(host, line, geometry, &contents, &mut progress)?;
+        let made = image_of_entries(host, line, geometry, &entries, &mut progress)?;
         write_and_flush(&mut image, made.bytes())?;
     } else {
-        let entries = contents.entries.as_slice();
         create(
             host.alloc(),
-            entries,
+            &entries,
             geometry,
             line.order,
             &mut image,
@@ -101,12 +100,12 @@ fn unpack_image(host: Host<'_>, line: &Line<'_>, folder: &str) -> Result<(), Too
 }
 
 // Does what a line requests. Returns false where an image was checked that isn't accepted, and else true.
-fn run_mode<W: ToolOutput>(
+fn run_mode<W: Write>(
     host: Host<'_>,
     line: &Line<'_>,
     json: bool,
-    read: Option<FolderContents>,
-    out: &mut W,
+    read: Option<Vec<SourceEntry>>,
+    out: &mut Stream<W>,
 ) -> Result<bool, ToolError> {
     match line.mode {
         Mode::List => list_image(host, line, json, out)?,
@@ -120,8 +119,8 @@ fn run_mode<W: ToolOutput>(
 }
 
 // The status where standard output didn't take the lines. If nobody reads them there is no line of the error.
-fn report_unwritten<O: ToolOutput, E: ToolOutput>(host: Host<'_>, out: &mut O, err: &mut E) -> u8 {
-    match host.fault_of_lines.get() {
+fn report_unwritten<O: Write, E: Write>(out: &mut Stream<O>, err: &mut Stream<E>) -> u8 {
+    match out.fault() {
         Some(ErrorKind::BrokenPipe) => 3,
         _ => report(&Fault::Tool(ToolError::Output), out, err),
     }
@@ -141,11 +140,11 @@ fn folder_rules<'a>(extras: &'a Extras<'_>) -> FolderRules<'a> {
 }
 
 // Does what is requested, and returns the status. An error is shown, with its cause where that is requested.
-fn run_request<O: ToolOutput, E: ToolOutput>(
+fn run_request<O: Write, E: Write>(
     host: Host<'_>,
     request: &Request<'_>,
-    out: &mut O,
-    err: &mut E,
+    out: &mut Stream<O>,
+    err: &mut Stream<E>,
 ) -> u8 {
     let host = Host {
         rules: folder_rules(&request.extras),
@@ -160,7 +159,7 @@ fn run_request<O: ToolOutput, E: ToolOutput>(
     match done {
         Ok(true) => 0,
         Ok(false) => 1,
-        Err(ToolError::Output) if line.mode == Mode::List => report_unwritten(host, out, err),
+        Err(ToolError::Output) if line.mode == Mode::List => report_unwritten(out, err),
         Err(error) => {
             let status = report(&Fault::Tool(error), out, err);
             if line.explain || host.explains {
@@ -178,11 +177,11 @@ fn are_explanations_asked(words: &[String]) -> bool {
 
 /// Runs the program on the words of its command line, or on the cause for which there are none: memory ran out, or a
 /// word is no text. Returns the status with which it ends.
-pub fn run_words<O: ToolOutput, E: ToolOutput>(
+pub fn run_words<O: Write, E: Write>(
     host: Host<'_>,
     words: io::Result<Vec<String>>,
-    out: &mut O,
-    err: &mut E,
+    out: &mut Stream<O>,
+    err: &mut Stream<E>,
 ) -> u8 {
     let words = match words {
         Ok(words) => words,
@@ -196,7 +195,7 @@ pub fn run_words<O: ToolOutput, E: ToolOutput>(
         Err(error) => {
             let fault = Fault::Line(error);
             match report(&fault, out, err) {
-                0 if host.fault_of_lines.get().is_some() => report_unwritten(host, out, err),
+                0 if out.fault().is_some() => report_unwritten(out, err),
                 status => {
                     if host.explains || are_explanations_asked(words.as_slice()) {
                         write_modes(&fault, err);

@@ -4,7 +4,8 @@ use crate::files::{Host, NotedWriter};
 use crate::parts::{read_file, read_part};
 use lfs_device::RamDevice;
 use lfs_fs::{OpenFlags, Session, mount};
-use lfs_tool::{Line, Mode, ToolError, ToolOutput, WatchedStream, ram_device_of, write_and_flush};
+use lfs_tool::{Line, Mode, Stream, ToolError, ram_device_of, write_and_flush};
+use std::io::Write;
 
 /// A session over an image in memory.
 pub(crate) type RamSession = Session<RamDevice>;
@@ -20,11 +21,11 @@ fn session_of_line(host: Host<'_>, line: &Line<'_>) -> Result<RamSession, ToolEr
 }
 
 /// Writes the bytes of the file at a path in the line's image.
-pub(crate) fn cat_file<W: ToolOutput>(
+pub(crate) fn cat_file<W: Write>(
     host: Host<'_>,
     line: &Line<'_>,
     path: &str,
-    out: &mut W,
+    out: &mut Stream<W>,
 ) -> Result<(), ToolError> {
     let mut session = session_of_line(host, line)?;
     let file = session.open(host.alloc(), path.as_bytes(), OpenFlags::READ)?;
@@ -51,7 +52,7 @@ pub(crate) fn change_image(host: Host<'_>, line: &Line<'_>) -> Result<(), ToolEr
         _ => {}
     }
     let bytes = session.unmount().to_bytes();
-    let mut image = WatchedStream::new(NotedWriter::new(host, line.image)?);
+    let mut image = Stream::new(NotedWriter::new(host, line.image)?);
     write_and_flush(&mut image, bytes.as_slice())?;
     write_and_flush(&mut image, part.rest.as_slice())?;
     image.into_inner().place()

@@ -6,9 +6,9 @@ use lfs_device::Error;
 use lfs_fs::Kind;
 use lfs_tool::{SourceEntry, ToolError};
 use std::alloc::AllocError;
-use std::fs::{File, Metadata};
+use std::fs::File;
+use std::io;
 use std::time::{Duration, UNIX_EPOCH};
-use std::{fs, io};
 
 // The type of the attribute. Its four bytes are the seconds since 1970, the lowest byte first.
 const TIME: u8 = b't';
@@ -42,40 +42,16 @@ fn paths_in_image(host: Host<'_>, session: &mut RamSession) -> Result<Vec<String
     Ok(paths)
 }
 
-// Returns the bytes of a file's time, which is from 1970 to 2106.
-fn bytes_of_time(found: &Metadata) -> Option<[u8; 4]> {
-    let since = found.modified().ok()?.duration_since(UNIX_EPOCH).ok()?;
-    let seconds = u32::try_from(since.as_secs()).ok()?;
-    Some(seconds.to_le_bytes())
-}
-
-/// Reads the times of a folder's entries. One from before 1970 or after 2106 counts as none.
-pub(crate) fn times_of_entries(
-    host: Host<'_>,
-    folder: &str,
-    entries: &[SourceEntry],
-) -> Result<Vec<Option<[u8; 4]>>, ToolError> {
-    let mut times = Vec::new(host.alloc());
-    for entry in entries {
-        let path = str::from_utf8(entry.path.as_slice()).unwrap_or("");
-        let full = format!(in host.alloc(); "{folder}{path}")?;
-        let found = fs::metadata(host.rt, full.as_str());
-        let found = host.note_and_map(full.as_str(), found, ToolError::Input)?;
-        times.push(bytes_of_time(&found)).map_err(AllocError::from)?;
-    }
-    Ok(times)
-}
-
-/// Sets the times of entries that were copied, in order.
+/// Keeps the times of entries that were copied, in order.
 pub(crate) fn keep_times(
     host: Host<'_>,
     session: &mut RamSession,
     entries: &[SourceEntry],
-    times: &[Option<[u8; 4]>],
 ) -> Result<(), ToolError> {
-    for (entry, time) in entries.iter().zip(times.iter()) {
-        if let Some(bytes) = time {
-            session.set_attr(host.alloc(), entry.path.as_slice(), TIME, bytes)?;
+    for entry in entries {
+        if let Some(seconds) = entry.modified {
+            let bytes = seconds.to_le_bytes();
+            session.set_attr(host.alloc(), entry.path.as_slice(), TIME, &bytes)?;
         }
     }
     Ok(())

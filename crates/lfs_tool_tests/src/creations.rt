@@ -3,7 +3,7 @@
 use crate::sources::{Items, memory_source_of_items};
 use crate::texts::{create_of_source, list_text, unpack_text, with_error_line};
 use lfs_device::{Error, Geometry};
-use lfs_tool::{ImageLayout, MemorySource, WatchedStream};
+use lfs_tool::{ImageLayout, MemorySource, Stream};
 use std::alloc::Global;
 use std::test::Fail;
 
@@ -21,7 +21,7 @@ fn is_made_image_as_expected(
     actions: Option<&[u8]>,
 ) -> Result<bool, Error> {
     let mut source = source;
-    let mut out = WatchedStream::new(Vec::new(alloc));
+    let mut out = Stream::new(Vec::new(alloc));
     let result = create_of_source(alloc, &mut source, geometry, &mut out, &mut ());
     let image = out.into_inner();
     if result.is_err() {
@@ -169,7 +169,7 @@ const FRESH: [u8; 52] = [
 #[test]
 fn an_image_has_these_bytes(rt: HostRuntime) -> Result<(), Fail> {
     let mut source = memory_source_of_items(rt.alloc(), &[])?;
-    let mut out = WatchedStream::new(Vec::new(rt.alloc()));
+    let mut out = Stream::new(Vec::new(rt.alloc()));
     let geometry = Geometry::new(4096, 256, 16)?;
     let result = create_of_source(rt.alloc(), &mut source, geometry, &mut out, &mut ());
     let mut wanted = Vec::from_slice(rt.alloc(), &FRESH)?;

@@ -5,7 +5,7 @@ use crate::sources::memory_source_of_items;
 use crate::texts::{create_of_source, with_error_line};
 use lfs_device::{Error, Geometry};
 use lfs_fixtures::image_with_pair;
-use lfs_tool::{ImageLayout, ToolError, WatchedStream, list, read_image};
+use lfs_tool::{ImageLayout, Stream, ToolError, list, read_image};
 use std::alloc::Global;
 use std::io;
 use std::io::{ErrorKind, Read, Write};
@@ -66,8 +66,8 @@ fn stream_failing_at_call<'a>(
     most: usize,
     fails_at: u32,
     kind: ErrorKind,
-) -> WatchedStream<Faulty<'a>> {
-    WatchedStream::new(Faulty {
+) -> Stream<Faulty<'a>> {
+    Stream::new(Faulty {
         left,
         taken: Vec::new(alloc),
         most,
@@ -97,7 +97,11 @@ fn failing_readers_are_reported(rt: HostRuntime) -> Result<(), Fail> {
                     Ok(bytes) => !fails && bytes.as_slice() == left,
                     Err(error) => fails && error == ToolError::Input,
                 };
-                assert!(rt; is_reported, "{kind:?}, {most}, {fails_at}");
+                let fault = if fails { Some(kind) } else { None };
+                assert!(rt;
+                    is_reported && reader.fault() == fault,
+                    "{kind:?}, {most}, {fails_at}"
+                );
             }
         }
     }
@@ -133,7 +137,7 @@ fn text_from_failing_writer(
     alloc: Global,
     image: &[u8],
     is_made: bool,
-    writer: WatchedStream<Faulty<'_>>,
+    writer: Stream<Faulty<'_>>,
 ) -> Result<Vec<u8>, Error> {
     let mut writer = writer;
     let result = if is_made {

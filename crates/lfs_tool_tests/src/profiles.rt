@@ -7,7 +7,7 @@ use crate::texts::{check_text, create_of_source, list_text, unpack_text, with_er
 use lfs_device::{AcceptedVersions, Error, Geometry, Profile};
 use lfs_fixtures::BlockFilling::{Bytes, Commit};
 use lfs_fixtures::{BlockFilling, FixtureEntries, image_with_commit};
-use lfs_tool::{ImageLayout, WatchedStream};
+use lfs_tool::{ImageLayout, Stream};
 use std::alloc::{AllocError, Global};
 use std::test::Fail;
 
@@ -356,7 +356,7 @@ const MADE: [(Items<'static>, Profile, &str); 9] = [
 fn text_of_made_image(alloc: Global, items: Items<'_>, profile: Profile) -> Result<Vec<u8>, Error> {
     let mut source = memory_source_of_items(alloc, items)?;
     let geometry = Geometry::new(4096, 256, 16)?.with_profile(profile);
-    let mut out = WatchedStream::new(Vec::new(alloc));
+    let mut out = Stream::new(Vec::new(alloc));
     let result = create_of_source(alloc, &mut source, geometry, &mut out, &mut ());
     let image = out.into_inner();
     if result.is_err() {

@@ -1,9 +1,8 @@
 // Runs of the program over real files: the rows, and what no row says.
 
 use crate::runs::{RUNS, make_files, program_words, seconds_at, set_seconds, time_in_image};
-use lfs_tool::{FaultLog, WatchedStream};
+use lfs_tool::{FaultLog, Stream};
 use lfs_tool_run::{Host, run_words};
-use std::cell::Cell;
 use std::io::Write;
 use std::test::Fail;
 use std::{fs, io};
@@ -14,10 +13,9 @@ fn push_run(
     text: &mut Vec<u8>,
 ) -> io::Result<()> {
     let log = FaultLog::new();
-    let mut out = WatchedStream::new(Vec::new(rt.alloc()));
-    let mut err = WatchedStream::new(Vec::new(rt.alloc()));
-    let fault = Cell::new(None);
-    let status = run_words(Host::new(rt, &log, &fault), words, &mut out, &mut err);
+    let mut out = Stream::new(Vec::new(rt.alloc()));
+    let mut err = Stream::new(Vec::new(rt.alloc()));
+    let status = run_words(Host::new(rt, &log), words, &mut out, &mut err);
     for lines in [out.into_inner(), err.into_inner()] {
         text.extend_from_slice(lines.as_slice())?;
         if lines.last().is_some_and(|byte| *byte != b'\n') {

@@ -5,7 +5,7 @@ use crate::sources::memory_source_of_items;
 use crate::texts::create_of_source;
 use lfs_device::{Error, Geometry};
 use lfs_fixtures::image_with_commit;
-use lfs_tool::{FilesAndBytes, FollowsProgress, ImageLayout, MemoryTarget, WatchedStream, unpack};
+use lfs_tool::{FilesAndBytes, FollowsProgress, ImageLayout, MemoryTarget, Stream, unpack};
 use std::alloc::{AllocError, Global};
 use std::test::Fail;
 
@@ -51,7 +51,7 @@ fn progress_of_making_image(alloc: Global) -> Result<RecordedProgress, Error> {
             (b"/d/x", Some(b"hi")),
         ],
     )?;
-    let mut out = WatchedStream::new(Vec::new(alloc));
+    let mut out = Stream::new(Vec::new(alloc));
     let mut told = no_progress_told(alloc);
     let geometry = Geometry::new(4096, 256, 16)?;
     let _ = create_of_source(alloc, &mut source, geometry, &mut out, &mut told);

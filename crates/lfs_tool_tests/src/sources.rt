@@ -1,6 +1,8 @@
 // Sources, and what is read of them.
 
-use lfs_tool::{FaultLog, Folder, MemorySource, MemorySourceEntry, Source, SourceError, read_tree};
+use lfs_tool::{
+    FaultLog, FileError, Folder, FolderRules, MemorySource, Source, SourceEntry, read_tree,
+};
 use std::alloc::{AllocError, Global};
 use std::rt::Files;
 use std::test::Fail;
@@ -21,7 +23,11 @@ pub(crate) fn memory_source_of_items(
             Some(bytes) => Some(bytes.to_vec(alloc)?),
             None => None,
         };
-        held.push(MemorySourceEntry { path, bytes })?;
+        held.push(SourceEntry {
+            path,
+            bytes,
+            modified: None,
+        })?;
     }
     Ok(MemorySource::new(held))
 }
@@ -31,7 +37,7 @@ fn is_source_read_as_items<S: Source>(
     alloc: Global,
     source: &mut S,
     wanted: Items<'_>,
-) -> Result<bool, SourceError> {
+) -> Result<bool, FileError> {
     let entries = read_tree(alloc, source)?;
     for (entry, (path, bytes)) in entries.iter().zip(wanted) {
         let is_same = match (&entry.bytes, bytes) {
@@ -99,7 +105,7 @@ fn sources_are_read(rt: HostRuntime) -> Result<(), Fail> {
     for items in BAD {
         let mut source = memory_source_of_items(rt.alloc(), items)?;
         let is_fault = is_source_read_as_items(rt.alloc(), &mut source, &[])
-            == Err(SourceError::Fault);
+            == Err(FileError::Fault);
         assert!(rt; is_fault, "{items:?}");
     }
     Ok(())
@@ -110,12 +116,12 @@ fn sources_are_read(rt: HostRuntime) -> Result<(), Fail> {
 fn real_folders_report_faults(rt: HostRuntime) -> Result<(), Fail> {
     fs::create_dir_all(&rt, "source_folder/d")?;
     let log = FaultLog::new();
-    let mut folder = Folder::new(&rt, &log, "source_folder")?;
+    let mut folder = Folder::new(&rt, &log, "source_folder", u64::MAX, FolderRules::new())?;
     for path in [b"/e\xff".as_slice(), b"/none"] {
-        let is_fault = matches!(folder.list(rt.alloc(), path), Err(SourceError::Fault));
+        let is_fault = matches!(folder.list(rt.alloc(), path), Err(FileError::Fault));
         assert!(rt; is_fault, "{path:?}");
     }
-    assert!(rt; matches!(folder.read(rt.alloc(), b"/d", 0), Err(SourceError::Fault)));
+    assert!(rt; matches!(folder.read(rt.alloc(), b"/d", 0), Err(FileError::Fault)));
     fs::remove_dir_all(&rt, "source_folder")?;
     Ok(())
 }
@@ -142,7 +148,7 @@ fn is_read_whole<R: Files + AllocGlobal + Clone + Drop>(
 fn real_files_are_read_whole(rt: HostRuntime) -> Result<(), Fail> {
     fs::create_dir_all(&rt, "source_files")?;
     let log = FaultLog::new();
-    let mut folder = Folder::new(&rt, &log, "source_files")?;
+    let mut folder = Folder::new(&rt, &log, "source_files", u64::MAX, FolderRules::new())?;
     for len in LENGTHS {
         let listed = len as u64;
         assert!(rt; is_read_whole(&rt, &mut folder, len, listed)?, "{len}");
@@ -160,7 +166,7 @@ fn real_files_are_read_whole(rt: HostRuntime) -> Result<(), Fail> {
 #[test]
 fn files_of_no_stated_length_are_read(rt: HostRuntime) -> Result<(), Fail> {
     let log = FaultLog::new();
-    let mut folder = Folder::new(&rt, &log, "/proc/sys/kernel")?;
+    let mut folder = Folder::new(&rt, &log, "/proc/sys/kernel", u64::MAX, FolderRules::new())?;
     if fs::exists(&rt, "/proc/sys/kernel/ostype")? {
         assert_eq!(rt;
             folder.read(rt.alloc(), b"/ostype", 0),

@@ -3,11 +3,12 @@
 use lfs_device::Geometry;
 use lfs_model::NameOrder;
 use lfs_tool::{
-    Fault, FollowsProgress, ImageLayout, MemoryTarget, Source, TargetAction, ToolError, ToolOutput,
-    WatchedStream, check, list, report, unpack,
+    Fault, FollowsProgress, ImageLayout, MemoryTarget, Source, Stream, TargetAction, ToolError,
+    check, list, report, unpack,
 };
 use lfs_tool_run::{create, read_source_entries};
 use std::alloc::{AllocError, Global};
+use std::io::Write;
 
 // What is shown of a fault: the status, and what goes to `out` and to `err`.
 #[derive(Drop)]
@@ -18,8 +19,8 @@ pub(crate) struct Report {
 }
 
 pub(crate) fn report_of(alloc: Global, fault: &Fault) -> Report {
-    let mut out = WatchedStream::new(Vec::new(alloc));
-    let mut err = WatchedStream::new(Vec::new(alloc));
+    let mut out = Stream::new(Vec::new(alloc));
+    let mut err = Stream::new(Vec::new(alloc));
     let status = report(fault, &mut out, &mut err);
     Report {
         status,
@@ -48,7 +49,7 @@ pub(crate) fn list_text(
     image: &[u8],
     layout: ImageLayout,
 ) -> Result<Vec<u8>, AllocError> {
-    let mut out = WatchedStream::new(Vec::new(alloc));
+    let mut out = Stream::new(Vec::new(alloc));
     let answer = list(alloc, image.to_vec(alloc)?, layout, &mut out);
     with_error_line(alloc, out.into_inner(), answer)
 }
@@ -59,7 +60,7 @@ pub(crate) fn check_text(
     image: &[u8],
     layout: ImageLayout,
 ) -> Result<Vec<u8>, AllocError> {
-    let mut out = WatchedStream::new(Vec::new(alloc));
+    let mut out = Stream::new(Vec::new(alloc));
     let answer = check(alloc, image.to_vec(alloc)?, layout, &mut out).map(|_accepted| ());
     with_error_line(alloc, out.into_inner(), answer)
 }
@@ -99,11 +100,11 @@ pub(crate) fn unpack_text(
 }
 
 // Writes the image of all that a source has.
-pub(crate) fn create_of_source<S: Source, W: ToolOutput, F: FollowsProgress>(
+pub(crate) fn create_of_source<S: Source, W: Write, F: FollowsProgress>(
     alloc: Global,
     source: &mut S,
     geometry: Geometry,
-    out: &mut W,
+    out: &mut Stream<W>,
     progress: &mut F,
 ) -> Result<(), ToolError> {
     let entries = read_source_entries(alloc, source)?;

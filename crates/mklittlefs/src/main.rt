@@ -2,9 +2,8 @@
 //! mklittlefs: makes an image of a littlefs file system from a folder, unpacks one into a folder, lists one, or checks one.
 #![tactic(auto)]
 
-use lfs_tool::{FaultLog, WatchedStream};
-use lfs_tool_run::{Host, Lines, run_words};
-use std::cell::Cell;
+use lfs_tool::{FaultLog, Stream};
+use lfs_tool_run::{Host, run_words};
 use std::io::IsTerminal;
 use std::process::ExitCode;
 use std::{env, io};
@@ -25,16 +24,12 @@ fn is_explanation_wanted(rt: &HostRuntime) -> bool {
 
 fn main(rt: HostRuntime) -> ExitCode {
     let log = FaultLog::new();
-    let fault = Cell::new(None);
     let host = Host {
         explains: is_explanation_wanted(&rt),
-        ..Host::new(&rt, &log, &fault)
+        ..Host::new(&rt, &log)
     };
-    let mut out = WatchedStream::new(Lines {
-        stream: rt.stdout(),
-        fault: &fault,
-    });
-    let mut err = WatchedStream::new(rt.stderr());
+    let mut out = Stream::new(rt.stdout());
+    let mut err = Stream::new(rt.stderr());
     let words = read_command_line_words(&rt);
     ExitCode::from(run_words(host, words, &mut out, &mut err))
 }

@@ -1,4 +1,4 @@
-use Rattle.std.proofs.Common.{◌≡◌, ◌∙◌, ◌++◌, ◌∷◌, [], Err, List, ap, arith, map, refl, reverse, subst, suc, sym}
+use Rattle.std.proofs.Common.{◌≡◌, ◌∙◌, ◌++◌, ◌∷◌, [], Err, List, ap, arith, map, refl, reverse, subst, sym}
 use Rattle.std.proofs.lemmas.List.{map-append}
 use Rattle.lfs_tool.specs.SourceTrees.{is_folder}
 use Rattle.lfs_tool.specs.MemorySources.{optional_bytes_view}
@@ -29,7 +29,7 @@ returns-in_err-bytes-clause-fault g c = λ e.
     let front = map waiting_view c.pop.new.self.items in
     let p = waiting_view c.in-Some.one in
     let popped : map waiting_view c.loop.waiting.items ≡ front ++ p ∷ [] = ap (map waiting_view) c.in-Some.ensures.items ∙ map-append waiting_view c.pop.new.self.items (c.in-Some.one ∷ []) in
-    either _ _ _ _ (λ h. h ∙ ap suc c.loop.invariant.kept)
+    either _ _ _ _ (λ h. h)
     (λ bad. (bad.0 ∙ c.loop.invariant.kept, bad_below known (g.S.Source.shown c.loop.source) front p (subst (AreFolders known) popped c.loop.invariant.folders) c.loop.invariant.shown bad.1.0 bad.1.1))
     (c.in_err-bytes.ensures.fault (ap Err (same_error c.from_residual-in_err-bytes.result _ _ c.from_residual-in_err-bytes.ensures.1 e)))
 
@@ -44,7 +44,7 @@ loop-preserved g c =
     let read = c.in_ok-bytes.ensures.holds in
     let holds = holds_along known now c.in-Some.one.path.items (is_folder c.in-Some.one.kind) (optional_bytes_view c.in_ok-bytes.bytes) read.0 c.loop.invariant.shown read.1.0 in
     record {
-      goes = goes_on known front p places c.loop.entries.items c.push_source_entry.new.entries.items (record { path = c.in-Some.one.path; bytes = c.in_ok-bytes.bytes }) read.0
+      goes = goes_on known front p places c.loop.entries.items c.push_source_entry.new.entries.items (record { path = c.in-Some.one.path; bytes = c.in_ok-bytes.bytes; modified = c.in-Some.one.modified }) read.0
           (subst (λ ps. Goes known ps c.loop.entries.items) popped c.loop.invariant.goes) refl holds read.1.1 c.in_ok-push_source_entry.ensures.entries;
       folders = folders_on known front p places (optional_bytes_view c.in_ok-bytes.bytes) read.0 (subst (AreFolders known) popped c.loop.invariant.folders) holds read.1.1;
       shown = rests_both known now (g.S.Source.shown c.read_waiting_entry.new.source) c.loop.invariant.shown c.in_ok-bytes.ensures.shown;

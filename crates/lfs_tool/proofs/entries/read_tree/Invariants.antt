@@ -9,5 +9,5 @@ invariant-loop g l = record {
   goes : Goes (g.S.Source.shown l.fn.source) (map waiting_view l.waiting.items) l.entries.items;
   folders : AreFolders (g.S.Source.shown l.fn.source) (map waiting_view l.waiting.items);
   shown : IsUnchanged (g.S.Source.shown l.fn.source) (g.S.Source.shown l.source);
-  kept : g.S.Source.faults l.source ≡ g.S.Source.faults l.fn.source;
+  kept : g.S.Source.has_failed l.source ≡ g.S.Source.has_failed l.fn.source;
 }

@@ -6,4 +6,4 @@ abbrev pub invariant-loop-item : goal.invariant-loop-item
 invariant-loop-item g l =
     (l.thread.failed ≡ false) × (OnlyReadsThread l.initial.thread.kept l.thread.kept)
     × (HasDoneActions (g.T.Target.done l.initial.target) (g.T.Target.done l.target) (place_actions l.initial.thread.kept.disk (tree_items_view (take l.item-index l.items))))
-    × (g.T.Target.faults l.target ≡ g.T.Target.faults l.initial.target)
+    × (g.T.Target.has_failed l.target ≡ g.T.Target.has_failed l.initial.target)

@@ -13,7 +13,7 @@ returns-in-Ok-clause-ok g c =
     (λ _ appends. (c.bytes.result.now, (l, ((λ known all. (carry_over known entries all, made c.args.geometry c.args.order known entries c.bytes.result.now all l)), appends)))) c.write_and_flush.ensures.ok
 
 pub returns-in-Ok-clause-writer : goal.returns-in-Ok-clause-writer
-returns-in-Ok-clause-writer g c = reports_written g.W.ToolOutput _ _ c.write_and_flush.result c.write_and_flush.ensures.kept c.write_and_flush.ensures.failed
+returns-in-Ok-clause-writer g c = reports_written _ _ c.write_and_flush.result c.write_and_flush.ensures.kept c.write_and_flush.ensures.failed
 
 pub returns-in-Ok-clause-beginning : goal.returns-in-Ok-clause-beginning
 returns-in-Ok-clause-beginning g c = λ _.

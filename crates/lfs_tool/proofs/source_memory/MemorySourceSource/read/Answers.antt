@@ -6,7 +6,7 @@ use Rattle.std.specs.Prelude.{Some, find, option_and_then}
 use Rattle.std.specs.Str.{bytes_eq}
 use Rattle.lfs_tool.specs.MemorySources.{PathAndBytes, file_bytes_at, memory_view, optional_bytes_view}
 use Rattle.lfs_tool.proofs.HeldItems.{found_here, not_here}
-use Rattle.lfs_tool.specs.declared.source_memory.MemorySourceEntry.{MemorySourceEntry}
+use Rattle.lfs_tool.specs.declared.entries.SourceEntry.{SourceEntry}
 use Rattle.lfs_tool.proofs.source_memory.MemorySourceSource.read.Goals as goal
 use Rattle.lfs_tool.proofs.source_memory.MemorySourceSource.read.Goals.{else-loop-held-test, then-loop-held-test+then-eq+in_default}
 
@@ -31,12 +31,12 @@ returns-clause-missing c is =
     let past : find (λ (e : PathAndBytes). bytes_eq e.0 file) (map memory_view (take c.loop-held.held-index items)) ≡ None = c.loop-held.invariant in
     elim c.loop-held-test.branch [
       | else-loop-held-test w ↦
-          let none = subst (λ (xs : List MemorySourceEntry). find (λ (e : PathAndBytes). bytes_eq e.0 file) (map memory_view xs) ≡ None)
+          let none = subst (λ (xs : List SourceEntry). find (λ (e : PathAndBytes). bytes_eq e.0 file) (map memory_view xs) ≡ None)
           (take_all c.loop-held.held-index items (omega arith) ∙ c.deref-held-items.ensures.value) past in
           ap (option_and_then (λ e. e.1)) none
       | then-loop-held-test+then-eq+in_default w ↦
           let hit : bytes_eq w.held-item.result.path.items file ≡ true = grind (arith, common_steps) in
           let here = found_here file items c.loop-held.held-index w.held-item.result (omega arith) w.held-item.is past hit in
-          ap (λ (xs : List MemorySourceEntry). file_bytes_at (map memory_view xs) file) (sym c.deref-held-items.ensures.value)
+          ap (λ (xs : List SourceEntry). file_bytes_at (map memory_view xs) file) (sym c.deref-held-items.ensures.value)
           ∙ (ap (option_and_then (λ e. e.1)) here ∙ ap (λ b. optional_bytes_view b) w.in_default.is)
     ]

@@ -1,12 +1,13 @@
 use Rattle.std.proofs.Common.{◌≡◌, ◌-◌, ◌≤◌, vec_len}
 use Rattle.lfs_tool.proofs.Common.{Consumes}
-use Rattle.lfs_tool.proofs.input.read_image.Given as goal
+use Rattle.lfs_tool.specs.Streams.{has_failed}
+use Rattle.lfs_tool.proofs.stream.read_image.Given as goal
 
 abbrev pub invariant-loop-buffer : goal.invariant-loop-buffer
 invariant-loop-buffer g l = record {
   within : vec_len l.bytes ≤ 268435457;
-  same : g.R.ImageInput.faults l.image ≡ g.R.ImageInput.faults l.initial.image;
-  read : Consumes (g.R.ImageInput.remaining l.initial.image) (g.R.ImageInput.remaining l.image) l.bytes.items;
+  same : has_failed l.image ≡ has_failed l.initial.image;
+  read : Consumes (g.R.Read.remaining l.initial.image.inner) (g.R.Read.remaining l.image.inner) l.bytes.items;
 }
 
 abbrev pub decreases-loop-buffer : goal.decreases-loop-buffer

@@ -1,0 +1,19 @@
+ghost use Rattle.std.specs.Prelude.{◌≡◌, IfOk};
+
+use std::alloc::Global;
+
+/// The cause for which a source gave nothing, or a target took nothing.
+#[derive(Clone, Copy, Debug, PartialEq, Eq, Drop)]
+pub enum FileError {
+    /// It couldn't be read or written, or a folder has bad names.
+    Fault,
+    /// Memory isn't granted.
+    NoMemory,
+}
+
+pub(crate) fn copy_bytes(alloc: Global, bytes: &[u8]) -> Result<Vec<u8>, FileError>
+    ensures bytes { IfOk result (λ v. v.items ≡ bytes.now) }
+    ensures memory { (e : _) → result ≡ Err e → e ≡ FileError.NoMemory }
+{
+    bytes.to_vec(alloc).map_err(|_| FileError::NoMemory)
+}

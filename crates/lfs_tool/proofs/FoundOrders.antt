@@ -34,7 +34,7 @@ module _ (history : List CallEvent) (t : ThreadView) (found : ImageFindings) (re
   broken : (order : NameOrder) (v : Violation) → violation_in_order order found.violations ≡ Some v → AcceptedInOrder order t.kept.disk → ⊥
   broken order v some (ps, accepted) = accepted_breaks_none (ordered_disk order t.kept.disk) v (read.broken order v some) ps accepted
 
-  accepted_thread : (order : NameOrder) (os : AcceptedOrders) → violation_in_order order found.violations ≡ None → HasAcceptedOrders t.kept.disk os → IsAcceptedThread t found.root order os
+  accepted_thread : (order : NameOrder) (os : AcceptedOrders) → violation_in_order order found.violations ≡ None → HasAcceptedOrders (ordered_disk LongerFirst t.kept.disk) os → IsAcceptedThread t found.root order os
   accepted_thread order os none has = record {
     works = read.works;
     accepted = (read.mounted order none).accepted;

@@ -6,6 +6,7 @@ use Rattle.lfs_model.specs.layers.BlockSets.{AreUsed}
 use Rattle.lfs_model.specs.tree.Shown.{used_blocks}
 use Rattle.lfs_model.specs.tree.View.{IsAccepted}
 use Rattle.lfs_model.specs.declared.order.NameOrder.{NameOrder}
+use Rattle.lfs_model.specs.declared.order.NameOrder.TheVariants.{LongerFirst}
 use Rattle.lfs_model.specs.layers.Violations.{Breaks}
 use Rattle.lfs_model.specs.declared.violations.Violation.{Violation}
 use Rattle.lfs_thread.specs.Kept.{ThreadView}
@@ -29,7 +30,7 @@ pub record IsAcceptedThread (t : ThreadView) (root : ℕ) (order : NameOrder) (o
   pub accepted : IsAccepted (ordered_disk order t.kept.disk) t.kept.pairs
   pub used : AreUsed t.kept.map (used_blocks t.kept.disk t.kept.pairs)
   pub root_is : root ≡ count_before_root t.kept.pairs
-  pub fits : HasAcceptedOrders t.kept.disk orders
+  pub fits : HasAcceptedOrders (ordered_disk LongerFirst t.kept.disk) orders
 
 -- it is accepted in neither order of names
 abbrev pub IsAcceptedInNeither : Disk → Type 0

@@ -58,7 +58,7 @@ fn accept_image(
     orders: AcceptedOrders,
 ) -> Result<ImageVerdict, Error>
     requires { IsAcceptedThread thread root order orders }
-    ensures verdict { IfOk result (IsDiskVerdict thread.kept.disk) }
+    ensures verdict { IfOk result (IsDiskVerdict (ordered_disk LongerFirst thread.kept.disk)) }
     ensures err { IfErr result (λ e. e ≡ Error.NoMemory) }
 {
     thread.set_order(order);
@@ -76,10 +76,11 @@ fn judge_findings(
     findings: ImageFindings,
 ) -> Result<ImageVerdict, Error>
     requires { (history : List CallEvent) × IsAcceptedIn thread.kept.disk history thread findings }
-    ensures verdict { IfOk result (IsDiskVerdict thread.kept.disk) }
+    ensures verdict { IfOk result (IsDiskVerdict (ordered_disk LongerFirst thread.kept.disk)) }
     ensures err { IfErr result (λ e. e ≡ Error.NoMemory) }
 {
-    let ImageFindings { root, violations } = findings;
+    let root = findings.root;
+    let violations = findings.violations;
     match (violations.longer_first, violations.shorter_first) {
         (None, None) => accept_image(
             alloc,

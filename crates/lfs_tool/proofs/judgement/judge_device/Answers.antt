@@ -15,7 +15,7 @@ judge_findings-requires c =
     (ram_history c.args.device, subst (λ (d : Disk). IsAcceptedIn d (ram_history c.args.device) c.in-Ok.image.thread c.in-Ok.image.findings) (sym read.disk_is) read)
 
 pub returns-in-Ok-clause-verdict : goal.returns-in-Ok-clause-verdict
-returns-in-Ok-clause-verdict c = subst (λ (d : Disk). IfOk c.judge_findings.result (IsDiskVerdict d)) c.in-Ok.ensures.read.disk_is c.judge_findings.ensures.verdict
+returns-in-Ok-clause-verdict c = subst (λ (d : Disk). IfOk c.judge_findings.result (IsDiskVerdict (ordered_disk LongerFirst d))) c.in-Ok.ensures.read.disk_is c.judge_findings.ensures.verdict
 
 pub refuse_image-requires-clause-longer : goal.refuse_image-requires-clause-longer
 refuse_image-requires-clause-longer c =

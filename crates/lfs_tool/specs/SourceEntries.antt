@@ -67,7 +67,7 @@ AreSourceEntries known entries = (top : List (Name × Bool)) × (AreSortedFolder
 
 -- ---- faults
 
--- a call has had a fault, or none more has and this holds
+-- it has failed, perhaps before; or not, and this holds
 abbrev pub HasFaultOr : Bool → Bool → Type 0 → Type 0
 HasFaultOr old new other = (new ≡ true) ⊎ ((new ≡ old) × other)
 

@@ -34,6 +34,7 @@ impl<T> Stream<T> {
     pub fn new(inner: T) -> Stream<T>
         ensures inner { stream_inner result ≡ inner }
         ensures fault { has_failed result ≡ false }
+        ensures shown { has_shown result ≡ false }
     {
         Stream {
             inner,

@@ -86,8 +86,8 @@ HasWrittenImage geometry order entries old new = (image : List ℕ) × (AreImage
 abbrev pub HasWrittenBeginning : Geometry → NameOrder → List SourceEntry → Option (List ℕ) → Option (List ℕ) → Type 0
 HasWrittenBeginning geometry order entries old new = (image : List ℕ) × (AreImageBytes geometry order entries image × (ShowsItsSource geometry order entries image × AppendsBeginning old new image))
 
--- `Input` comes where the source fails, or where it doesn't and a folder in it has bad names. After any other result it has
--- failed if it had before.
+-- `Input` comes if the source has failed, or if it hasn't and a folder in it has bad names. After any other result it has failed
+-- only if it had before.
 abbrev pub ReportsSourceFaults : {X : Type 0} → Bool → Bool → Option TreeSource → Result X ToolError → Type 0
 ReportsSourceFaults old new known (Err Input) = HasFaultOr old new (IfSome known HasBadNames)
 ReportsSourceFaults old new known other = new ≡ old

@@ -19,7 +19,7 @@
  *
  * A call returns 0 or more, or minus one of the numbers below. After a refusal nothing has changed: no file, no position,
  * no byte of the image, and no buffer; only lfs_c_file_close frees the file's number even then. A buffer is written only where what
- * it is to hold fits.
+ * it is to hold fits. docs/PROVED.md says which of this is proved.
  *
  * What the calls rely on, and can't check:
  *   - a pointer isn't NULL, not even beside a length of 0, and as many bytes lie there as the length says;
@@ -103,7 +103,7 @@ typedef struct lfs_c_config {
 #define LFS_C_CONFIG(block_size, page) \
     { (block_size), (page), LFS_C_LONGER_FIRST, LFS_C_ONLY_2_0, 255, 2147483647, 1022, 1022, 0 }
 
-/* Mounts a copy of an image and returns 0. Where both orders of names fit, the longer names come first.
+/* Mounts a copy of an image and returns 0. If both orders of names fit, the longer names come first.
  * Refused: BUSY where an image is mounted already; INVALID for a number out of range, or bytes that are no image of that geometry;
  * CORRUPT; NO_MEMORY. */
 int64_t lfs_c_mount(lfs_c_volume *volume, const lfs_c_config *config, const uint8_t *image, size_t image_len);
@@ -137,7 +137,7 @@ int64_t lfs_c_used_blocks(lfs_c_volume *volume);
 /* Returns 1 if the image uses a block, and else 0. Refused: INVALID where the image has no such block. */
 int64_t lfs_c_is_used(lfs_c_volume *volume, uint32_t block);
 
-/* What an image's superblock says. Sizes and limits are in bytes. */
+/* An image's superblock. Sizes and limits are in bytes. */
 typedef struct lfs_c_fsinfo {
     uint32_t disk_version; /* the major number in the upper 16 bits, the minor one in the lower: 0x20000 or 0x20001 */
     uint32_t block_size;
@@ -153,7 +153,7 @@ int64_t lfs_c_superblock(lfs_c_volume *volume, lfs_c_fsinfo *info);
 /* Returns 1 if the image may be changed, and else 0: then changes are refused as READ_ONLY, or FAILED where the volume has failed. */
 int64_t lfs_c_is_writable(lfs_c_volume *volume);
 
-/* Where an image breaks a rule, so that it is read only. A metadata pair is known by its two blocks, and an entry by its slot, counted
+/* The breach of a rule by which an image is read only. A metadata pair is known by its two blocks, and an entry by its slot, counted
  * from 0 in that pair. A slot or a limit that the rule doesn't speak of is 0. */
 typedef struct lfs_c_breach {
     uint32_t pair[2];
@@ -311,7 +311,7 @@ int64_t lfs_c_dir_close(lfs_c_volume *volume, uint32_t dir);
  *     }
  *
  * The changes are fetched complete and in order, each by its number. So the flash has at each moment what the image had after some
- * of its changes, with the next one done in part. Where power is lost then, the flash has the tree from before the call or the one
+ * of its changes, with the next one done in part. If power is lost then, the flash has the tree from before the call or the one
  * from after it. C must keep four rules, as docs/C_PYTHON.md has them:
  *   - at lfs_c_note_changes the flash has the image's bytes: those that were mounted, or the whole image after lfs_c_mkfs;
  *   - C makes the changes in order, each one whole, also those of a refused or failed call, before it relies on that call;

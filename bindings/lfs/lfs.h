@@ -4,14 +4,16 @@
  * (docs/C_PYTHON.md, "Programs on lfs.h"). Names, types, flags and numbers of errors are littlefs's. lfs_t, lfs_file_t and lfs_dir_t have
  * other fields, so compile again all that includes this header.
  *
- * Proved are the calls of littlefs_c.h, which decide all that is written. This header and lfs.c aren't: they make plain paths, pass
- * calls on, and bring changes to the device.
+ * Proved are the calls of littlefs_c.h, which decide all that is written but 0xff where an erase leaves other bytes. This header and lfs.c
+ * aren't: they make plain paths, pass calls on, and bring changes to the device.
  *
  * ---- The device
  *
  * lfs_mount reads the whole device into memory. Each call that changes the image brings the changes to the device before it returns, in
  * order: `erase`, `prog` in whole pages, and at last `sync`. So the device has at each moment what the image had after some of its
- * changes, with the next one done in part. If power is lost then, the next mount finds the tree from before the call or from after it.
+ * changes, with the next one done in part. If power is lost then, the next mount finds the tree from before the call or from after it,
+ * but for two calls: lfs_format, which may leave no image, and one that stores attributes of an open file (see below). A stopped program
+ * or erase must leave what docs/PROVED.md, "Power loss", supposes of any device.
  *
  *   - Page: the least power of two from 8 to 512 that is a multiple of prog_size.
  *   - An erase must leave bytes of 0xff. Blocks are read back; where other bytes are left, as in memory or in a file, 0xff is programmed
@@ -26,7 +28,7 @@
  *     for an lfs_file_close that has something to store. After a change an error of `read` ends the mount.
  *   - Nothing else may change the device while it is mounted.
  *
- * ---- What can't be had
+ * ---- Limits
  *
  *   - Blocks of less than 1,024 or more than 65,536 bytes, more than 65,536 blocks or 256 MiB, a prog_size of which no page is a multiple,
  *     and settings that littlefs asserts on: LFS_ERR_INVAL from lfs_format and lfs_mount.
@@ -42,13 +44,14 @@
  *   - An image that littlefs made and this library doesn't write, such as one with a longer inline file than inline_max, can be read;
  *     changes return LFS_ERR_ROFS, a number that littlefs doesn't have.
  *
- * ---- What differs from littlefs
+ * ---- Differences from littlefs
  *
  *   - All files that are open on one path see the same contents at once, and a sync or a close of any of them stores these. A file stays
  *     usable when it is renamed, removed or replaced; what is written to a removed one is never stored. In littlefs a file that is
  *     renamed loses later writes.
  *   - A write is in memory until lfs_file_sync or lfs_file_close. So these return LFS_ERR_NOSPC where a write, a read or a seek of littlefs
- *     does. Nothing has changed then. After an lfs_file_sync that returned an error lfs_file_close tries again, and returns 0.
+ *     does. Nothing has changed then. After an lfs_file_sync that returned an error, another one stores nothing and returns 0, as
+ *     littlefs's, until a write that succeeds; lfs_file_close tries to store the contents again, and returns 0.
  *   - With LFS_O_APPEND each write is at the end, also where the position is behind it. A write of 0 bytes behind the end does nothing.
  *   - The attributes of an open file are set after its contents, each by itself: if power is lost between them, the file has new contents
  *     with old attributes.
@@ -176,7 +179,7 @@ struct lfs_info {
     char name[LFS_NAME_MAX + 1];
 };
 
-/* What the superblock says. */
+/* The superblock. */
 struct lfs_fsinfo {
     uint32_t disk_version; /* 0x00020000 or 0x00020001 */
     lfs_size_t block_size, block_count, name_max, file_max, attr_max;

@@ -110,8 +110,8 @@ fn count_found_states(alloc: Global, change: Change) -> Result<Option<(u64, u64)
             are_done &= is_done;
             match found {
                 None => return Ok(None),
-                Some(false) => old += 1,
-                Some(true) => new += 1,
+                Some(false) => old = old.saturating_add(1),
+                Some(true) => new = new.saturating_add(1),
             }
         }
         if are_done {

@@ -22,7 +22,7 @@ use Rattle.lfs_volume.specs.Calls.{Call, Perform, call_result, nodes_after, unle
 use Rattle.lfs_volume.specs.Opened.{AreNoFiles}
 use Rattle.lfs_volume.specs.SessionCalls.{error_result}
 use Rattle.lfs_volume.specs.Volume.{NodeView, Volume, VolumeView, idle_session, volume_of}
-use Rattle.lfs_volume.specs.VolumeCalls.{IsSessionPart, IsSound, IsSoundVolume, IsVolumeCall, IsWorkingCall}
+use Rattle.lfs_volume.specs.VolumeCalls.{IsSessionCall, IsSessionPart, IsSound, IsSoundVolume, IsVolumeCall, IsWorkingCall}
 use Rattle.lfs_volume.proofs.Steps.{answered}
 use Rattle.lfs_volume.proofs.VolumeSteps.{same_as}
 
@@ -193,6 +193,8 @@ operation_keeps old new op x other does sound keeps works = go old.session.tree.
     go false w = keeps (sound w) works
     go true f = absurd (let k : true ≡ false = sym f ∙ sym (ap (λ (h : SessionView). h.tree.failed) (asked_failed old.session new.session op x other does f).1) ∙ works in cc)
 
-pub performed_call : (old new : VolumeView) (op : Operation) (x : Result Reply Error) → is_alone op ≡ true → IsSound old → IsCall old.session op x new.session → new.nodes ≡ old.nodes → new.handles ≡ old.handles → IsVolumeCall old (Perform op) x new
-performed_call old new op x alone sound call nodes handles =
-    operation_call old new (Perform op) op x (not_remount op alone) call nodes handles sound (λ s. performed old new op x alone s call nodes handles)
+pub performed_call : (old new : VolumeView) (op : Operation) (x : Result Reply Error) → is_alone op ≡ true → IsSound old → IsCall old.session op x new.session → new.nodes ≡ old.nodes → new.handles ≡ old.handles → IsSessionCall old op x new
+performed_call old new op x alone sound call nodes handles = record {
+  call = operation_call old new (Perform op) op x (not_remount op alone) call nodes handles sound (λ s. performed old new op x alone s call nodes handles);
+  session = call;
+}

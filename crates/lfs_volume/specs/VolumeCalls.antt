@@ -19,7 +19,7 @@ use Rattle.lfs_tree.specs.TreeState.{shown_tree}
 use Rattle.lfs_fs.specs.CallEffects.{IsCall}
 use Rattle.lfs_fs.specs.SessionView.{SessionView}
 use Rattle.lfs_volume.specs.declared.handles.Handle.{Handle}
-use Rattle.lfs_volume.specs.Calls.{Call, call_result, may_want_memory, named, needs_sync, stored_node, sync_refusal, sync_tree}
+use Rattle.lfs_volume.specs.Calls.{Call, Perform, call_result, may_want_memory, named, needs_sync, stored_node, sync_refusal, sync_tree}
 use Rattle.lfs_volume.specs.Hulls.{DiffersInHull}
 use Rattle.lfs_volume.specs.Opened.{IsIdle, LeadsToFile}
 use Rattle.lfs_volume.specs.SessionCalls.{AreQuietCalls, AreVolumeSteps, EndsInCall, FailsInCalls}
@@ -109,6 +109,11 @@ IsWorkingCall old call (Err e) new =
 pub record IsVolumeCall (old : VolumeView) (call : Call) (result : Result Reply Error) (new : VolumeView) : Type 0 where
   pub failed : old.session.tree.failed ≡ true → (result ≡ Ok (ops.Refused ops.Failed)) × (new ≡ old)
   pub works : old.session.tree.failed ≡ false → IsWorkingCall old call result new
+
+-- A call that is one operation of the session, about no open file. What it does to the disk is what the session's own call does.
+pub record IsSessionCall (old : VolumeView) (op : Operation) (result : Result Reply Error) (new : VolumeView) : Type 0 where
+  pub call : IsVolumeCall old (Perform op) result new
+  pub session : IsCall old.session op result new.session
 
 -- A remount closes all handles and remounts the session, whether the session had failed or not. Where it succeeds, the volume works
 -- and has the tree that the disk shows. Where it ends in an error, the volume has failed.

@@ -17,7 +17,7 @@ ghost use Rattle.lfs_lookup.specs.Finds.{listed_item_view, stat_view};
 ghost use Rattle.lfs_volume.specs.Calls as calls;
 ghost use Rattle.lfs_volume.specs.SessionCalls.{error_result};
 ghost use Rattle.lfs_volume.specs.Volume.{NodeView, VolumeView, entry_at};
-ghost use Rattle.lfs_volume.specs.VolumeCalls.{FitsAt, HasSameTables, IsDropped, IsFoundHandle, IsReadyToRead, IsRemount, IsSoundVolume, IsTooLong, IsVolumeCall, IsWorking};
+ghost use Rattle.lfs_volume.specs.VolumeCalls.{FitsAt, HasSameTables, IsDropped, IsFoundHandle, IsReadyToRead, IsRemount, IsSessionCall, IsSoundVolume, IsTooLong, IsVolumeCall, IsWorking};
 
 use crate::bytes::{copied, copy_into};
 use crate::flags::{allows_volume_flags, session_flags, truncates};
@@ -338,7 +338,7 @@ impl<D: BlockDevice> Volume<D> {
     ///
     /// Errors are those of a session's `stat`.
     pub fn stat(&mut self, alloc: Global, path: &[u8]) -> Result<Stat, Error>
-        ensures { IsVolumeCall self.old (calls.Perform (ops.Stat path.now)) (reply_from (λ stat. ops.StatIs (stat_view stat)) result) self.new }
+        ensures { IsSessionCall self.old (ops.Stat path.now) (reply_from (λ stat. ops.StatIs (stat_view stat)) result) self.new }
     {
         self.session.stat(alloc, path)
     }
@@ -349,7 +349,7 @@ impl<D: BlockDevice> Volume<D> {
     ///
     /// Errors are those of a session's `list`.
     pub fn list(&mut self, alloc: Global, path: &[u8]) -> Result<Vec<Item>, Error>
-        ensures { IsVolumeCall self.old (calls.Perform (ops.ListAll path.now)) (reply_from (λ items. ops.Items (map listed_item_view items.items)) result) self.new }
+        ensures { IsSessionCall self.old (ops.ListAll path.now) (reply_from (λ items. ops.Items (map listed_item_view items.items)) result) self.new }
     {
         self.session.list(alloc, path)
     }
@@ -360,7 +360,7 @@ impl<D: BlockDevice> Volume<D> {
     ///
     /// Errors are those of a session's `get_attr`.
     pub fn get_attr(&mut self, alloc: Global, path: &[u8], kind: u8) -> Result<Vec<u8>, Error>
-        ensures { IsVolumeCall self.old (calls.Perform (ops.GetAttr path.now kind)) (reply_from (λ v. ops.Bytes v.items) result) self.new }
+        ensures { IsSessionCall self.old (ops.GetAttr path.now kind) (reply_from (λ v. ops.Bytes v.items) result) self.new }
     {
         self.session.get_attr(alloc, path, kind)
     }
@@ -371,7 +371,7 @@ impl<D: BlockDevice> Volume<D> {
     ///
     /// `Failed` alone.
     pub fn gstate(&self) -> Result<Gstate, Error>
-        ensures { IsVolumeCall self.now (calls.Perform ops.AskGstate) (reply_from returned_gstate_reply result) self.now }
+        ensures { IsSessionCall self.now ops.AskGstate (reply_from returned_gstate_reply result) self.now }
     {
         self.session.gstate()
     }
@@ -382,7 +382,7 @@ impl<D: BlockDevice> Volume<D> {
     ///
     /// `Invalid` where the image has no such block.
     pub fn is_used(&self, block: u32) -> Result<bool, Error>
-        ensures { IsVolumeCall self.now (calls.Perform (ops.IsUsed block)) (reply_from ops.Yes result) self.now }
+        ensures { IsSessionCall self.now (ops.IsUsed block) (reply_from ops.Yes result) self.now }
     {
         self.session.is_used(block)
     }
@@ -393,7 +393,7 @@ impl<D: BlockDevice> Volume<D> {
     ///
     /// `Failed` alone.
     pub fn used_count(&self) -> Result<u32, Error>
-        ensures { IsVolumeCall self.now (calls.Perform ops.UsedCount) (reply_from ops.Count result) self.now }
+        ensures { IsSessionCall self.now ops.UsedCount (reply_from ops.Count result) self.now }
     {
         self.session.used_count()
     }
@@ -404,7 +404,7 @@ impl<D: BlockDevice> Volume<D> {
     ///
     /// Errors are those of a session's `mkdir`.
     pub fn mkdir(&mut self, alloc: Global, path: &[u8]) -> Result<(), Error>
-        ensures { IsVolumeCall self.old (calls.Perform (ops.Mkdir path.now)) (reply_from (λ _. ops.Done) result) self.new }
+        ensures { IsSessionCall self.old (ops.Mkdir path.now) (reply_from (λ _. ops.Done) result) self.new }
     {
         self.session.mkdir(alloc, path)
     }
@@ -421,7 +421,7 @@ impl<D: BlockDevice> Volume<D> {
         kind: u8,
         value: &[u8],
     ) -> Result<(), Error>
-        ensures { IsVolumeCall self.old (calls.Perform (ops.SetAttr path.now kind value.now)) (reply_from (λ _. ops.Done) result) self.new }
+        ensures { IsSessionCall self.old (ops.SetAttr path.now kind value.now) (reply_from (λ _. ops.Done) result) self.new }
     {
         self.session.set_attr(alloc, path, kind, value)
     }
@@ -432,7 +432,7 @@ impl<D: BlockDevice> Volume<D> {
     ///
     /// Errors are those of a session's `remove_attr`.
     pub fn remove_attr(&mut self, alloc: Global, path: &[u8], kind: u8) -> Result<(), Error>
-        ensures { IsVolumeCall self.old (calls.Perform (ops.RemoveAttr path.now kind)) (reply_from (λ _. ops.Done) result) self.new }
+        ensures { IsSessionCall self.old (ops.RemoveAttr path.now kind) (reply_from (λ _. ops.Done) result) self.new }
     {
         self.session.remove_attr(alloc, path, kind)
     }
@@ -443,7 +443,7 @@ impl<D: BlockDevice> Volume<D> {
     ///
     /// Errors are those of a session's `recover`.
     pub fn recover(&mut self, alloc: Global) -> Result<(), Error>
-        ensures { IsVolumeCall self.old (calls.Perform ops.Recover) (reply_from (λ _. ops.Done) result) self.new }
+        ensures { IsSessionCall self.old ops.Recover (reply_from (λ _. ops.Done) result) self.new }
     {
         self.session.recover(alloc)
     }

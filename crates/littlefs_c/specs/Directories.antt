@@ -8,17 +8,16 @@ use Rattle.lfs_lookup.specs.declared.kinds.Kind.{Kind}
 use Rattle.lfs_lookup.specs.declared.kinds.Kind.TheVariants as kind
 use Rattle.lfs_lookup.specs.declared.kinds.ListItem.{ListItem}
 use Rattle.lfs_fs.specs.Replies.{reply_from}
-use Rattle.lfs_volume.specs.Calls as calls
 use Rattle.lfs_volume.specs.Calls.{free_entry, with_entry}
 use Rattle.lfs_volume.specs.Volume.{VolumeView, entry_at}
-use Rattle.lfs_volume.specs.VolumeCalls.{IsVolumeCall}
+use Rattle.lfs_volume.specs.VolumeCalls.{IsSessionCall}
 use Rattle.littlefs_c.specs.Buffers.{buffer_if_fitting, entries_of_items}
 use Rattle.littlefs_c.specs.DirectoryView.{DirectoryView}
 use Rattle.littlefs_c.specs.declared.shown_entries.ShownEntry.{ShownEntry}
 
 -- the volume lists a directory, with that result
 abbrev pub IsListing : List ℕ → Result (Vec ListItem Global) Error → VolumeView → VolumeView → Type 0
-IsListing path r old new = IsVolumeCall old (calls.Perform (ops.ListAll path)) (reply_from (λ (items : Vec ListItem Global). ops.Items (entries_of_items items)) r) new
+IsListing path r old new = IsSessionCall old (ops.ListAll path) (reply_from (λ (items : Vec ListItem Global). ops.Items (entries_of_items items)) r) new
 
 -- ---- an open
 

@@ -15,7 +15,8 @@ use Rattle.lfs_fs.specs.SessionView.{SessionView}
 use Rattle.lfs_volume.specs.Calls as calls
 use Rattle.lfs_volume.specs.Calls.{Call}
 use Rattle.lfs_volume.specs.SessionCalls.{error_result}
-use Rattle.lfs_volume.specs.VolumeCalls.{IsRemount, IsVolumeCall}
+use Rattle.lfs_volume.specs.Volume.{VolumeView}
+use Rattle.lfs_volume.specs.VolumeCalls.{IsRemount, IsSessionCall, IsVolumeCall}
 use Rattle.littlefs_c.specs.Buffers.{buffer_if_fitting, entries_of_items, item_lines}
 use Rattle.littlefs_c.specs.Codes.{bool_number, result_code, stat_number}
 use Rattle.littlefs_c.specs.Directories.{ClosesDirectory, IsListing, KeepsListing, ReadsDirectory, RewindsDirectory, SeeksDirectory, TellsDirectory}
@@ -35,24 +36,31 @@ CallsVolume P code old new = ⊥
 
 -- ---- calls with a number alone
 
--- the volume's call, whose result has this code; open directories stay
-abbrev pub IsCodedCall : {X : Type 0} → (X → ℕ) → Call → (X → Reply) → ℤ → Mounted → Mounted → Type 0
-IsCodedCall {X} number call reply code old new =
-    (new.directories ≡ old.directories) × ((r : Result X Error) × ((code ≡ result_code number r) × IsVolumeCall old.volume call (reply_from reply r) new.volume))
+-- The volume goes from one view to the other by P of a result that has this code. Open directories stay.
+abbrev pub IsCodedCall : {X : Type 0} → (X → ℕ) → (VolumeView → Result Reply Error → VolumeView → Type 0) → (X → Reply) → ℤ → Mounted → Mounted → Type 0
+IsCodedCall {X} number P reply code old new =
+    (new.directories ≡ old.directories) × ((r : Result X Error) × ((code ≡ result_code number r) × P old.volume (reply_from reply r) new.volume))
 
--- the same of calls that return nothing, a number, or a file's or a directory's size
+-- the volume's call, of those that return nothing or a number
 abbrev pub IsUnitCall : Call → ℤ → Mounted → Mounted → Type 0
-IsUnitCall call code old new = IsCodedCall {X = Unit} (λ _. 0) call (λ _. ops.Done) code old new
+IsUnitCall call code old new = IsCodedCall {X = Unit} (λ _. 0) (λ v r w. IsVolumeCall v call r w) (λ _. ops.Done) code old new
 
 abbrev pub IsCountCall : Call → (ℕ → Reply) → ℤ → Mounted → Mounted → Type 0
-IsCountCall call reply code old new = IsCodedCall {X = ℕ} (λ n. n) call reply code old new
+IsCountCall call reply code old new = IsCodedCall {X = ℕ} (λ n. n) (λ v r w. IsVolumeCall v call r w) reply code old new
+
+-- the same of calls that are one operation of the session
+abbrev pub IsUnitOperation : Operation → ℤ → Mounted → Mounted → Type 0
+IsUnitOperation op code old new = IsCodedCall {X = Unit} (λ _. 0) (λ v r w. IsSessionCall v op r w) (λ _. ops.Done) code old new
+
+abbrev pub IsCountOperation : Operation → (ℕ → Reply) → ℤ → Mounted → Mounted → Type 0
+IsCountOperation op reply code old new = IsCodedCall {X = ℕ} (λ n. n) (λ v r w. IsSessionCall v op r w) reply code old new
 
 abbrev pub IsStatCall : List ℕ → ℤ → Mounted → Mounted → Type 0
-IsStatCall path code old new = IsCodedCall {X = Stat} stat_number (calls.Perform (ops.Stat path)) (λ stat. ops.StatIs (stat_view stat)) code old new
+IsStatCall path code old new = IsCodedCall {X = Stat} stat_number (λ v r w. IsSessionCall v (ops.Stat path) r w) (λ stat. ops.StatIs (stat_view stat)) code old new
 
 -- the same of a question
 abbrev pub IsBoolCall : Operation → (Bool → Reply) → ℤ → Mounted → Mounted → Type 0
-IsBoolCall op reply code old new = IsCodedCall {X = Bool} bool_number (calls.Perform op) reply code old new
+IsBoolCall op reply code old new = IsCodedCall {X = Bool} bool_number (λ v r w. IsSessionCall v op r w) reply code old new
 
 -- the volume's remount, whose result has this code; no directory is open then
 abbrev pub IsRemountCall : ℤ → Mounted → Mounted → Type 0
@@ -81,7 +89,7 @@ filled_buffer (Err e) buffer = buffer
 -- a volume's call of that operation, whose bytes are put into a buffer
 abbrev pub IsBytesCall : Operation → ℤ → List ℕ → List ℕ → Mounted → Mounted → Type 0
 IsBytesCall op code buffer filled old new =
-    (new.directories ≡ old.directories) × ((r : Result (Vec ℕ Global) Error) × ((code ≡ result_code (λ (v : Vec ℕ Global). length v.items) r) × ((filled ≡ filled_buffer r buffer) × IsVolumeCall old.volume (calls.Perform op) (reply_from (λ (v : Vec ℕ Global). ops.Bytes v.items) r) new.volume)))
+    (new.directories ≡ old.directories) × ((r : Result (Vec ℕ Global) Error) × ((code ≡ result_code (λ (v : Vec ℕ Global). length v.items) r) × ((filled ≡ filled_buffer r buffer) × IsSessionCall old.volume op (reply_from (λ (v : Vec ℕ Global). ops.Bytes v.items) r) new.volume)))
 
 -- the result of a read that left so many bytes at the beginning of a buffer
 abbrev pub read_result : Result ℕ Error → List ℕ → Result Reply Error

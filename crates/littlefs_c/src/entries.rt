@@ -3,7 +3,7 @@
 ghost use Rattle.std.specs.Prelude.{◌^◌, ◌<◌, IfOk};
 ghost use Rattle.lfs_model.specs.session.Operations as ops;
 ghost use Rattle.lfs_volume.specs.Calls as calls;
-ghost use Rattle.littlefs_c.specs.Volumes.{CallsVolume, FillsWithLines, IsBytesCall, IsListCall, IsStatCall, IsUnitCall};
+ghost use Rattle.littlefs_c.specs.Volumes.{CallsVolume, FillsWithLines, IsBytesCall, IsListCall, IsStatCall, IsUnitCall, IsUnitOperation};
 
 use crate::buffers::{copy_if_fitting, fill_with_bytes};
 use crate::codes::{room_code, size_code, unit_code};
@@ -77,7 +77,7 @@ pub extern "C" fn lfs_c_list_at(
 /// 77 where nothing is mounted, and the errors of a volume's `mkdir` (docs/OPERATIONS.md).
 #[unsafe(no_mangle)]
 pub extern "C" fn lfs_c_mkdir_at(alloc: Global, volume: &mut Handle, path: &[u8]) -> i64
-    ensures { CallsVolume (IsUnitCall (calls.Perform (ops.Mkdir path.now)) result) result volume.old.slot.mounted volume.new.slot.mounted }
+    ensures { CallsVolume (IsUnitOperation (ops.Mkdir path.now) result) result volume.old.slot.mounted volume.new.slot.mounted }
 {
     let Some(mut inner) = take_volume(alloc, volume) else {
         return CLOSED;
@@ -161,7 +161,7 @@ pub extern "C" fn lfs_c_set_attr_at(
     kind: u8,
     bytes: &[u8],
 ) -> i64
-    ensures { CallsVolume (IsUnitCall (calls.Perform (ops.SetAttr path.now kind bytes.now)) result) result volume.old.slot.mounted volume.new.slot.mounted }
+    ensures { CallsVolume (IsUnitOperation (ops.SetAttr path.now kind bytes.now) result) result volume.old.slot.mounted volume.new.slot.mounted }
 {
     let Some(mut inner) = take_volume(alloc, volume) else {
         return CLOSED;
@@ -184,7 +184,7 @@ pub extern "C" fn lfs_c_remove_attr_at(
     path: &[u8],
     kind: u8,
 ) -> i64
-    ensures { CallsVolume (IsUnitCall (calls.Perform (ops.RemoveAttr path.now kind)) result) result volume.old.slot.mounted volume.new.slot.mounted }
+    ensures { CallsVolume (IsUnitOperation (ops.RemoveAttr path.now kind) result) result volume.old.slot.mounted volume.new.slot.mounted }
 {
     let Some(mut inner) = take_volume(alloc, volume) else {
         return CLOSED;

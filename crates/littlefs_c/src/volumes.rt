@@ -2,8 +2,7 @@
 
 ghost use Rattle.std.specs.Prelude.{◌^◌, ◌<◌};
 ghost use Rattle.lfs_model.specs.session.Operations as ops;
-ghost use Rattle.lfs_volume.specs.Calls as calls;
-ghost use Rattle.littlefs_c.specs.Volumes.{CallsVolume, CopiesImage, CopiesPart, FromSession, IsBoolCall, IsCountCall, IsDiskImage, IsRemountCall, IsUnitCall};
+ghost use Rattle.littlefs_c.specs.Volumes.{CallsVolume, CopiesImage, CopiesPart, FromSession, IsBoolCall, IsCountOperation, IsDiskImage, IsRemountCall, IsUnitOperation};
 
 use crate::buffers::{copy_if_fitting, copy_part};
 use crate::codes::{bool_code, count_code, unit_code};
@@ -37,7 +36,7 @@ pub extern "C" fn lfs_c_remount(alloc: Global, volume: &mut Handle) -> i64
 /// 77 where nothing is mounted, and the errors of a volume's `recover` (docs/OPERATIONS.md).
 #[unsafe(no_mangle)]
 pub extern "C" fn lfs_c_recover(alloc: Global, volume: &mut Handle) -> i64
-    ensures { CallsVolume (IsUnitCall (calls.Perform ops.Recover) result) result volume.old.slot.mounted volume.new.slot.mounted }
+    ensures { CallsVolume (IsUnitOperation ops.Recover result) result volume.old.slot.mounted volume.new.slot.mounted }
 {
     let Some(mut inner) = take_volume(alloc, volume) else {
         return CLOSED;
@@ -54,7 +53,7 @@ pub extern "C" fn lfs_c_recover(alloc: Global, volume: &mut Handle) -> i64
 /// 77 where nothing is mounted, and `Failed` where the volume has failed.
 #[unsafe(no_mangle)]
 pub extern "C" fn lfs_c_used_blocks(alloc: Global, volume: &mut Handle) -> i64
-    ensures { CallsVolume (IsCountCall (calls.Perform ops.UsedCount) ops.Count result) result volume.old.slot.mounted volume.new.slot.mounted }
+    ensures { CallsVolume (IsCountOperation ops.UsedCount ops.Count result) result volume.old.slot.mounted volume.new.slot.mounted }
 {
     let Some(inner) = take_volume(alloc, volume) else {
         return CLOSED;

@@ -1,13 +1,12 @@
 use Rattle.std.proofs.Common.{refl, subst}
 use Rattle.lfs_fs.specs.Replies.{reply_from}
 use Rattle.lfs_model.specs.session.Operations as ops
-use Rattle.lfs_volume.specs.Calls.{Perform}
 use Rattle.lfs_volume.specs.Volume.{VolumeView}
-use Rattle.lfs_volume.specs.VolumeCalls.{IsVolumeCall}
+use Rattle.lfs_volume.specs.VolumeCalls.{IsSessionCall}
 use Rattle.lfs_volume.proofs.SessionOperations.{performed_call}
 use Rattle.lfs_volume.proofs.volume.Volume.is_used.Goals as goal
 
 pub returns : goal.returns
 returns g c =
     let start : VolumeView = record { session = c.self.inside.session; nodes = c.self.inside.nodes.items; handles = c.self.inside.handles.items } in
-    subst (λ v. IsVolumeCall v (Perform (ops.IsUsed c.args.block)) (reply_from ops.Yes c.is_used.result) v) c.self.view_is (performed_call start start (ops.IsUsed c.args.block) (reply_from ops.Yes c.is_used.result) refl c.self.invariant c.is_used.ensures refl refl)
+    subst (λ v. IsSessionCall v (ops.IsUsed c.args.block) (reply_from ops.Yes c.is_used.result) v) c.self.view_is (performed_call start start (ops.IsUsed c.args.block) (reply_from ops.Yes c.is_used.result) refl c.self.invariant c.is_used.ensures refl refl)

@@ -1,9 +1,8 @@
 use Rattle.std.proofs.Common.{refl, subst}
 use Rattle.lfs_fs.specs.Replies.{reply_from}
 use Rattle.lfs_model.specs.session.Operations as ops
-use Rattle.lfs_volume.specs.Calls.{Perform}
 use Rattle.lfs_volume.specs.Volume.{VolumeView}
-use Rattle.lfs_volume.specs.VolumeCalls.{IsVolumeCall}
+use Rattle.lfs_volume.specs.VolumeCalls.{IsSessionCall}
 use Rattle.lfs_volume.proofs.SessionOperations.{performed_call}
 use Rattle.lfs_volume.proofs.TreesKept.{performed_keeps}
 use Rattle.lfs_volume.proofs.volume.Volume.recover.Goals as goal
@@ -12,7 +11,7 @@ pub returns : goal.returns
 returns g c =
     let start : VolumeView = record { session = c.self.inside.session; nodes = c.self.inside.nodes.items; handles = c.self.inside.handles.items } in
     let new : VolumeView = record { session = c.recover.new.self; nodes = c.self.inside.nodes.items; handles = c.self.inside.handles.items } in
-    subst (λ v. IsVolumeCall v (Perform ops.Recover) (reply_from (λ _. ops.Done) c.recover.result) new) c.self.view_is (performed_call start new ops.Recover (reply_from (λ _. ops.Done) c.recover.result) refl c.self.invariant c.recover.ensures refl refl)
+    subst (λ v. IsSessionCall v ops.Recover (reply_from (λ _. ops.Done) c.recover.result) new) c.self.view_is (performed_call start new ops.Recover (reply_from (λ _. ops.Done) c.recover.result) refl c.self.invariant c.recover.ensures refl refl)
 
 pub invariant_of-self : goal.invariant_of-self
 invariant_of-self g c =

@@ -1,4 +1,4 @@
-// What the definitions of a volume say, by examples.
+// The definitions of a volume, by examples.
 
 ghost use Rattle.std.specs.Prelude.{◌≡◌, ◌≢◌, ◌∷◌, ◌++◌, ℕ, List, [], codes, false, length, replicate, true, None, Ok, Some};
 ghost use Rattle.lfs_model.specs.session.Operations as ops;
@@ -125,8 +125,7 @@ pub fn node_is_changed_in_memory()
     ensures removed { unlinked_node (loaded_node (codes "abcd") (opened_node (codes "/a") 4)) ≡ record { path = None; size = 4; contents = Some (codes "abcd"); hull = None } }
 {}
 
-/// Only a call that makes a handle, returns bytes, lengthens a file or moves paths may want memory of
-/// the volume's own.
+/// Calls that may want memory of the volume's own, and calls that never do.
 pub fn calls_that_want_memory()
     ensures open { may_want_memory fresh_volume (Open (codes "/a") read_flags) ≡ true }
     ensures longer { may_want_memory one_open_file (Write 0 (codes "abcde")) ≡ true }
@@ -136,7 +135,7 @@ pub fn calls_that_want_memory()
     ensures rename { may_want_memory one_open_file (Perform (ops.Rename (codes "/a") (codes "/b"))) ≡ true }
 {}
 
-/// Of a volume that has failed each call replies `Failed`, and another reply isn't one of its calls.
+/// Of a volume that has failed each call replies `Failed`. `Done` is no reply of it.
 pub fn failed_volume_changes_nothing()
     ensures refused { (v : VolumeView) (call : Call) → v.session.tree.failed ≡ true → IsVolumeCall v call (Ok (ops.Refused Failed)) v }
     ensures other { (v w : VolumeView) (call : Call) → v.session.tree.failed ≡ true → IsVolumeCall v call (Ok ops.Done) w → ⊥ }

@@ -508,8 +508,8 @@ impl<D: BlockDevice> Volume<D> {
         self.session.remount(alloc)
     }
 
-    /// Returns whether the volume has failed. Then each call but [`remount`](Volume::remount) returns
-    /// `Failed`. Makes no call of the device.
+    /// Returns whether the volume has failed. Then each call that can fail returns `Failed`, but
+    /// [`remount`](Volume::remount). Makes no call of the device.
     pub fn has_failed(&self) -> bool
         ensures { result ≡ self.now.session.tree.failed }
     {

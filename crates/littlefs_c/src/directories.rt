@@ -168,6 +168,7 @@ pub(crate) fn directory_position(
     }
     match &directories[index] {
         Some(directory) => {
+            // Bounds the position for the proof: a list has fewer than 2 to the 63rd entries.
             let _count = directory.items.len();
             Ok(directory.position)
         }

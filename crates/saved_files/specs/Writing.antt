@@ -59,11 +59,11 @@ WritesFile path flags bytes from to = (s : Session) → from.state ≡ Healthy s
 
 -- ---- a file that is read
 
--- wherever power is lost between these states, the next start has the file as it was, and all else
+-- wherever power is lost between these states, the next start has the same bytes at the path, or none if there were none, and all else but the names beside it
 abbrev pub SurvivesRead : (path : List ℕ) → SystemState → SystemState → Type 0
 SurvivesRead path from to = (s : Session) → from.state ≡ Healthy s → SurvivesWith (HasBytesAt (path_or_root path) (file_bytes (s.tree (path_or_root path))) s.tree) from to
 
--- the file has these bytes, and the session works on, with the file as it was, and all else
+-- The file has these bytes, and the session works on, with the same bytes there, and all else but the names beside it.
 abbrev pub ReadsFile : (path bytes : List ℕ) → SystemState → SystemState → Type 0
 ReadsFile path bytes from to = (s : Session) → from.state ≡ Healthy s → (bytes_if_file (s.tree (path_or_root path)) ≡ Some bytes)
     × ((t : Session) × ((to.state ≡ Healthy t) × HasBytesAt (path_or_root path) bytes s.tree t.tree))

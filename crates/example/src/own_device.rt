@@ -131,7 +131,7 @@ fn used_block_count_on_chip(alloc: Global) -> Result<u32, Error> {
 }
 
 // Keeps settings, a counter and a log on a chip. Returns the settings that the next start reads, and the counter when it was raised.
-fn keep_files_on_chip(alloc: Global) -> Result<(Vec<u8>, u32), Error> {
+fn keep_files(alloc: Global) -> Result<(Vec<u8>, u32), Error> {
     let chip = Chip::new(alloc, Geometry::new(1024, 128, 8)?)?;
     let mut session = format(alloc, chip).map_err(|(_, error)| error)?;
     save_settings(&mut session, alloc, b"contrast 3")?;
@@ -152,8 +152,8 @@ pub fn print_used_blocks_on_chip(rt: &HostRuntime) -> io::Result<()> {
 }
 
 /// Prints what an application keeps there.
-pub fn print_files_kept_on_chip(rt: &HostRuntime) -> io::Result<()> {
-    match keep_files_on_chip(rt.alloc()) {
+pub fn print_kept_files(rt: &HostRuntime) -> io::Result<()> {
+    match keep_files(rt.alloc()) {
         Ok((settings, number)) => println!(rt;
             "kept on it: {}, counter {number}",
             str::from_utf8(&settings).unwrap_or("no text")

@@ -39,8 +39,8 @@ fn main(rt: HostRuntime) -> io::Result<()> {
         )?,
         Err(error) => println!(rt; "error {error:?} {}", error.number())?,
     }
-    own_device::print_used_blocks_on_chip(&rt)?;
+    own_device::print_used_blocks(&rt)?;
     own_device::print_kept_files(&rt)?;
-    recovery::print_paths_after_rename_stops(&rt)?;
+    recovery::print_stopped_renames(&rt)?;
     operations::print_example_replies(&rt)
 }

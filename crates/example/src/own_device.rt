@@ -47,7 +47,7 @@ impl Chip {
 }
 
 // Overwrites bytes from an offset on.
-fn overwrite_chip_bytes_at_offset(all: &mut Vec<u8>, at: usize, bytes: &[u8])
+fn overwrite_bytes(all: &mut Vec<u8>, at: usize, bytes: &[u8])
     requires { at + length bytes.now ≤ length all.old.items }
     ensures { all.new.items ≡ overwritten_at all.old.items at bytes.now }
 {
@@ -95,7 +95,7 @@ impl BlockDevice for Chip {
     fn prog(&mut self, block: u32, off: u32, bytes: &[u8]) -> Result<(), Error> {
         let trace = Trace::with_ghost_history(self, &(block, off, bytes));
         let start = self.position(block, off);
-        overwrite_chip_bytes_at_offset(&mut self.bytes, start, bytes);
+        overwrite_bytes(&mut self.bytes, start, bytes);
         self.trace = trace;
         Ok(())
     }
@@ -123,7 +123,7 @@ impl BlockDevice for Chip {
 }
 
 // Returns how many blocks are used on a chip with one directory.
-fn used_block_count_on_chip(alloc: Global) -> Result<u32, Error> {
+fn used_block_count(alloc: Global) -> Result<u32, Error> {
     let chip = Chip::new(alloc, Geometry::new(1024, 128, 8)?)?;
     let mut session = format(alloc, chip).map_err(|(_, error)| error)?;
     session.mkdir(alloc, b"/log")?;
@@ -144,8 +144,8 @@ fn keep_files(alloc: Global) -> Result<(Vec<u8>, u32), Error> {
 }
 
 /// Prints how many there are.
-pub fn print_used_blocks_on_chip(rt: &HostRuntime) -> io::Result<()> {
-    match used_block_count_on_chip(rt.alloc()) {
+pub fn print_used_blocks(rt: &HostRuntime) -> io::Result<()> {
+    match used_block_count(rt.alloc()) {
         Ok(count) => println!(rt; "a device of your own: {count} blocks used"),
         Err(error) => println!(rt; "error {error:?}"),
     }

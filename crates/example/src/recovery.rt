@@ -27,7 +27,7 @@ fn path_after_rename_recovery(alloc: Global, nth: u64) -> Result<&'static str, E
 }
 
 /// Prints it for a power loss at each of the first two programs.
-pub fn print_paths_after_rename_stops(rt: &HostRuntime) -> io::Result<()> {
+pub fn print_stopped_renames(rt: &HostRuntime) -> io::Result<()> {
     for nth in 1..3u64 {
         match path_after_rename_recovery(rt.alloc(), nth) {
             Ok(path) => println!(rt; "power lost at program {nth}: {path}")?,

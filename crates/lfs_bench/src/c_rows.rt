@@ -106,7 +106,7 @@ fn formatted_session(alloc: Global, row: RowDevice) -> Result<Measured, Error> {
 }
 
 // Makes the files that are there before a row is measured.
-fn make_files_for_benchmark_row(
+fn make_row_files(
     alloc: Global,
     session: &mut Measured,
     row: Row,
@@ -153,8 +153,8 @@ fn perform_benchmark_row(
     let mut session = session;
     match row {
         Row::Wear => wear::perform_pseudorandom_operations(alloc, session, count),
-        Row::BootLog => wear::append_log_after_each_mount(alloc, session, count),
-        Row::BootCount => wear::write_counter_after_each_mount(alloc, session, count),
+        Row::BootLog => wear::append_each_mount(alloc, session, count),
+        Row::BootCount => wear::count_each_mount(alloc, session, count),
         _ => {
             perform_row_in_session(alloc, &mut session, row, bytes, count)?;
             Ok(session)
@@ -241,7 +241,7 @@ fn measure_benchmark_row(
 ) -> io::Result<()> {
     let mut session = session;
     let mut bytes = [b'x'; BLOCK as usize];
-    if let Err(error) = make_files_for_benchmark_row(rt.alloc(), &mut session, row, &bytes, count) {
+    if let Err(error) = make_row_files(rt.alloc(), &mut session, row, &bytes, count) {
         return println!(rt; "{error:?}");
     }
     let before = session.device().counts();

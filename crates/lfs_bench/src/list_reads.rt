@@ -96,7 +96,7 @@ fn measure_skip_list_reads(alloc: Global) -> Result<Vec<ReadsOfListBlock>, Error
 
 /// Prints both counts for some of the blocks, and the most and the sum over all of them
 /// (bench/ctz_reads.py judges them).
-pub fn print_skip_list_read_counts(rt: &HostRuntime) -> io::Result<()> {
+pub fn print_list_reads(rt: &HostRuntime) -> io::Result<()> {
     let all = match measure_skip_list_reads(rt.alloc()) {
         Ok(all) => all,
         Err(error) => return eprintln!(rt; "{error:?}"),

@@ -44,7 +44,7 @@ fn read_log_repeatedly(block: &[u8], rounds: u32) -> u64 {
 }
 
 // Takes the log by its known end `rounds` times, and returns the sum of the ends.
-fn take_log_by_known_end_repeatedly(block: &[u8], rounds: u32) -> u64 {
+fn take_known_log(block: &[u8], rounds: u32) -> u64 {
     let log = Log::read(block);
     let (end, last) = (log.end(), log.last_log_tag());
     let mut sum = 0u64;
@@ -92,7 +92,7 @@ pub fn benchmark_log_lookups(rt: &HostRuntime, rounds: u32) -> io::Result<()> {
     let read = read_log_repeatedly(&block, rounds);
     let reading = start.elapsed(rt)?;
     let start = Instant::now(rt)?;
-    let known = take_log_by_known_end_repeatedly(&block, rounds);
+    let known = take_known_log(&block, rounds);
     let knowing = start.elapsed(rt)?;
     let start = Instant::now(rt)?;
     let found = find_names_repeatedly(&log, rounds);

@@ -25,7 +25,7 @@ const PIECES: u32 = 12;
 fn run_all_benchmarks(rt: &HostRuntime) -> io::Result<()> {
     checksum::benchmark_checksum(rt, 1)?;
     look_ups::benchmark_log_lookups(rt, 1)?;
-    list_reads::print_skip_list_read_counts(rt)?;
+    list_reads::print_list_reads(rt)?;
     writes::benchmark_file_writes(rt, PIECES)
 }
 
@@ -62,7 +62,7 @@ fn main(rt: HostRuntime) -> io::Result<()> {
     match figure.as_str() {
         "checksum" => checksum::benchmark_checksum(&rt, argument_number_or(&words, 2, 1)),
         "look_ups" => look_ups::benchmark_log_lookups(&rt, argument_number_or(&words, 2, 1)),
-        "list_reads" => list_reads::print_skip_list_read_counts(&rt),
+        "list_reads" => list_reads::print_list_reads(&rt),
         "row" => run_row_of_arguments(&rt, &words),
         "writes" => writes::benchmark_file_writes(&rt, argument_number_or(&words, 2, PIECES)),
         _ => eprintln!(rt; "checksum, look_ups, list_reads, writes or row"),

@@ -67,11 +67,7 @@ pub fn perform_pseudorandom_operations(
 }
 
 /// Mounts so often, each time with 100 bytes appended to a log. Returns the last session.
-pub fn append_log_after_each_mount(
-    alloc: Global,
-    session: Measured,
-    count: u32,
-) -> Result<Measured, Error> {
+pub fn append_each_mount(alloc: Global, session: Measured, count: u32) -> Result<Measured, Error> {
     let mut session = session;
     for _ in 0..count {
         session = mount_again(alloc, session)?;
@@ -81,11 +77,7 @@ pub fn append_log_after_each_mount(
 }
 
 /// Mounts so often, each time with a counter that is written again. Returns the last session.
-pub fn write_counter_after_each_mount(
-    alloc: Global,
-    session: Measured,
-    count: u32,
-) -> Result<Measured, Error> {
+pub fn count_each_mount(alloc: Global, session: Measured, count: u32) -> Result<Measured, Error> {
     let mut session = session;
     for _ in 0..count {
         session = mount_again(alloc, session)?;

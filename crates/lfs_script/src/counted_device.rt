@@ -4,14 +4,14 @@ use lfs_device::{BlockDevice, Error, Geometry};
 
 /// A device with the count of its calls that failed. The count saturates.
 #[derive(Drop)]
-pub struct DeviceWithCountedFaults<D: BlockDevice> {
+pub struct CountedDevice<D: BlockDevice> {
     inner: D,
     failed: u64,
 }
 
-impl<D: BlockDevice> DeviceWithCountedFaults<D> {
-    pub fn new(inner: D) -> DeviceWithCountedFaults<D> {
-        DeviceWithCountedFaults { inner, failed: 0 }
+impl<D: BlockDevice> CountedDevice<D> {
+    pub fn new(inner: D) -> CountedDevice<D> {
+        CountedDevice { inner, failed: 0 }
     }
 
     /// Borrows the device below.
@@ -29,7 +29,7 @@ impl<D: BlockDevice> DeviceWithCountedFaults<D> {
     }
 }
 
-impl<D: BlockDevice> BlockDevice for DeviceWithCountedFaults<D> {
+impl<D: BlockDevice> BlockDevice for CountedDevice<D> {
     ghost geometry = { λ d. D.geometry d.inner };
 
     ghost blocks = { λ d. D.blocks d.inner };

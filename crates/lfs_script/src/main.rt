@@ -6,20 +6,20 @@
 mod comparison;
 mod counted_device;
 mod files;
-mod hand;
 mod help;
 mod operation_calls;
 mod script;
+mod script_device;
 mod script_run;
 
 use help::HELP;
-use script_run::{ScriptEnd, run_script_lines};
+use script_run::{ScriptEnd, run_lines};
 use std::io::{BufReader, ErrorKind};
 use std::process::ExitCode;
 use std::{env, io};
 
 // Shows why a script ended before its last line, and returns the status. A failed write is ignored.
-fn report_script_end(rt: &HostRuntime, end: ScriptEnd) -> ExitCode {
+fn report_end(rt: &HostRuntime, end: ScriptEnd) -> ExitCode {
     let (shown, status) = match end {
         ScriptEnd::Done => return ExitCode::SUCCESS,
         ScriptEnd::Line(number, refusal) => (eprintln!(rt; "error: line {number}: {refusal}"), 2),
@@ -42,7 +42,7 @@ enum Request {
 }
 
 // Returns the request of the words of a command line, the program's name first.
-fn request_of_command_line(words: &[String]) -> Request {
+fn parse_request(words: &[String]) -> Request {
     match words {
         [] | [_] => Request::Script,
         [_, word] if word.as_str() == "--help" || word.as_str() == "-h" => Request::Help,
@@ -50,7 +50,7 @@ fn request_of_command_line(words: &[String]) -> Request {
     }
 }
 
-fn command_line_words(rt: &HostRuntime) -> io::Result<Vec<String>> {
+fn read_words(rt: &HostRuntime) -> io::Result<Vec<String>> {
     let words = env::args(rt)?.collect(rt.alloc())?;
     Ok(words)
 }
@@ -59,12 +59,12 @@ fn command_line_words(rt: &HostRuntime) -> io::Result<Vec<String>> {
 fn show_help(rt: &HostRuntime) -> ExitCode {
     match print!(rt; "{HELP}") {
         Ok(()) => ExitCode::SUCCESS,
-        Err(_) => report_script_end(rt, ScriptEnd::Output),
+        Err(_) => report_end(rt, ScriptEnd::Output),
     }
 }
 
 // Says that there are no such words, and returns the status. A failed write is ignored.
-fn report_unknown_command_line(rt: &HostRuntime) -> ExitCode {
+fn refuse_words(rt: &HostRuntime) -> ExitCode {
     let _ = eprintln!(rt; "error: a script is read from standard input (--help says more)");
     ExitCode::from(2)
 }
@@ -72,24 +72,24 @@ fn report_unknown_command_line(rt: &HostRuntime) -> ExitCode {
 // Performs the lines of standard input, and returns the status.
 fn run_script(rt: &HostRuntime) -> ExitCode {
     let Ok(mut input) = BufReader::new(rt.alloc(), rt.stdin()) else {
-        return report_script_end(rt, ScriptEnd::NoMemory);
+        return report_end(rt, ScriptEnd::NoMemory);
     };
-    let end = run_script_lines(rt, &mut input, &mut rt.stdout());
-    report_script_end(rt, end)
+    let end = run_lines(rt, &mut input, &mut rt.stdout());
+    report_end(rt, end)
 }
 
 fn main(rt: HostRuntime) -> ExitCode {
-    let words = match command_line_words(&rt) {
+    let words = match read_words(&rt) {
         Ok(words) => words,
-        Err(error) if error.kind() == ErrorKind::OutOfMemory => return report_script_end(
+        Err(error) if error.kind() == ErrorKind::OutOfMemory => return report_end(
             &rt,
             ScriptEnd::NoMemory,
         ),
-        Err(_) => return report_unknown_command_line(&rt),
+        Err(_) => return refuse_words(&rt),
     };
-    match request_of_command_line(&words) {
+    match parse_request(&words) {
         Request::Script => run_script(&rt),
         Request::Help => show_help(&rt),
-        Request::Unknown => report_unknown_command_line(&rt),
+        Request::Unknown => refuse_words(&rt),
     }
 }

@@ -6,7 +6,7 @@ use lfs_script_lines::{Answer, Operation};
 use std::alloc::Global;
 
 // Returns the session's operation.
-fn op_of_script_operation(operation: &Operation) -> Op<'_> {
+fn session_op(operation: &Operation) -> Op<'_> {
     match operation {
         Operation::Open(path, flags) => Op::Open(path, *flags),
         Operation::Read(fd, count) => Op::Read(*fd, *count),
@@ -34,12 +34,12 @@ fn op_of_script_operation(operation: &Operation) -> Op<'_> {
 /// Performs an operation.
 ///
 /// The answer is the session's reply, a refusal among them, or the error by which the session failed.
-pub fn perform_script_operation<D: BlockDevice>(
+pub fn perform_operation<D: BlockDevice>(
     alloc: Global,
     session: &mut Session<D>,
     operation: &Operation,
 ) -> Answer {
-    match session.run(alloc, &[op_of_script_operation(operation)]) {
+    match session.run(alloc, &[session_op(operation)]) {
         Ok(mut replies) => match replies.pop() {
             Some(reply) => Answer::Reply(reply),
             None => Answer::Nothing,

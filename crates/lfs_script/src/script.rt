@@ -1,12 +1,11 @@
-// The commands of a script on the device in hand.
+// The commands of a script on its device.
 
-use crate::comparison::{compare_session_with_copy, compare_session_with_image};
+use crate::comparison::{compare_with_copy, compare_with_image};
 use crate::files::{read_file, write_file};
-use crate::hand::{
-    Device, NO_FAULT, ScriptDevice, call_counts_of_device, device_with_planned_fault,
-    device_without_fault,
+use crate::operation_calls::perform_operation;
+use crate::script_device::{
+    Device, NO_FAULT, ScriptDevice, count_calls, device_without_fault, plan_fault,
 };
-use crate::operation_calls::perform_script_operation;
 use lfs_device::{BlockDevice, Erased, Error, Geometry, PlannedFault, RamDevice};
 use lfs_fs::{Reply, Session, format_ordered, mount};
 use lfs_model::{NameOrder, Profile};
@@ -14,7 +13,7 @@ use lfs_script_lines::{Answer, Command, ComparisonScope};
 use std::mem;
 use std::rt::Files;
 
-// Returns the device of these bytes, with that profile.
+// Makes a device that holds these bytes, with this profile.
 fn device_of_bytes(
     bytes: Vec<u8>,
     block_size: u32,
@@ -33,8 +32,8 @@ fn device_of_bytes(
     }
 }
 
-// Returns where so many bytes from a byte of a block on are among all bytes.
-fn range_of_block_bytes(block_size: u32, block: u32, offset: u32, count: usize) -> (usize, usize) {
+// Returns the range, among the bytes of the device, of `count` bytes at an offset in a block.
+fn block_range(block_size: u32, block: u32, offset: u32, count: usize) -> (usize, usize) {
     let start = (block_size as usize * block as usize).saturating_add(offset as usize);
     (start, start.saturating_add(count))
 }
@@ -43,8 +42,8 @@ fn range_of_block_bytes(block_size: u32, block: u32, offset: u32, count: usize) 
 #[derive(Drop)]
 pub struct Script<'a, R: Files> {
     rt: &'a R,
-    hand: ScriptDevice,
-    // That of the devices that are made.
+    device: ScriptDevice,
+    // the profile of the devices that the script makes
     profile: Profile,
 }
 
@@ -53,59 +52,56 @@ impl<'a, R: Files + AllocGlobal> Script<'a, R> {
     pub fn new(rt: &'a R) -> Script<'a, R> {
         Script {
             rt,
-            hand: ScriptDevice::Nothing,
+            device: ScriptDevice::Nothing,
             profile: Profile::new(),
         }
     }
 
-    // Takes a session in hand, or the device of an error.
-    fn take_session_or_device(
-        &mut self,
-        begun: Result<Session<Device>, (Device, Error)>,
-    ) -> Answer {
+    // Keeps the session that was started, or the device that an error gives back.
+    fn keep_start(&mut self, begun: Result<Session<Device>, (Device, Error)>) -> Answer {
         match begun {
             Ok(session) => {
-                self.hand = ScriptDevice::Session(session);
+                self.device = ScriptDevice::Session(session);
                 Answer::Reply(Reply::Done)
             }
             Err((device, error)) => {
-                self.hand = ScriptDevice::Device(device);
+                self.device = ScriptDevice::Device(device);
                 Answer::Error(error)
             }
         }
     }
 
     fn mount(&mut self, device: RamDevice, fault: PlannedFault) -> Answer {
-        let device = match device_with_planned_fault(self.rt.alloc(), device, fault) {
+        let device = match plan_fault(self.rt.alloc(), device, fault) {
             Ok(device) => device,
             Err(error) => return Answer::Error(error),
         };
         let begun = mount(self.rt.alloc(), device);
-        self.take_session_or_device(begun)
+        self.keep_start(begun)
     }
 
     fn format(&mut self, device: RamDevice, order: NameOrder, fault: PlannedFault) -> Answer {
-        let device = match device_with_planned_fault(self.rt.alloc(), device, fault) {
+        let device = match plan_fault(self.rt.alloc(), device, fault) {
             Ok(device) => device,
             Err(error) => return Answer::Error(error),
         };
         let begun = format_ordered(self.rt.alloc(), device, order);
-        self.take_session_or_device(begun)
+        self.keep_start(begun)
     }
 
-    // Ends the session, and takes its device out of hand.
+    // Ends the session, and takes its device.
     fn take_device(&mut self) -> Option<RamDevice> {
-        mem::replace(&mut self.hand, ScriptDevice::Nothing).into_device()
+        mem::replace(&mut self.device, ScriptDevice::Nothing).into_device()
     }
 
     fn unmount(&mut self) -> Answer {
-        match mem::replace(&mut self.hand, ScriptDevice::Nothing) {
+        match mem::replace(&mut self.device, ScriptDevice::Nothing) {
             ScriptDevice::Session(session) => {
-                self.hand = ScriptDevice::Device(session.unmount());
+                self.device = ScriptDevice::Device(session.unmount());
                 Answer::Reply(Reply::Done)
             }
-            hand => {
-                self.hand = hand;
+            device => {
+                self.device = device;
                 Answer::Nothing
             }
         }
@@ -137,14 +133,14 @@ impl<'a, R: Files + AllocGlobal> Script<'a, R> {
         }
     }
 
-    // Puts bytes over those of the device in hand. Its session ends.
+    // Overwrites bytes of the device. Its session ends.
     fn put(&mut self, block: u32, offset: u32, more: &[u8], erased: Erased) -> Answer {
         let Some(device) = self.take_device() else {
             return Answer::Nothing;
         };
         let geometry = device.geometry();
         let mut bytes = device.to_bytes();
-        let (start, end) = range_of_block_bytes(geometry.block_size, block, offset, more.len());
+        let (start, end) = block_range(geometry.block_size, block, offset, more.len());
         let answer = match bytes.as_mut_slice().get_mut(start..end) {
             Some(place) => {
                 if place.len() == more.len() {
@@ -159,20 +155,20 @@ impl<'a, R: Files + AllocGlobal> Script<'a, R> {
         match RamDevice::from_bytes(geometry, bytes) {
             Ok(device) => {
                 let device = device.with_erased(erased);
-                self.hand = ScriptDevice::Device(device_without_fault(device));
+                self.device = ScriptDevice::Device(device_without_fault(device));
                 answer
             }
             Err(error) => Answer::Error(error),
         }
     }
 
-    // Shows bytes of the device in hand.
+    // Shows bytes of the device.
     fn bytes(&self, block: u32, offset: u32, count: u32) -> Answer {
-        let Some(device) = self.hand.device() else {
+        let Some(device) = self.device.device() else {
             return Answer::Nothing;
         };
         let block_size = device.geometry().block_size;
-        let (start, end) = range_of_block_bytes(block_size, block, offset, count as usize);
+        let (start, end) = block_range(block_size, block, offset, count as usize);
         let all = device.inner().inner().bytes();
         match all.get(start..end) {
             Some(bytes) => match Vec::from_slice(self.rt.alloc(), bytes) {
@@ -184,7 +180,7 @@ impl<'a, R: Files + AllocGlobal> Script<'a, R> {
     }
 
     fn save(&self, file: &[u8]) -> Answer {
-        match self.hand.device() {
+        match self.device.device() {
             Some(device) if write_file(self.rt, file, device.inner().inner().bytes()) => {
                 Answer::Reply(Reply::Done)
             }
@@ -194,28 +190,19 @@ impl<'a, R: Files + AllocGlobal> Script<'a, R> {
     }
 
     fn compare(&mut self, scope: ComparisonScope) -> Answer {
-        match &mut self.hand {
-            ScriptDevice::Session(session) => compare_session_with_copy(
-                self.rt.alloc(),
-                session,
-                scope,
-            ),
+        match &mut self.device {
+            ScriptDevice::Session(session) => compare_with_copy(self.rt.alloc(), session, scope),
             _ => Answer::Nothing,
         }
     }
 
     fn compare_with(&mut self, file: &[u8]) -> Answer {
-        let ScriptDevice::Session(session) = &mut self.hand else {
+        let ScriptDevice::Session(session) = &mut self.device else {
             return Answer::Nothing;
         };
         let alloc = self.rt.alloc();
         match read_file(self.rt, file) {
-            Some(bytes) => compare_session_with_image(
-                alloc,
-                session,
-                ComparisonScope::Whole,
-                bytes,
-            ),
+            Some(bytes) => compare_with_image(alloc, session, ComparisonScope::Whole, bytes),
             None => Answer::Input,
         }
     }
@@ -274,14 +261,14 @@ impl<'a, R: Files + AllocGlobal> Script<'a, R> {
                 None => Answer::Nothing,
             },
             Command::Save(file) => self.save(file),
-            Command::Calls => match self.hand.device() {
-                Some(device) => Answer::Calls(call_counts_of_device(device)),
+            Command::Calls => match self.device.device() {
+                Some(device) => Answer::Calls(count_calls(device)),
                 None => Answer::Nothing,
             },
             Command::Compare(scope) => self.compare(*scope),
             Command::CompareWith(file) => self.compare_with(file),
-            Command::Perform(operation) => match &mut self.hand {
-                ScriptDevice::Session(session) => perform_script_operation(
+            Command::Perform(operation) => match &mut self.device {
+                ScriptDevice::Session(session) => perform_operation(
                     self.rt.alloc(),
                     session,
                     operation,

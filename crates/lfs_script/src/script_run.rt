@@ -22,7 +22,7 @@ pub enum ScriptEnd {
 }
 
 // Prints the answer to a line, if it is a command.
-fn perform_line_and_write_answer<R: Files + AllocGlobal, W: Write>(
+fn perform_line<R: Files + AllocGlobal, W: Write>(
     rt: &R,
     script: &mut Script<'_, R>,
     line: &[u8],
@@ -44,7 +44,7 @@ fn perform_line_and_write_answer<R: Files + AllocGlobal, W: Write>(
 }
 
 /// Performs the lines of a reader, and prints their answers.
-pub fn run_script_lines<R: Files + AllocGlobal, I: BufRead, W: Write>(
+pub fn run_lines<R: Files + AllocGlobal, I: BufRead, W: Write>(
     rt: &R,
     input: &mut I,
     out: &mut W,
@@ -59,7 +59,7 @@ pub fn run_script_lines<R: Files + AllocGlobal, I: BufRead, W: Write>(
             Err(error) if error.kind() == ErrorKind::OutOfMemory => return ScriptEnd::NoMemory,
             Err(_) => return ScriptEnd::Input,
         }
-        if let Err(end) = perform_line_and_write_answer(rt, &mut script, &line, number, out) {
+        if let Err(end) = perform_line(rt, &mut script, &line, number, out) {
             return end;
         }
     }

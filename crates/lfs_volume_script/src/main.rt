@@ -42,7 +42,7 @@ fn show_help(rt: &HostRuntime) -> ExitCode {
 }
 
 // Says that there are no such words, and returns the status. A failed write is ignored.
-fn report_unknown_command_line(rt: &HostRuntime) -> ExitCode {
+fn refuse_words(rt: &HostRuntime) -> ExitCode {
     let _ = eprintln!(rt; "error: a script is read from standard input (--help says more)");
     ExitCode::from(2)
 }
@@ -63,11 +63,11 @@ fn main(rt: HostRuntime) -> ExitCode {
             &rt,
             ScriptEnd::NoMemory,
         ),
-        Err(_) => return report_unknown_command_line(&rt),
+        Err(_) => return refuse_words(&rt),
     };
     match words.as_slice() {
         [] | [_] => run_script(&rt),
         [_, word] if word.as_str() == "--help" || word.as_str() == "-h" => show_help(&rt),
-        _ => report_unknown_command_line(&rt),
+        _ => refuse_words(&rt),
     }
 }

@@ -10,14 +10,14 @@ pub invariant_of-self-clause-size : goal.invariant_of-self-clause-size
 invariant_of-self-clause-size c =
     let d = c.args.self.now in
     let room = size_fits d.geometry.block_size d.geometry.block_count c.args.block (length d.bytes.items) c.requires.can.in_device d.size in
-    ap length c.overwrite_chip_bytes_at_offset.ensures ∙ length-overwritten d.bytes.items c.position-start.result c.args.bytes.now (omega (arith, room)) ∙ d.size
+    ap length c.overwrite_bytes.ensures ∙ length-overwritten d.bytes.items c.position-start.result c.args.bytes.now (omega (arith, room)) ∙ d.size
 
 -- the blocks after the program
-stored : (c : goal.After-self-1) → cut c.args.self.now.geometry.block_size c.args.self.now.geometry.block_count c.overwrite_chip_bytes_at_offset.new.all.items
+stored : (c : goal.After-self-1) → cut c.args.self.now.geometry.block_size c.args.self.now.geometry.block_count c.overwrite_bytes.new.all.items
     ≡ programmed (cut c.args.self.now.geometry.block_size c.args.self.now.geometry.block_count c.args.self.now.bytes.items) c.args.block c.args.off c.args.bytes.now
 stored c =
     let d = c.args.self.now in
-    ap (cut d.geometry.block_size d.geometry.block_count) (c.overwrite_chip_bytes_at_offset.ensures ∙ ap (λ at. overwritten_at d.bytes.items at c.args.bytes.now) c.position-start.ensures)
+    ap (cut d.geometry.block_size d.geometry.block_count) (c.overwrite_bytes.ensures ∙ ap (λ at. overwritten_at d.bytes.items at c.args.bytes.now) c.position-start.ensures)
     ∙ cut-overwritten_at d.geometry.block_size d.geometry.block_count d.bytes.items c.args.block c.args.off c.args.bytes.now d.size c.requires.can.in_device c.requires.can.in_block
 
 pub returns-clause-programs : goal.returns-clause-programs
@@ -38,7 +38,7 @@ pub invariant_of-self-clause-newest : goal.invariant_of-self-clause-newest
 invariant_of-self-clause-newest c =
     let d = c.args.self.now in
     newest_call _ _ _ _ _ _ _ c.with_ghost_history-trace.ensures
-    (ap (cut d.geometry.block_size d.geometry.block_count) (c.overwrite_chip_bytes_at_offset.ensures ∙ ap (λ at. overwritten_at d.bytes.items at c.args.bytes.now) c.position-start.ensures)
+    (ap (cut d.geometry.block_size d.geometry.block_count) (c.overwrite_bytes.ensures ∙ ap (λ at. overwritten_at d.bytes.items at c.args.bytes.now) c.position-start.ensures)
     ∙ cut-overwritten_at d.geometry.block_size d.geometry.block_count d.bytes.items c.args.block c.args.off c.args.bytes.now d.size c.requires.can.in_device c.requires.can.in_block)
 
 pub invariant_of-self-clause-conforms : goal.invariant_of-self-clause-conforms

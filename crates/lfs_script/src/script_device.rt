@@ -1,6 +1,6 @@
-// The device in hand, and the session over it.
+// The device that a script works on, and the session over it.
 
-use crate::counted_device::DeviceWithCountedFaults;
+use crate::counted_device::CountedDevice;
 use lfs_device::{
     BlockDevice, CountedCalls, Error, FaultDevice, FaultExtent, PlannedFault, RamDevice,
 };
@@ -9,9 +9,9 @@ use lfs_script_lines::DeviceCallCounts;
 use std::alloc::Global;
 
 /// A device in memory, one of whose calls may fail.
-pub type Device = DeviceWithCountedFaults<FaultDevice<RamDevice>>;
+pub type Device = CountedDevice<FaultDevice<RamDevice>>;
 
-/// Returns a fault that never comes.
+/// A fault that never comes.
 pub const NO_FAULT: PlannedFault = PlannedFault {
     which: CountedCalls::Any,
     nth: 0,
@@ -20,13 +20,9 @@ pub const NO_FAULT: PlannedFault = PlannedFault {
     bad_block: None,
 };
 
-/// Counts the calls of the device from now on. One of them may fail. `NoMemory` comes if an erase
+/// Counts the calls of the device from now on. One of them may fail. Returns `NoMemory` if an erase
 /// that is cut short has no memory for the bytes of a block.
-pub fn device_with_planned_fault(
-    alloc: Global,
-    device: RamDevice,
-    fault: PlannedFault,
-) -> Result<Device, Error> {
+pub fn plan_fault(alloc: Global, device: RamDevice, fault: PlannedFault) -> Result<Device, Error> {
     let block_size = device.geometry().block_size as usize;
     let device = FaultDevice::new(device, fault.which, fault.nth, fault.stops);
     let device = match fault.extent {
@@ -37,15 +33,15 @@ pub fn device_with_planned_fault(
         }
         FaultExtent::Whole => device.whole(),
     };
-    Ok(DeviceWithCountedFaults::new(device))
+    Ok(CountedDevice::new(device))
 }
 
 /// Counts the calls of the device from now on. None fails.
 pub fn device_without_fault(device: RamDevice) -> Device {
-    DeviceWithCountedFaults::new(FaultDevice::new(device, CountedCalls::Any, 0, false))
+    CountedDevice::new(FaultDevice::new(device, CountedCalls::Any, 0, false))
 }
 
-/// The device that a script works with, and its session.
+/// A script's device, or a session over it.
 #[derive(Drop)]
 pub enum ScriptDevice {
     Nothing,
@@ -54,7 +50,7 @@ pub enum ScriptDevice {
 }
 
 impl ScriptDevice {
-    /// Borrows the device in hand. A session's is as the last call left it.
+    /// Borrows the device. A session's is as the last call left it.
     pub fn device(&self) -> Option<&Device> {
         match self {
             ScriptDevice::Nothing => None,
@@ -63,7 +59,7 @@ impl ScriptDevice {
         }
     }
 
-    /// Returns the device in hand, and ends the session. Nothing is written.
+    /// Ends the session, and returns the device. Nothing is written.
     pub fn into_device(self) -> Option<RamDevice> {
         let device = match self {
             ScriptDevice::Nothing => return None,
@@ -75,7 +71,7 @@ impl ScriptDevice {
 }
 
 /// Returns how many calls a device had. Each count saturates.
-pub fn call_counts_of_device(device: &Device) -> DeviceCallCounts {
+pub fn count_calls(device: &Device) -> DeviceCallCounts {
     DeviceCallCounts {
         reads: device.inner().calls(CountedCalls::Read),
         programs: device.inner().calls(CountedCalls::Program),

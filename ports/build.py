@@ -22,10 +22,9 @@ PORTS = TOP / "ports"
 OUT = PORTS / "out"
 CRATES = {"littlefs_c": "liblittlefs_c.a", "mklittlefs": "mklittlefs.o"}  # with what rt leaves of each in its folder out
 AARCH64, WASM64, WINDOWS = "aarch64-unknown-linux-gnu", "wasm64-unknown-unknown", "x86_64-w64-windows-gnu"
-C_WORDS = ["-std=c11", "-Wall", "-Wextra", "-Werror", "-O2", f"-ffile-prefix-map={TOP}=.", "-fPIC"]
-WASM_FEATURES = ["-mcpu=mvp", "-msign-ext", "-mmutable-globals"]
+WASM_FEATURES = ["-mcpu=mvp", "-mbulk-memory", "-msign-ext", "-mmutable-globals"]
 STACK = 1 << 20
-EMSCRIPTEN = Path("/usr/share/emscripten/system/lib")
+EMSCRIPTEN = Path("/usr/share/emscripten/system")
 
 
 def run(*words, **how):
@@ -93,7 +92,7 @@ def for_aarch64(crate, made, kept):
     proved, prefix = module.compile_module(kept, fresh(made / "parts" / crate), AARCH64, "-fPIC", keeps_probes=True), "aarch64-linux-gnu-"
     if crate == "littlefs_c":
         return library_for_linux(prefix, made, [], [proved])
-    run(f"{prefix}gcc", *C_WORDS, "-c", PORTS / "os.c", "-o", made / "os.o")
+    run(f"{prefix}gcc", "-std=c11", "-Wall", "-Wextra", "-Werror", "-O2", f"-ffile-prefix-map={TOP}=.", "-fPIC", "-c", PORTS / "os.c", "-o", made / "os.o")
     tool_for_linux(prefix, made, [proved, made / "os.o"])
 
 
@@ -112,11 +111,11 @@ def for_windows(crate, made, kept):
 # ---- WebAssembly
 
 def c_for_wasm(made):
-    """Compiles what a module has of C: memory, memset and its kin, and products and shifts of 128 bits."""
-    words = [f"--target={WASM64}", *WASM_FEATURES, "-mbulk-memory", "--no-default-config", "-std=gnu11", "-Wall", "-Wextra", "-Werror", "-O2", "-ffreestanding", "-fno-builtin"]
-    for folder in (EMSCRIPTEN, EMSCRIPTEN / "libc/musl/include", EMSCRIPTEN / "libc/musl/arch/emscripten"):
-        words += ["-isystem", folder]
-    sources = [PORTS / "wasm/heap.c", PORTS / "wasm/bytes.c", *[EMSCRIPTEN / f"compiler-rt/lib/builtins/{it}.c" for it in ("multi3", "ashlti3", "lshrti3")]]
+    """Compiles what a module has of C: memory, comparisons of bytes, and products and shifts of 128 bits."""
+    words = [f"--target={WASM64}", *WASM_FEATURES, "--no-default-config", "-std=gnu11", "-Wall", "-Wextra", "-Werror", "-O2"]
+    for folder in ("lib", "lib/libc/musl/include", "lib/libc/musl/arch/emscripten", "include"):
+        words += ["-isystem", EMSCRIPTEN / folder]
+    sources = [PORTS / "wasm.c", *[EMSCRIPTEN / f"lib/compiler-rt/lib/builtins/{it}.c" for it in ("multi3", "ashlti3", "lshrti3")]]
     for source in sources:
         run(clang(), *words, "-ffunction-sections", "-c", source, "-o", made / f"{source.stem}.o")
     return [made / f"{it.stem}.o" for it in sources]
@@ -134,7 +133,7 @@ def link_wasm(made, objects, names, imports, to):
 def for_wasm(crate, made, kept):
     """Makes a module of 64-bit memory, and of it one of 32-bit addresses, whose functions still take and return pointers of 64 bits."""
     at, name = fresh(made / "parts" / crate), crate.removesuffix("_c")
-    proved = module.compile_module(kept, at, WASM64, *WASM_FEATURES, "-mno-bulk-memory")
+    proved = module.compile_module(kept, at, WASM64, *WASM_FEATURES)
     names, imports = (["malloc", "free", *exports()], False) if crate == "littlefs_c" else (["main"], True)
     link_wasm(at, [proved, *c_for_wasm(at)], names, imports, made / f"{name}64.wasm")
     run("wasm-opt", "--enable-memory64", "--enable-bulk-memory", "--enable-sign-ext", "--enable-mutable-globals", "--memory64-lowering", made / f"{name}64.wasm",

@@ -93,18 +93,8 @@ def retargeted(text, triple, keeps_probes=False):
 
 def clang_words(kept):
     """Returns the words that rattle gave clang for what `rattle_words.lift` kept, but those for x86-64 and for its files."""
-    given, theirs = (kept / "words").read_text().split("\n")[:-1], []
-    at = 0
-    while at < len(given):
-        word = given[at]
-        if word in ("-x", "-o"):
-            at += 1
-        elif word == "-mllvm" and "x86" in given[at + 1]:
-            at += 1
-        elif not FOR_X86_64.fullmatch(word) and not word.endswith((".bc", ".o")):
-            theirs.append(word)
-        at += 1
-    return theirs
+    given = re.sub(r"^(-x|-o)\n.*\n|^-mllvm\n.*x86.*\n", "", (kept / "words").read_text(), flags=re.M)
+    return [it for it in given.splitlines() if not FOR_X86_64.fullmatch(it) and not it.endswith((".bc", ".o"))]
 
 
 def compile_module(kept, made, triple, *words, keeps_probes=False):

@@ -35,12 +35,9 @@ def toolchain_that_keeps(folder):
     """Copies the kit's toolchain, with a clang that also leaves its words and its module in a folder; returns the copy's path."""
     made, given = Path(folder) / "toolchain", kit() / "toolchain"
     shutil.rmtree(made, ignore_errors=True)
-    (made / "bin").mkdir(parents=True)
-    (made / "lib").symlink_to(given / "lib")
-    for tool in (given / "bin").iterdir():
-        if tool.name != "clang":
-            (made / "bin" / tool.name).symlink_to(tool)
+    shutil.copytree(given, made, copy_function=os.symlink)
     script = made / "bin" / "clang"
+    script.unlink()
     script.write_text(f"""#!/bin/sh
 # the kit's clang; the module that it is given is kept, with the words
 for word; do

@@ -1,21 +1,10 @@
-/* malloc and its kin for a module: dlmalloc, of which Debian's emscripten has the source, over the memory behind the module's data. */
+/* What a module has of C: malloc and its kin, which are dlmalloc over the memory behind the module's data, and comparisons of bytes. */
 #include <stddef.h>
 
+#define ABORT __builtin_trap()
 #define HAVE_MMAP 0
 #define HAVE_MREMAP 0
-#define LACKS_ERRNO_H
-#define LACKS_FCNTL_H
-#define LACKS_SCHED_H
-#define LACKS_STDLIB_H
-#define LACKS_STRINGS_H
-#define LACKS_SYS_MMAN_H
-#define LACKS_SYS_PARAM_H
-#define LACKS_SYS_TYPES_H
 #define LACKS_TIME_H
-#define LACKS_UNISTD_H
-#define EINVAL 22
-#define ENOMEM 12
-#define ABORT __builtin_trap()
 #define MALLOC_FAILURE_ACTION
 #define MORECORE more_memory
 #define MORECORE_CANNOT_TRIM 1
@@ -41,3 +30,17 @@ static void *more_memory(ptrdiff_t size) {
 }
 
 #include "dlmalloc.c"
+
+typedef unsigned long __attribute__((aligned(1), may_alias)) word;
+
+int memcmp(const void *a, const void *b, size_t size) {
+    const unsigned char *x = a, *y = b;
+    for (; size >= sizeof(word) && *(const word *)x == *(const word *)y; size -= sizeof(word)) x += sizeof(word), y += sizeof(word);
+    for (; size; size--, x++, y++)
+        if (*x != *y) return *x - *y;
+    return 0;
+}
+
+int bcmp(const void *a, const void *b, size_t size) {
+    return memcmp(a, b, size);
+}

@@ -1,4 +1,4 @@
-# find_package(littlefs_c) defines the targets littlefs_c::static and littlefs_c::shared.
+# find_package(littlefs_c) defines the targets littlefs_c::static and littlefs_c::shared, and littlefs_c::lfs: the sources of lfs.h.
 get_filename_component(_littlefs_c_prefix "${CMAKE_CURRENT_LIST_DIR}/@PREFIX@" ABSOLUTE)
 if(NOT TARGET littlefs_c::static)
   add_library(littlefs_c::static STATIC IMPORTED)
@@ -12,4 +12,9 @@ if(NOT TARGET littlefs_c::static)
   if(WIN32)
     set_target_properties(littlefs_c::shared PROPERTIES IMPORTED_IMPLIB "${_littlefs_c_prefix}/@LIBDIR@/liblittlefs_c.dll.a")
   endif()
+  set(_littlefs_c_lfs "${_littlefs_c_prefix}/share/littlefs_c/lfs")
+  add_library(littlefs_c::lfs INTERFACE IMPORTED)
+  set_target_properties(littlefs_c::lfs PROPERTIES
+    INTERFACE_SOURCES "${_littlefs_c_lfs}/lfs.c;${_littlefs_c_lfs}/lfs_util.c"
+    INTERFACE_INCLUDE_DIRECTORIES "${_littlefs_c_lfs}")
 endif()

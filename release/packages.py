@@ -13,7 +13,6 @@ import subprocess
 import sys
 import tempfile
 import time
-import zipfile
 
 TOP = Path(__file__).resolve().parent.parent
 sys.path[:0] = [str(TOP / it) for it in ("bindings/python", "page", "ports")]
@@ -26,18 +25,11 @@ PORTS, OUT = TOP / "ports/out", TOP / "release/out"
 SHARED = f"liblittlefs_c.so.{VERSION}"
 MACHINES = {"x86_64": ("amd64", "x86_64-linux-gnu"), "aarch64": ("arm64", "aarch64-linux-gnu")}
 MAINTAINER = "littlefs proved developers <nobody@example.org>"  # whoever releases it writes an address here
+LFS = ["lfs.c", "lfs.h", "lfs_util.c", "lfs_util.h"]
 SUMMARY = "make, check, unpack and change images of littlefs"
-COPYRIGHT = """Format: https://www.debian.org/doc/packaging-manuals/copyright-format/1.0/
+COPYRIGHT = f"""The program is linked with crates whose licences follow, and with the GNU C Library, which is under the LGPL 2.1 or later.
+{NAME}.o is the program's own code, to link it with another version: cc -static -o {NAME} {NAME}.o
 
-Files: *
-Copyright: the authors of littlefs, proved
-License: BSD-3-Clause
-Comment: The program is linked with crates whose licences are in LICENSE, and
- with the GNU C Library, which is under the LGPL 2.1 or later. mklittlefs.o is
- the program's own code, to link it with another version:
- cc -static -o mklittlefs mklittlefs.o
-
-License: BSD-3-Clause
 """
 
 
@@ -60,15 +52,15 @@ def packed(data):
 
 
 def manual():
-    """Returns the manual page: what the tool prints for --help."""
+    """Returns the manual page, packed: what the tool prints for --help."""
     text = output([PORTS / "x86_64" / NAME, "--help"]).decode()
     lines = [it.replace("\\", "\\e").replace("-", "\\-") for it in text.splitlines()]
     body = "".join(("\\&" if it.startswith((".", "'")) else "") + it + "\n" for it in lines)
     head = f'.TH MKLITTLEFS 1 "" "littlefs, proved {VERSION}" "User Commands"\n.SH NAME\n{NAME} \\- {SUMMARY}\n.SH DESCRIPTION\n.nf\n'
-    return f"{head}{body}.fi\n".encode(), 0o644
+    return packed(f"{head}{body}.fi\n".encode())
 
 
-# ---- what is in a package: each file's bytes and mode, or a link's text, by its path
+# ---- what is in a package: each file's bytes, or a link's text, by its path
 
 def configured(name, libdir, shared):
     """Returns one of the files by which a build finds the library, for a package with these paths."""
@@ -76,46 +68,42 @@ def configured(name, libdir, shared):
     text = (TOP / "release" / name).read_text()
     for word, value in (("PREFIX", up), ("LIBDIR", libdir), ("SHARED", shared), ("VERSION", VERSION)):
         text = text.replace(f"@{word}@", value)
-    return text.encode(), 0o644
+    return text.encode()
 
 
-def for_builds(libdir, shared):
-    cmake = f"{libdir}/cmake/littlefs_c"
+def beside_library(name, libdir, shared):
+    """Returns what a package has beside the library: the header, littlefs's own as source, files for builds, and documents."""
+    cmake, documents, bindings = f"{libdir}/cmake/littlefs_c", f"share/doc/{name}", TOP / "bindings"
     return {
-        "include/littlefs_c.h": ((TOP / "bindings/c/littlefs_c.h").read_bytes(), 0o644),
+        "include/littlefs_c.h": (bindings / "c/littlefs_c.h").read_bytes(),
+        **{f"share/littlefs_c/lfs/{it}": (bindings / "lfs" / it).read_bytes().replace(b"../c/littlefs_c.h", b"littlefs_c.h") for it in LFS},
         f"{libdir}/pkgconfig/littlefs_c.pc": configured("littlefs_c.pc", libdir, shared),
         **{f"{cmake}/{it}": configured(it, libdir, shared) for it in ("littlefs_c-config.cmake", "littlefs_c-config-version.cmake")},
+        f"{documents}/example.c": (bindings / "c/example.c").read_bytes(),
+        f"{documents}/lfs_example.c": (bindings / "lfs/example.c").read_bytes(),
+        f"{documents}/CHANGELOG.md": (TOP / "CHANGELOG.md").read_bytes(),
+        f"{documents}/LICENSE": licences().encode(),
     }
-
-
-def documents(name):
-    texts = {"example.c": (TOP / "bindings/c/example.c").read_text(), "CHANGELOG.md": (TOP / "CHANGELOG.md").read_text(), "LICENSE": licences()}
-    return {f"share/doc/{name}/{it}": (text.encode(), 0o644) for it, text in texts.items()}
 
 
 def files_for_linux(machine, libdir="lib"):
     made = PORTS / machine
     return {
-        f"bin/{NAME}": ((made / NAME).read_bytes(), 0o755),
-        f"{libdir}/liblittlefs_c.a": ((made / "liblittlefs_c.a").read_bytes(), 0o644),
-        f"{libdir}/{SHARED}": ((made / "littlefs_c.so").read_bytes(), 0o644),
+        f"bin/{NAME}": (made / NAME).read_bytes(),
+        f"{libdir}/liblittlefs_c.a": (made / "liblittlefs_c.a").read_bytes(),
+        f"{libdir}/{SHARED}": (made / "littlefs_c.so").read_bytes(),
         f"{libdir}/liblittlefs_c.so.1": SHARED,
         f"{libdir}/liblittlefs_c.so": SHARED,
-        f"{libdir}/{NAME}/{NAME}.o": ((made / "program.o").read_bytes(), 0o644),
-        f"share/man/man1/{NAME}.1": manual(),
-        **for_builds(libdir, f"{libdir}/{SHARED}"),
-        **documents(NAME),
+        f"{libdir}/{NAME}/{NAME}.o": (made / "program.o").read_bytes(),
+        f"share/man/man1/{NAME}.1.gz": manual(),
+        **beside_library(NAME, libdir, f"{libdir}/{SHARED}"),
     }
 
 
 def files_for_windows():
-    made = PORTS / "windows"
-    return {
-        "bin/littlefs_c.dll": ((made / "littlefs_c.dll").read_bytes(), 0o644),
-        **{f"lib/{it}": ((made / it).read_bytes(), 0o644) for it in ("liblittlefs_c.a", "liblittlefs_c.dll.a")},
-        **for_builds("lib", "bin/littlefs_c.dll"),
-        **documents("littlefs_c"),
-    }
+    made = {"bin": ["littlefs_c.dll"], "lib": ["liblittlefs_c.a", "liblittlefs_c.dll.a"]}
+    libraries = {f"{folder}/{it}": (PORTS / "windows" / it).read_bytes() for folder, names in made.items() for it in names}
+    return {**libraries, **beside_library("littlefs_c", "lib", "bin/littlefs_c.dll")}
 
 
 # ---- packages
@@ -128,8 +116,8 @@ def stage(root, files):
         if isinstance(file, str):
             at.symlink_to(file)
         else:
-            at.write_bytes(file[0])
-            at.chmod(file[1])
+            at.write_bytes(file)
+            at.chmod(0o755 if at.name in (NAME, f"{NAME}.js") else 0o644)
     for at in [root, *root.rglob("*")]:
         if at.is_dir() and not at.is_symlink():
             at.chmod(0o755)
@@ -143,34 +131,17 @@ def tarball(name, top, files):
 
 
 def zipped(top, files):
-    with zipfile.ZipFile(OUT / f"{top}.zip", "w", zipfile.ZIP_DEFLATED) as archive:
-        for path, (data, mode) in sorted(files.items()):
-            entry = zipfile.ZipInfo(f"{top}/{path}", time.gmtime(WHEN)[:6])
-            entry.create_system, entry.external_attr = 3, (0o100000 | mode) << 16
-            archive.writestr(entry, data, zipfile.ZIP_DEFLATED)
-
-
-def debian_files(machine):
-    """Returns the files of the Debian package, at Debian's paths."""
-    renamed = {}
-    for path, file in files_for_linux(machine, f"lib/{MACHINES[machine][1]}").items():
-        if path.endswith(("CHANGELOG.md", ".1")) and not isinstance(file, str):
-            path, file = path.replace("CHANGELOG.md", "changelog") + ".gz", (packed(file[0]), 0o644)
-        elif path.endswith("example.c"):
-            path = path.replace("example.c", "examples/example.c")
-        renamed[f"usr/{path}"] = file
-    date = email.utils.formatdate(WHEN)
-    changes = f"{NAME} ({VERSION}-1) unstable; urgency=medium\n\n  * Release {VERSION}: changelog.gz says what is in it.\n\n -- {MAINTAINER}  {date}\n"
-    licence = "".join(f" {line or '.'}\n" for line in (TOP / "LICENSE").read_text().rstrip().splitlines())
-    renamed[f"usr/share/doc/{NAME}/changelog.Debian.gz"] = packed(changes.encode()), 0o644
-    renamed[f"usr/share/doc/{NAME}/copyright"] = (COPYRIGHT + licence).encode(), 0o644
-    return renamed
+    build_wheel.write_zip(OUT / f"{top}.zip", {f"{top}/{path}": data for path, data in sorted(files.items())}, time.gmtime(WHEN)[:6])
 
 
 def debian(machine):
-    arch, files = MACHINES[machine][0], debian_files(machine)
-    real = {path: file for path, file in files.items() if not isinstance(file, str)}
-    size = sum((len(data) + 1023) // 1024 for data, _ in real.values()) + len(files)
+    """Packs the Debian package, with the files at Debian's paths."""
+    arch, libdir = MACHINES[machine]
+    date = email.utils.formatdate(WHEN)
+    changes = f"{NAME} ({VERSION}-1) unstable; urgency=medium\n\n  * Release {VERSION}: CHANGELOG.md says what is in it.\n\n -- {MAINTAINER}  {date}\n"
+    files = {f"usr/{path}": file for path, file in files_for_linux(machine, f"lib/{libdir}").items()}
+    files |= {f"usr/share/doc/{NAME}/changelog.Debian.gz": packed(changes.encode()), f"usr/share/doc/{NAME}/copyright": (COPYRIGHT + licences()).encode()}
+    size = sum((len(it) + 1023) // 1024 for it in files.values() if isinstance(it, bytes)) + len(files)
     control = f"""Package: {NAME}
 Version: {VERSION}-1
 Architecture: {arch}
@@ -185,10 +156,9 @@ Description: {SUMMARY}
  comes littlefs_c, a library for C over images in memory. Their code is proved
  to keep its contracts.
 """
-    sums = "".join(f"{hashlib.md5(data).hexdigest()}  {path}\n" for path, (data, _) in sorted(real.items()))
-    about = {"control": control, "triggers": "activate-noawait ldconfig\n", "md5sums": sums}
+    about = {"control": control, "triggers": "activate-noawait ldconfig\n"}
     with tempfile.TemporaryDirectory() as folder:
-        stage(Path(folder), {**files, **{f"DEBIAN/{name}": (text.encode(), 0o644) for name, text in about.items()}})
+        stage(Path(folder), {**files, **{f"DEBIAN/{name}": text.encode() for name, text in about.items()}})
         to, env = OUT / f"{NAME}_{VERSION}-1_{arch}.deb", {**os.environ, "SOURCE_DATE_EPOCH": str(WHEN)}
         subprocess.run(["dpkg-deb", "--root-owner-group", "-Zxz", "--threads-max=1", "--build", folder, to], check=True, env=env, stdout=subprocess.DEVNULL)
 
@@ -206,8 +176,7 @@ def npm():
     scripts, files = TOP / "bindings/js", {}
     about = json.loads((scripts / "package.json").read_text())
     for name in ["package.json", *about["files"]]:
-        data = licences().encode() if name == "LICENSE" else ((PORTS / "wasm" if name.endswith(".wasm") else scripts) / name).read_bytes()
-        files[name] = data, 0o755 if name in about["bin"].values() else 0o644
+        files[name] = licences().encode() if name == "LICENSE" else ((PORTS / "wasm" if name.endswith(".wasm") else scripts) / name).read_bytes()
     tarball(f"{about['name']}-{about['version']}.tgz", "package", files)
 
 

@@ -31,7 +31,6 @@ Generator: build_wheel
 Root-Is-Purelib: false
 Tag: {}
 """
-LONG_AGO = 1980, 1, 1, 0, 0, 0
 
 
 def files_of_wheel(library, tag, licences):
@@ -61,17 +60,17 @@ def write_wheel(folder, library, tag, licences=LICENCE.read_text()):
     record = f"{NAME}-{VERSION}.dist-info/RECORD"
     files[record] = ("".join(line_of_record(*it) for it in files.items()) + f"{record},,\n").encode()
     wheel = f"{NAME}-{VERSION}-{tag}.whl"
-    with zipfile.ZipFile(os.path.join(folder, wheel), "w", zipfile.ZIP_DEFLATED) as archive:
-        for name, data in files.items():
-            entry = zipfile.ZipInfo(name, LONG_AGO)
-            entry.create_system, entry.external_attr = 3, 0o100644 << 16
-            archive.writestr(entry, data, zipfile.ZIP_DEFLATED)
+    write_zip(os.path.join(folder, wheel), files)
     return wheel
 
 
-def build_sdist(folder, config_settings=None):
-    """There is none: the library is built from the repository."""
-    raise NotImplementedError("littlefs_c has no source distribution: install it from the repository")
+def write_zip(to, files, when=(1980, 1, 1, 0, 0, 0)):
+    """Writes a .zip of files, each with its bytes by its name there."""
+    with zipfile.ZipFile(to, "w", zipfile.ZIP_DEFLATED) as archive:
+        for name, data in files.items():
+            entry = zipfile.ZipInfo(name, when)
+            entry.create_system, entry.external_attr = 3, 0o100644 << 16
+            archive.writestr(entry, data, zipfile.ZIP_DEFLATED)
 
 
 if __name__ == "__main__":

@@ -1,10 +1,15 @@
-"""Chromium and Firefox without a window, for test_page.py: each opens the page, runs scripts in it, and gives files to it."""
+"""Chromium and Firefox without a window, for tests: each opens the page, runs scripts in it, and gives files to it."""
 
 import json
 import os
 import socket
 import subprocess
 import time
+
+
+def same(what, got, wanted):
+    if got != wanted:
+        raise SystemExit(f"{what}: {got!r:.500} and not {wanted!r:.500}")
 
 
 class Browser:
@@ -68,6 +73,7 @@ class Chromium(Browser):
             options.add_argument(word)
         options.set_capability("goog:loggingPrefs", {"performance": "ALL"})
         self.driver, self.downloads = webdriver.Chrome(service=Service("/usr/bin/chromedriver"), options=options), downloads
+        self.driver.set_script_timeout(3600)
         self.driver.execute_cdp_cmd("Browser.setDownloadBehavior", {"behavior": "allow", "downloadPath": str(downloads)})
         self.driver.execute_cdp_cmd("Page.setInterceptFileChooserDialog", {"enabled": True})
         self.script, self.open = self.driver.execute_script, self.driver.get
@@ -101,18 +107,17 @@ class Firefox(Browser):
         with socket.socket() as free:
             free.bind(("127.0.0.1", 0))
             port = free.getsockname()[1]
-        preferences = {"browser.download.folderList": 2, "browser.download.dir": str(downloads), "marionette.port": port}
+        preferences = {"browser.download.folderList": 2, "browser.download.dir": str(downloads), "marionette.port": port, "privacy.reduceTimerPrecision": False}
         (folder / "user.js").write_text("".join(f"user_pref({json.dumps(name)}, {json.dumps(value)});\n" for name, value in preferences.items()))
         self.program = subprocess.Popen(["firefox-esr", "--headless", "--marionette", "--no-remote", "--profile", str(folder)],
                                         env={**os.environ, "HOME": str(folder)}, stdout=subprocess.DEVNULL, stderr=subprocess.DEVNULL)
         self.stream, self.number, self.downloads = self.connected(port), 0, downloads
         self.message()
-        self.ask("WebDriver:NewSession", capabilities={})
+        self.ask("WebDriver:NewSession", capabilities={"alwaysMatch": {"timeouts": {"script": 3600000}}})
         self.open(page)
 
     def connected(self, port):
-        end = time.monotonic() + 180
-        while time.monotonic() < end:
+        for _ in range(360):
             try:
                 return socket.create_connection(("127.0.0.1", port)).makefile("rwb")
             except OSError:

@@ -1,4 +1,4 @@
-#!/usr/bin/env python3
+#!/usr/bin/python3
 """Runs what ports/build.py built, compared with the proved program for x86-64: the same words have to give the same bytes.
 
 usage: ports/test.py [--folders N] [--images N] [--seed WORD] [--times]
@@ -6,14 +6,15 @@ usage: ports/test.py [--folders N] [--images N] [--seed WORD] [--times]
 - bindings/c/example.c and flash.c, with each library: what they print, and the files that they leave;
 - mklittlefs for each machine and in Node, on N random folders, all its modes: status, both streams, images and unpacked trees;
 - calls.c: 30 random calls on each of N images, of which some are damaged, by each library, and by both modules in Node: each answer, what
-  is put into a buffer, and all bytes at the end;
-- bindings/js: its own tests, and the rows of bench/program_lines.py in Node;
-- memset and its kin of the modules, natively.
+  is put into a buffer, and all bytes at the end; and by the module in Chromium and Firefox;
+- bindings/js: its own tests, and the rows of bench/program_lines.py in Node.
 
-With --times it prints instead how long the same work takes natively and by the modules.
+With --times it prints instead how long the same work takes natively and by the modules. In browsers that is time that passed.
 """
 
 import argparse
+import functools
+import http.server
 import os
 from pathlib import Path
 import random
@@ -22,9 +23,12 @@ import shutil
 import subprocess
 import sys
 import tempfile
+import threading
 
 TOP = Path(__file__).resolve().parent.parent
-sys.path.insert(0, str(TOP / "bench"))
+sys.path[:0] = [str(TOP / "bench"), str(TOP / "page")]
+import browsers
+from browsers import same
 import image_maker
 import profiles
 import program_lines
@@ -43,11 +47,6 @@ OPTIONS = [[], ["-b", "8192"], ["-b", "1024", "-p", "128"], ["--board", "esp32"]
            ["--name-max", "32"], ["--exclude", "*.csv"]]
 # Node has no locks, so no leftover of another run is removed; and it needs more memory itself than that row grants
 LINUX_ALONE = ["-c files image", "a file that is too big, in little memory"]
-
-
-def same(what, got, wanted):
-    if got != wanted:
-        sys.exit(f"{what}: {got!r:.500} and not {wanted!r:.500}")
 
 
 def ran(words, **how):
@@ -177,8 +176,27 @@ def lines_of(number, rnd, work):
     yield line_of("bytes")
 
 
+IN_BROWSER = """const part = (name) => fetch(name).then((it) => it.arrayBuffer());
+    return Promise.all([import("/js/test/calls.mjs"), part("littlefs.wasm"), part("list")]).then(([{ run }, module, list]) =>
+        run(module, new TextDecoder().decode(list), arguments[0], part))"""
+
+
+def in_browser(kind, work, has_times):
+    """What calls.mjs gives in a browser, which is served the files in `work`."""
+    handler = type("Quiet", (http.server.SimpleHTTPRequestHandler,), {"log_message": lambda *_: None})
+    server = http.server.ThreadingHTTPServer(("127.0.0.1", 0), functools.partial(handler, directory=work))
+    threading.Thread(target=server.serve_forever, daemon=True).start()
+    with tempfile.TemporaryDirectory(ignore_cleanup_errors=True) as profile:
+        page = kind(f"http://127.0.0.1:{server.server_port}/", Path(profile), work)
+        try:
+            return page.script(IN_BROWSER, has_times)
+        finally:
+            page.quit()
+            server.shutdown()
+
+
 def answers(work, lines, libraries, *more):
-    """What each library and both modules print for lines of calls, by their names."""
+    """What each library, both modules in Node, and the module in browsers print for lines of calls, by their names."""
     (work / "list").write_text("\n".join(lines) + "\n")
     programs = {f"{machine}, {library}": compiled(TOP / "ports/calls.c", machine, library, work) for machine, library in libraries}
     programs |= {name: [*words, JS / "test/calls.mjs", OUT / "wasm" / name] for name, words in MODULES.items()}
@@ -186,6 +204,10 @@ def answers(work, lines, libraries, *more):
         status, found, errors = ran([*words, "list", *more], cwd=work)
         same(f"calls for {name}: status, with {errors.decode()!r}", status, 0)
         yield name, found.decode().splitlines()
+    shutil.copytree(JS, work / "js", dirs_exist_ok=True)
+    shutil.copy(OUT / "wasm/littlefs.wasm", work)
+    for kind in (browsers.Chromium, browsers.Firefox):
+        yield f"littlefs.wasm in {kind.name}", in_browser(kind, work, bool(more))
 
 
 def calls(work, rnd, count):
@@ -233,9 +255,6 @@ def scripts(work):
     rows = [*program_lines.tool_rows(str(JS / "mklittlefs.js"), str(work))]
     same("the rows of bench/program_lines.py that differ in Node", [[what, came] for what, came, wanted in rows if came != wanted and what not in LINUX_ALONE], [])
     print(f"mklittlefs in Node: {len(rows)} rows of bench/program_lines.py, {len(LINUX_ALONE)} of which need what Linux alone has", flush=True)
-    program = work / "test_bytes"
-    subprocess.run(["gcc", "-O1", "-fsanitize=undefined", "-fno-sanitize-recover", "-o", program, TOP / "ports/wasm/test_bytes.c"], check=True)
-    subprocess.run([program], check=True)
 
 
 def main():

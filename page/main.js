@@ -1,5 +1,5 @@
 // A page that opens, changes and makes littlefs images.
-import { ask, download, el, number, one, plural, say, sized, terms } from "./dom.js";
+import { ask, button, download, el, number, one, plural, say, sized, terms } from "./dom.js";
 import { Engine, start } from "./engine.js";
 import { chosen, dropped, inside } from "./files.js";
 import { showFile, showFolder } from "./view.js";
@@ -72,7 +72,7 @@ function refuse(engine, name, { reason, length, superblock, parts }) {
   ]));
   const openAt = (offset) => begin(engine, name, () => engine.call("openAt", name, { ...optionsGiven(), offset }));
   one(".parts", box).replaceChildren(...parts.map(([at, said]) =>
-    el("p", {}, el("button", { type: "button", className: "main", textContent: `Open the part at 0x${at.toString(16)}`, onclick: () => act(() => openAt(at)) }),
+    el("p", {}, button(`Open the part at 0x${at.toString(16)}`, () => act(() => openAt(at)), { className: "main" }),
       ` ${plural(said.blockCount, "block")} of ${said.blockSize} bytes, ${sized(said.blockCount * said.blockSize)}`)));
   say("");
 }
@@ -146,28 +146,23 @@ async function drawTree(focus = false) {
   mark(focus);
 }
 
-function indented(made, depth) {
-  made.style.paddingLeft = `${0.3 + depth * 1.1}rem`;
-  return made;
-}
+const indented = (depth) => `padding-left: ${0.3 + depth * 1.1}rem`;
 
 function rowOf(row) {
   const isOpen = disk.shown.has(row.path);
-  return indented(el("div", {
-    role: "treeitem", className: row.isDirectory ? "row is-folder" : "row", tabIndex: -1, title: row.path,
+  return el("div", {
+    role: "treeitem", className: row.isDirectory ? "row is-folder" : "row", tabIndex: -1, title: row.path, style: indented(row.depth),
     "aria-level": row.depth + 1, "aria-selected": false, "aria-expanded": row.isDirectory ? isOpen : undefined,
     onclick: () => (row.isDirectory && (row.path === disk.chosen || !isOpen) ? toggle(row.path) : choose(row.path)),
   },
   el("span", { className: "mark", "aria-hidden": "true" }, row.isDirectory ? (isOpen ? "▾" : "▸") : "·"),
   el("span", { className: "name" }, row.depth ? row.name + (row.isDirectory ? "/" : "") : "/"),
-  el("span", { className: "size" }, row.isDirectory ? "" : sized(row.size))), row.depth);
+  el("span", { className: "size" }, row.isDirectory ? "" : sized(row.size)));
 }
 
 /** Stands for the entries of a folder that aren't shown yet. */
-const moreOf = ({ path, depth, left, most }) => indented(el("button", {
-  type: "button", className: "more", textContent: `Show more (${left.toLocaleString("en")} left)`,
-  onclick: () => act(() => (disk.shown.set(path, most + ROWS_AT_ONCE), drawTree())),
-}), depth);
+const moreOf = ({ path, depth, left, most }) =>
+  button(`Show more (${left.toLocaleString("en")} left)`, () => act(() => (disk.shown.set(path, most + ROWS_AT_ONCE), drawTree())), { className: "more", style: indented(depth) });
 
 /** Marks the row that is chosen, and no other. */
 function mark(focus) {
@@ -327,13 +322,6 @@ const makeEmpty = () => make("An empty image", [["size", "Size of the image", "6
   return ["format", { blockSize, blockCount: size / blockSize }];
 });
 
-async function save() {
-  download(await disk.engine.call("save"), disk.name);
-  disk.isChanged = false;
-  named();
-  say(`${disk.name} is given to the browser to save`);
-}
-
 // ---- what a person does
 
 const DOING = {
@@ -349,7 +337,12 @@ const DOING = {
     disk.shown.set(path, ROWS_AT_ONCE);
     return path;
   }),
-  save,
+  save: async () => {
+    download(await disk.engine.call("save"), disk.name);
+    disk.isChanged = false;
+    named();
+    say(`${disk.name} is given to the browser to save`);
+  },
   "download-all": () => ASKED.download({ isDirectory: true, path: "/", name: disk.name.replace(/\.[^.]*$/, "") }),
   close: async () => (await mayLeave()) && close(),
 };

@@ -18,34 +18,19 @@ import time
 import zipfile
 
 import browsers
+from browsers import same
 
 TOP = Path(__file__).resolve().parent.parent
-GIF = bytes.fromhex("47494638396101000100800000ffffff00000021f90401000000002c00000000010001000002024401003b")  # a picture of one dot
-
-
-def same(what, got, wanted):
-    if got != wanted:
-        raise SystemExit(f"{what}: {got!r:.400} and not {wanted!r:.400}")
-
-
-def make_folder(at):
-    files = {
-        "settings/wifi.json": b'{\n  "ssid": "workshop",\n  "channel": 11,\n  "password": "not this one"\n}\n',
-        "settings/name": "K\u00fcche \u2013 21.5 \u00b0C\n".encode(),
-        "log/2026-11-29.csv": b"time,degrees\n" + b"".join(b"%02d:%02d,%d.%d\n" % (h, m, 18 + h % 5, m % 10) for h in range(24) for m in range(0, 60, 5)),
-        "log/today.csv": b"time,degrees\n00:00,19.5\n",
-        "www/index.html": b"<!doctype html><title>board</title><h1>Board</h1>\n",
-        "www/logo.gif": GIF,
-        "firmware.bin": random.Random(5).randbytes(40000),
-        "empty": b"",
-    }
-    for name, data in files.items():
-        path = at / name
-        path.parent.mkdir(parents=True, exist_ok=True)
-        path.write_bytes(data)
-    (at / "spare").mkdir()
-    return files
-
+FILES = {
+    "settings/wifi.json": b'{\n  "ssid": "workshop",\n  "channel": 11,\n  "password": "not this one"\n}\n',
+    "settings/name": "K\u00fcche \u2013 21.5 \u00b0C\n".encode(),
+    "log/2026-11-29.csv": b"time,degrees\n" + b"".join(b"%02d:%02d,%d.%d\n" % (h, m, 18 + h % 5, m % 10) for h in range(24) for m in range(0, 60, 5)),
+    "log/today.csv": b"time,degrees\n00:00,19.5\n",
+    "www/index.html": b"<!doctype html><title>board</title><h1>Board</h1>\n",
+    "www/logo.gif": bytes.fromhex("47494638396101000100800000ffffff00000021f90401000000002c00000000010001000002024401003b"),  # of one dot
+    "firmware.bin": random.Random(5).randbytes(40000),
+    "empty": b"",
+}
 
 # the longest time, in milliseconds, for which the page did nothing else
 PAUSES = """document.body.dataset.pause = 0;
@@ -62,7 +47,10 @@ class Use:
 
     def __init__(self, page, work):
         self.page, self.work = page, work
-        self.files = make_folder(work / "board")
+        for name, data in FILES.items():
+            (work / "board" / name).parent.mkdir(parents=True, exist_ok=True)
+            (work / "board" / name).write_bytes(data)
+        (work / "board/spare").mkdir()
         same("the tool", self.run("-c", work / "board", "-s", "256k", "--times", work / "board.img").returncode, 0)
         self.listed = [line.split(" ", 2)[2] for line in self.run("-l", work / "board.img").stdout.decode().splitlines()]
 
@@ -96,16 +84,23 @@ class Use:
         page.choose("/www/logo.gif")
         page.until("the picture is shown", lambda: page.script("return document.querySelector('#panel img')?.naturalWidth") == 1)
         page.choose("/firmware.bin")
-        page.until("bytes are shown", lambda: page.text("#panel").startswith("000000  " + self.files["firmware.bin"][:8].hex(" ")))
+        page.until("bytes are shown", lambda: page.text("#panel").startswith("000000  " + FILES["firmware.bin"][:8].hex(" ")))
         page.button("#view", "Download")
-        same("a file", page.downloaded("firmware.bin"), self.files["firmware.bin"])
+        same("a file", page.downloaded("firmware.bin"), FILES["firmware.bin"])
         page.do("download-all")
         (work / "all.zip").write_bytes(page.downloaded("board.zip"))
         with zipfile.ZipFile(work / "all.zip") as archive:
-            same("the .zip", {it: archive.read(it) for it in archive.namelist() if not it.endswith("/")}, self.files)
+            same("the .zip", {it: archive.read(it) for it in archive.namelist() if not it.endswith("/")}, FILES)
             same("its folders", "spare/" in archive.namelist(), True)
             day = time.strftime("%Y-%m-%d", time.gmtime((work / "board/empty").stat().st_mtime))
             same("its times", "%04d-%02d-%02d" % archive.getinfo("empty").date_time[:3], day)
+
+    def proofs(self):
+        """Where the proofs are: each path is there, and the link is CITATION.cff's address."""
+        found = self.page.script("return [...document.querySelectorAll('#proofs code')].map((it) => it.textContent)")
+        same("paths that aren't there", [it for it in found if not (TOP / it).exists() and not (TOP / "crates/lfs_fs" / it).exists()], [])
+        links = self.page.script("return [...document.querySelectorAll('#proofs a')].map((it) => it.getAttribute('href'))")
+        same("the link", links, re.findall(r"^repository-code: *(\S+)", (TOP / "CITATION.cff").read_text(), re.M))
 
     def keys(self):
         page = self.page
@@ -148,11 +143,11 @@ class Use:
         page.script("document.querySelector('#panel textarea').value += '// changed'; document.querySelector('#panel button.main').click()")
         page.until("the text is put into the image", lambda: "// changed" in page.text("#panel"))
         page.do("save")
-        wanted = {name: data for name, data in self.files.items() if name not in ("empty", "log/today.csv")}
-        wanted |= {"log/2026-11-30.csv": self.files["log/today.csv"], "spare/deep/new file.txt": b"added\n", "spare/deep/name": self.files["settings/name"],
-                   "settings/wifi.json": self.files["settings/wifi.json"] + b"// changed"}
+        wanted = {name: data for name, data in FILES.items() if name not in ("empty", "log/today.csv")}
+        wanted |= {"log/2026-11-30.csv": FILES["log/today.csv"], "spare/deep/new file.txt": b"added\n", "spare/deep/name": FILES["settings/name"],
+                   "settings/wifi.json": FILES["settings/wifi.json"] + b"// changed"}
         if page.takes_folders:
-            wanted |= {f"spare/deep/{name}": data for name, data in self.files.items() if name.startswith("www/")}
+            wanted |= {f"spare/deep/{name}": data for name, data in FILES.items() if name.startswith("www/")}
         same("what the tool reads of it", self.unpacked(page.downloaded("board.img")), wanted)
 
     def refusals(self):
@@ -291,7 +286,7 @@ def main():
             try:
                 page.until("the library starts", lambda: page.script("return document.body.dataset.ready") == "yes")
                 use = Use(page, work)
-                use.view(), use.keys(), use.change(), use.refusals(), use.flash(), use.said()
+                use.proofs(), use.view(), use.keys(), use.change(), use.refusals(), use.flash(), use.said()
                 pause = use.many()
                 if name == "chromium":
                     same("nothing else is asked for", [it for it in page.requests() if not it.startswith((address, "blob:", "data:", "chrome:"))], [])

@@ -25,7 +25,7 @@ const NO_ENT = 2, NO_MEMORY = 12, EXIST = 17, NOT_DIR = 20, INVALID = 22, NO_ATT
 
 const DIRECTORY = 2 ** 32;
 const READ = 0x1, WRITE = 0x2, CREATE = 0x100, EXCLUSIVE = 0x200, TRUNCATE = 0x400, APPEND = 0x800;
-const AT_ONCE = 1 << 20, AT_FIRST = 1 << 14;
+const AT_ONCE = 1 << 20;
 const LARGEST = { nameMax: 255, fileMax: 2147483647, attrMax: 1022, inlineMax: 1022 };
 
 /** What a refused call throws. Its `name` is the error's, as "NoEnt", and `number` that of littlefs_c.h. */
@@ -45,24 +45,25 @@ const shown = (path) => (typeof path === "string" ? path : nameOf(path));
 
 const utf8 = new TextDecoder("utf-8", { fatal: true, ignoreBOM: true });
 
-/** A name's bytes as text. */
-export function nameOf(bytes) {
+function decoded(bytes) {
   try {
     return utf8.decode(bytes);
   } catch {
-    let text = "";
-    for (let at = 0; at < bytes.length; ) {
-      let length = bytes[at] < 0x80 ? 1 : bytes[at] < 0xe0 ? 2 : bytes[at] < 0xf0 ? 3 : 4, part;
-      try {
-        part = utf8.decode(bytes.subarray(at, at + length));
-      } catch {
-        [part, length] = [String.fromCharCode(0xdc00 + bytes[at]), 1];
-      }
-      text += part;
-      at += length;
-    }
-    return text;
+    return null;
   }
+}
+
+/** A name's bytes as text. */
+export function nameOf(bytes) {
+  const whole = decoded(bytes);
+  if (whole !== null) return whole;
+  let text = "", part;
+  for (let at = 0; at < bytes.length; ) {
+    const length = [4, 3, 2, 1].find((it) => (part = decoded(bytes.subarray(at, at + it))) !== null);
+    text += length ? part : String.fromCharCode(0xdc00 + bytes[at]);
+    at += length ?? 1;
+  }
+  return text;
 }
 
 /** The bytes of a name or a path that is text, or bytes already. */
@@ -90,13 +91,8 @@ function bytesIn(data) {
 
 // ---- the module
 
-const LENT = 1 << 16;
-
 /** A module's instance, and its memory. */
 class Library {
-  #bytes = new Uint8Array(0);
-  #lent = 0;
-  #used = 0;
   #held = [];
 
   constructor({ exports }) {
@@ -105,11 +101,9 @@ class Library {
     this.failure = null;
   }
 
-  /** The memory as bytes: another object after each growth. */
+  /** The memory as bytes, until it grows. */
   get bytes() {
-    const { buffer } = this.memory;
-    if (this.#bytes.buffer !== buffer) this.#bytes = new Uint8Array(buffer);
-    return this.#bytes;
+    return new Uint8Array(this.memory.buffer);
   }
 
   /** Makes a call, and returns its answer. A trap ends the instance, since what it was doing is left halfway. */
@@ -132,32 +126,22 @@ class Library {
 
   /** Runs a function that takes room and puts bytes, and then lets them go. None is within another. */
   with(run) {
-    this.#used = 0;
     try {
       return run(this);
     } finally {
-      while (this.#held.length) {
-        const at = this.#held.pop();
-        if (!this.failure) this.call("free", BigInt(at));
-      }
+      for (const at of this.#held.splice(0)) if (!this.failure) this.call("free", at);
     }
   }
 
-  /** Returns the address of room: in memory that is lent again and again, or more of its own. */
+  /** Returns the address of room. */
   room(size) {
-    this.#lent ||= this.take(LENT);
-    if (this.#used + size > LENT) {
-      this.#held.push(this.take(size));
-      return this.#held.at(-1);
-    }
-    const at = this.#lent + this.#used;
-    this.#used += (size + 15) & ~15;
-    return at;
+    this.#held.push(BigInt(this.take(size || 1)));
+    return Number(this.#held.at(-1));
   }
 
   /** Puts bytes or a path into room, and returns where they are and how many. */
   put(data) {
-    const bytes = bytesOf(data), at = this.room(bytes.length || 1);
+    const bytes = bytesOf(data), at = this.room(bytes.length);
     this.bytes.set(bytes, at);
     return [BigInt(at), BigInt(bytes.length)];
   }
@@ -246,8 +230,7 @@ export class Image {
       throw error;
     }
     [this.#library, this.#volume, this.#size] = [lib, volume, size];
-    const said = { blockSize, blockCount: size / blockSize, page, limits: Object.freeze(limits) };
-    for (const [name, value] of Object.entries(said)) Object.defineProperty(this, name, { value, enumerable: true });
+    Object.assign(this, { blockSize, blockCount: size / blockSize, page, limits });
     forgotten?.register(this, { library: lib, volume }, this);
   }
 
@@ -287,10 +270,6 @@ export class Image {
 
   // ---- the image
 
-  get closed() {
-    return !this.#volume;
-  }
-
   close() {
     if (!this.#volume) return;
     forgotten?.unregister(this);
@@ -300,18 +279,17 @@ export class Image {
   }
 
   bytes() {
-    return this.#filled(new Uint8Array(this.#size), 0, (from, at, size) => this.#call("image_part", undefined, BigInt(from), at, size));
+    return this.#filled(new Uint8Array(this.#size), (from, at, size) => this.#call("image_part", undefined, BigInt(from), at, size));
   }
 
-  /** Fills bytes from a position on by calls that each put a part into room and return how long it is. */
-  #filled(found, from, part) {
+  /** Fills bytes by calls that each put a part into room and return how long it is. */
+  #filled(found, part) {
     return this.#with((lib) => {
-      const room = Math.min(found.length, AT_ONCE), at = lib.room(room || 1);
-      while (from < found.length) {
-        const count = part(from, BigInt(at), BigInt(Math.min(room, found.length - from)));
+      const room = Math.min(found.length, AT_ONCE), at = lib.room(room);
+      for (let from = 0, count; from < found.length; from += count) {
+        count = part(from, BigInt(at), BigInt(Math.min(room, found.length - from)));
         if (!count) throw new LittlefsError(INVALID);
         found.set(lib.bytes.subarray(at, at + count), from);
-        from += count;
       }
       return found;
     });
@@ -406,21 +384,12 @@ export class Image {
 
   // ---- files
 
-  /** Reads a file from a position on. One that isn't longer than the room is read by one call, since each call costs. */
   read(path, { position = 0, length = Infinity } = {}) {
     const file = this.#at("open", path, READ);
     try {
       if (position) this.#call("file_seek", path, file, number32(position));
-      const part = (at, size) => this.#call("file_read", path, file, at, size);
-      const first = this.#with((lib) => {
-        const room = Math.max(0, Math.min(AT_FIRST, length)), at = lib.room(room || 1), count = room && part(BigInt(at), BigInt(room));
-        return lib.bytes.slice(at, at + count);
-      });
-      const whole = first.length < AT_FIRST ? first.length : Math.min(this.#call("file_size", path, file) - position, length);
-      if (whole <= first.length) return first;
-      const found = new Uint8Array(whole);
-      found.set(first);
-      return this.#filled(found, first.length, (_, at, size) => part(at, size));
+      const left = Math.max(0, this.#call("file_size", path, file) - position);
+      return this.#filled(new Uint8Array(Math.min(left, length)), (_, at, size) => this.#call("file_read", path, file, at, size));
     } finally {
       if (!this.#library.failure) this.#ask("file_close", file);
     }
@@ -459,8 +428,6 @@ export class Image {
     }
   }
 }
-
-if (Symbol.dispose) Image.prototype[Symbol.dispose] = Image.prototype.close;
 
 function* unescaped(text) {
   for (let at = 0; at < text.length; at++) {

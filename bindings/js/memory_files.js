@@ -3,33 +3,31 @@ import { fail } from "./system.js";
 
 const FOLDER = 0o040755, FILE = 0o100644, WRITES = 0o1103;
 
-/** A path's names, as text with a letter for each byte. */
-const namesOf = (path) => Array.from(path, (byte) => String.fromCharCode(byte)).join("").split("/").filter((it) => it && it !== ".");
+/** A path's names, as text with a letter for each byte, each with a slash before it. */
+const namesOf = (path) => Array.from(path, (byte) => String.fromCharCode(byte)).join("").split("/").filter((it) => it && it !== ".").map((it) => `/${it}`);
 
-/** What is at a path: a file's bytes, or `inside`, which has a folder's nodes by their names. */
-const node = (inside, bytes, time = 0) => ({ inside, bytes, time });
-
+/** What is open: a file's bytes, or a folder, which has `names`. */
 class Opened {
-  #node;
+  #found;
   #at = 0;
 
-  constructor(node, path) {
-    this.#node = node;
+  constructor(found, path) {
+    this.#found = found;
     this.path = path;
-    if (node.inside) this.list = () => [...node.inside.keys()].map((name) => Uint8Array.from(name, (letter) => letter.charCodeAt(0)));
+    if (found.names) this.list = () => found.names.map((name) => Uint8Array.from(name.slice(1), (letter) => letter.charCodeAt(0)));
   }
 
   read(room, position) {
-    if (this.#node.inside) fail("EISDIR");
-    const from = position ?? this.#at, part = this.#node.bytes.subarray(from, from + room.length);
+    if (this.#found.names) fail("EISDIR");
+    const from = position ?? this.#at, part = this.#found.bytes.subarray(from, from + room.length);
     room.set(part);
     if (position === null) this.#at += part.length;
     return part.length;
   }
 
   stat() {
-    const { inside, bytes, time } = this.#node;
-    return { mode: inside ? FOLDER : FILE, size: inside ? 0 : bytes.length, mtimeNs: BigInt(Math.trunc(time)) * 1000000n };
+    const { names, bytes, time = 0 } = this.#found;
+    return { mode: names ? FOLDER : FILE, size: names ? 0 : bytes.length, mtimeNs: BigInt(Math.trunc(time)) * 1000000n };
   }
 }
 
@@ -54,16 +52,15 @@ class Written {
 
 /** A host whose files and streams are in memory. `output` is what the program has written, and `errors` its messages. */
 export class MemoryHost {
-  #top = node(new Map());
+  #all = new Map([["", { names: [] }]]);
   #streams;
 
   constructor(input = new Uint8Array(0)) {
-    this.#streams = [new Opened(node(null, input)), new Written(), new Written()];
+    this.#streams = [new Opened({ bytes: input }), new Written(), new Written()];
+    this.mkdir = this.unlink = this.rename = () => fail("EROFS");
   }
 
-  stream(number) {
-    return this.#streams[number];
-  }
+  stream = (number) => this.#streams[number];
 
   get output() {
     return this.#streams[1].all;
@@ -75,29 +72,16 @@ export class MemoryHost {
 
   /** Puts a file there, whose bytes aren't copied, or without bytes a folder; and the folders above it. */
   put(path, bytes, time) {
-    const names = namesOf(path), last = names.pop();
-    let { inside } = this.#top;
-    for (const name of names) {
-      if (!inside.has(name)) inside.set(name, node(new Map()));
-      ({ inside } = inside.get(name));
+    let at = "";
+    for (const name of namesOf(path)) {
+      if (!this.#all.has(at + name)) this.#all.set(at + name, { names: [] }).get(at).names.push(name);
+      at += name;
     }
-    inside.set(last, node(bytes ? null : inside.get(last)?.inside ?? new Map(), bytes, time));
+    this.#all.set(at, bytes ? { bytes, time } : { ...this.#all.get(at), time });
   }
 
-  #find(path) {
-    if (!path.length) fail("ENOENT");
-    return namesOf(path).reduce((at, name) => (at.inside ?? fail("ENOTDIR")).get(name) ?? fail("ENOENT"), this.#top);
-  }
-
+  #find = (path) => (path.length && this.#all.get(namesOf(path).join(""))) || fail("ENOENT");
   open = (path, flags) => (flags & WRITES ? fail("EROFS") : new Opened(this.#find(path), path));
-
-  openFolder(path) {
-    const found = this.#find(path);
-    return found.inside ? new Opened(found, path) : fail("ENOTDIR");
-  }
-
-  stat = (path) => new Opened(this.#find(path)).stat();
-  mkdir = () => fail("EROFS");
-  unlink = () => fail("EROFS");
-  rename = () => fail("EROFS");
+  openFolder = (path) => (this.#find(path).names ? this.open(path) : fail("ENOTDIR"));
+  stat = (path) => this.open(path).stat();
 }

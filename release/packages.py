@@ -154,7 +154,7 @@ Description: {SUMMARY}
  The program mklittlefs makes images of folders in the format of the flash
  file system littlefs, and lists, checks, unpacks and changes them. With it
  comes littlefs_c, a library for C over images in memory. Their code is proved
- to keep its contracts.
+ to keep its contracts. Over it is littlefs's own interface, lfs.h, as source.
 """
     about = {"control": control, "triggers": "activate-noawait ldconfig\n"}
     with tempfile.TemporaryDirectory() as folder:

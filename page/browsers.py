@@ -73,7 +73,6 @@ class Chromium(Browser):
             options.add_argument(word)
         options.set_capability("goog:loggingPrefs", {"performance": "ALL"})
         self.driver, self.downloads = webdriver.Chrome(service=Service("/usr/bin/chromedriver"), options=options), downloads
-        self.driver.set_script_timeout(3600)
         self.driver.execute_cdp_cmd("Browser.setDownloadBehavior", {"behavior": "allow", "downloadPath": str(downloads)})
         self.driver.execute_cdp_cmd("Page.setInterceptFileChooserDialog", {"enabled": True})
         self.script, self.open = self.driver.execute_script, self.driver.get
@@ -113,7 +112,7 @@ class Firefox(Browser):
                                         env={**os.environ, "HOME": str(folder)}, stdout=subprocess.DEVNULL, stderr=subprocess.DEVNULL)
         self.stream, self.number, self.downloads = self.connected(port), 0, downloads
         self.message()
-        self.ask("WebDriver:NewSession", capabilities={"alwaysMatch": {"timeouts": {"script": 3600000}}})
+        self.ask("WebDriver:NewSession", capabilities={})
         self.open(page)
 
     def connected(self, port):

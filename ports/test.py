@@ -176,11 +176,6 @@ def lines_of(number, rnd, work):
     yield line_of("bytes")
 
 
-IN_BROWSER = """const part = (name) => fetch(name).then((it) => it.arrayBuffer());
-    return Promise.all([import("/js/test/calls.mjs"), part("littlefs.wasm"), part("list")]).then(([{ run }, module, list]) =>
-        run(module, new TextDecoder().decode(list), arguments[0], part))"""
-
-
 def in_browser(kind, work, has_times):
     """What calls.mjs gives in a browser, which is served the files in `work`."""
     handler = type("Quiet", (http.server.SimpleHTTPRequestHandler,), {"log_message": lambda *_: None})
@@ -189,7 +184,9 @@ def in_browser(kind, work, has_times):
     with tempfile.TemporaryDirectory(ignore_cleanup_errors=True) as profile:
         page = kind(f"http://127.0.0.1:{server.server_port}/", Path(profile), work)
         try:
-            return page.script(IN_BROWSER, has_times)
+            page.script("document.head.append(Object.assign(document.createElement('script'), { type: 'module', src: '/js/test/calls.mjs' + arguments[0] }))", "?times" * has_times)
+            page.until("all calls are made", lambda: page.script("return document.body.dataset.ready"), 3600)
+            return page.script("return document.body.textContent").split("\n")
         finally:
             page.quit()
             server.shutdown()

@@ -1,4 +1,4 @@
-// Makes by littlefs.js the calls of a list that ports/calls.c makes by the library, and prints the same: node calls.mjs MODULE LIST [times]
+// Makes by littlefs.js the calls of a list that ports/calls.c makes by the library, and prints the same: node calls.mjs MODULE LIST [times]; in a browser for a server's files
 import { Image, bytesOf, load } from "../littlefs.js";
 
 const FROM = 7;
@@ -54,7 +54,7 @@ function clock() {
 }
 
 /** Returns the lines for a list, whose images `read` reads by their names. */
-export async function run(module, list, times, read) {
+async function run(module, list, times, read) {
   await load(module);
   image = none = Image.format({ blockCount: 2 });
   none.close();
@@ -80,4 +80,8 @@ export async function run(module, list, times, read) {
 if (globalThis.process) {
   const { readFileSync } = await import("node:fs"), [, , module, list, times] = process.argv;
   console.log((await run(readFileSync(module), readFileSync(list, "utf8"), times, readFileSync)).join("\n"));
+} else {
+  const part = async (name) => (await fetch(`/${name}`)).arrayBuffer();
+  document.body.textContent = (await run(await part("littlefs.wasm"), textOf(await part("list")), import.meta.url.endsWith("times"), part)).join("\n");
+  document.body.dataset.ready = "yes";
 }

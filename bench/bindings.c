@@ -1,6 +1,6 @@
-/* The same work by a volume, and by littlefs's own code (with HEADER): prints the seconds that each row takes, for bindings.py.
+/* The same calls by a volume, and by littlefs's own code (with HEADER): prints the seconds of each row, for bindings.py.
  *
- *   bindings SIZE COUNT     an image of so many bytes, and so many small writes, stats and files */
+ *   bindings SIZE COUNT     an image of SIZE bytes, and COUNT small writes, stats and files */
 #include <stdint.h>
 #include <stdio.h>
 #include <stdlib.h>

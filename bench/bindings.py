@@ -1,28 +1,28 @@
 #!/usr/bin/env python3
-"""What the calls from C and from Python answer and leave.
+"""The calls from C and from Python, compared with plain models.
 
 usage: bindings.py [--count N] [--seed WORD] [--built] [--littlefs FOLDER] [--times]
 
-Builds the static library (`rt lib`), and the example and the shared library from it (`make`); not with `--built`. Then in turn:
+Builds the static library (`rt lib`), and from it the examples and the shared library (`make`); not with `--built`. Then in turn:
 
-- the example in C is run twice on one file, and has to print what it says;
-- N lists of 30 operations made at random are carried out through bindings/python on an image each, and worked out by
-  session_model.py, which shares nothing with the crates: each answer and refusal is compared, and behind each operation that is
-  refused the bytes, and at the end of the list the whole tree, by a second look at these bytes. With the folder of littlefs's own
-  code it has to show the same tree of each image whose longer names come first, as littlefs has them;
-- N lists of 60 calls of one volume, with files open several times, for reading and writing both, and renamed and removed while they
-  are open, are compared with the model of volume.py;
-- each call that fills a buffer is given one of no byte, one too short, an exact one, and one with room to spare: what is behind
-  the bytes that it says, and all of it where they don't fit, has to stay;
-- hostile images are mounted: changed, cut and random bytes, and sizes out of range. A mount accepts or refuses them by a number that
-  littlefs_c.h names, and calls over what it accepts leave an image that is accepted;
-- directory handles, the superblock, used blocks and why an image is read only, by the calls of littlefs_c.h;
-- each call is given a handle that is closed;
-- what bindings/python promises beside that: file objects, exceptions, limits and versions, threads, and what comes after a close.
+- the example in C runs twice on one file, and must print the expected lines;
+- N lists of 30 random operations run through bindings/python, on an image each, and through session_model.py, which shares nothing
+  with the crates. Each answer and refusal is compared, and the bytes after each refused operation. The whole tree is compared at the
+  end of the list, by a second mount of the bytes. With the folder of littlefs's own code, it must show the same tree of each image
+  whose longer names come first, as littlefs has them;
+- N lists of 60 calls of one volume are compared with the model of volume.py. Files are open several times, for reading and writing
+  both, and are renamed and removed while they are open;
+- each call that fills a buffer gets one of no byte, one too short, an exact one, and one with room to spare. The bytes after the
+  answer must stay, and all of them if the answer doesn't fit;
+- hostile images are mounted: changed, truncated and random bytes, and sizes out of range. A mount accepts them, or refuses them by a
+  number of littlefs_c.h. Calls over an accepted one leave an image that is accepted;
+- directory handles, the superblock, used blocks and the reason why an image is read only, by the calls of littlefs_c.h;
+- each call gets a closed handle;
+- further promises of bindings/python: file objects, exceptions, limits and versions, threads, and calls after a close.
 
-Prints how many there were of each. Fails at the first difference. With `--times` it prints instead how long 1,000 writes of 100
-bytes, 1,000 stats, a read of 1 MiB in pieces and 1,000 new files take: by a volume, by littlefs's own code where its folder is given,
-and from Python.
+Prints how many there were of each. Fails at the first difference. With `--times` it prints instead the seconds of 1,000 writes of 100
+bytes, 1,000 stats, a read of 1 MiB in pieces, and 1,000 new files: by a volume, by littlefs's own code if its folder is given, and
+from Python.
 """
 
 import argparse
@@ -61,7 +61,7 @@ GUARD = 64
 
 
 class Different(Exception):
-    """Something came that shouldn't."""
+    """Two results differ."""
 
 
 def same(what, got, wanted):
@@ -78,7 +78,7 @@ def build():
 
 
 def word(data):
-    """Bytes as the model takes them here: a character for each."""
+    """Returns bytes as the model takes them here: a character for each."""
     return data.decode("latin-1")
 
 
@@ -135,7 +135,7 @@ CHANGES = {"write", "mkdir", "remove", "rename", "setattr", "removeattr"}
 
 
 def a_path(chance, model):
-    """A path that is there, beneath one that is there, or none that is well formed."""
+    """Returns a path that exists, one beneath it, or one that isn't well formed."""
     kind = chance.random()
     if kind < 0.04:
         return chance.choice([b"", b"a", b"/a/", b"//a", b"/.", b"/a/..", b"/a\x00b", b"/"])
@@ -150,7 +150,7 @@ def some_bytes(chance, most):
 
 
 def an_operation(chance, model):
-    """A call of `Image`, and what it takes."""
+    """Returns a call of `Image` and its arguments."""
     name = chance.choice(["write"] * 5 + ["mkdir"] * 3 + ["rename"] * 2 + ["remove", "setattr", "setattr", "removeattr", "items", "stat", "read", "read", "getattr", "used"])
     path = a_path(chance, model)
     if name in ("mkdir", "write") and sum(at.rpartition(b"/")[0] == path.rpartition(b"/")[0] for at in model.tree) > 5:
@@ -168,7 +168,7 @@ def an_operation(chance, model):
 
 
 def by_model(model, name, takes):
-    """What the model answers, and the model behind it."""
+    """Returns the model's answer, and the model after it."""
     after = copy.deepcopy(model)
     after.files = {}
     try:
@@ -185,7 +185,7 @@ def by_calls(image, name, takes):
 
 
 def look(image, tree):
-    """The whole tree of an image is that one."""
+    """Compares the whole tree of an image with this one."""
     for at, node in sorted(tree.items()):
         path = at or b"/"
         if node.content is None:
@@ -198,7 +198,7 @@ def look(image, tree):
 
 
 def by_littlefs(code, image, block_size, page, tree):
-    """littlefs's own code shows that tree of an image."""
+    """Compares the tree that littlefs's own code shows of an image with this one."""
     with tempfile.NamedTemporaryFile() as file:
         file.write(bytes(image))
         file.flush()
@@ -222,7 +222,7 @@ def compare(count, seed, code):
             got = by_calls(image, name, takes)
             same(f"list {number}, {name} {takes!r:.200}", got, wanted)
             if name not in CHANGES or isinstance(wanted, str) and name != "write":
-                same(f"list {number}, bytes behind {name} {takes!r:.200}", bytes(image) == before, True)
+                same(f"list {number}, bytes after {name} {takes!r:.200}", bytes(image) == before, True)
             if name == "write" and isinstance(wanted, str):
                 look(image, model.tree)
             seen[name + (" refused" if isinstance(wanted, str) else "")] += 1
@@ -241,7 +241,7 @@ FLAGS = [0x1] * 4 + [0x2, 0x102, 0x902, 0x502, 0x302, 0x3, 0x103, 0x103, 0x903, 
 
 
 def a_volume_call(chance, model):
-    """A call of a volume, and what it takes."""
+    """Returns a call of a volume and its arguments."""
     name = chance.choice(IN_VOLUME if chance.random() > 0.01 else ["remount"])
     path = a_path(chance, model)
     if name in ("open", "remove", "rename") and chance.random() < 0.5:
@@ -291,7 +291,7 @@ BY_NUMBER = {
 
 
 def volume_in_model(model, name, takes):
-    """What the model answers, and the model behind it. A close that is refused frees the number."""
+    """Returns the model's answer, and the model after it. A refused close frees the number."""
     after = copy.deepcopy(model)
     try:
         if name in BY_NUMBER:
@@ -303,7 +303,7 @@ def volume_in_model(model, name, takes):
 
 
 def volume_by_calls(image, name, takes):
-    """The same call through the handle of an image."""
+    """Makes the same call through the handle of an image."""
     try:
         if name == "open":
             return image._call("open", [], *library.readable(takes[0]), takes[1])
@@ -335,7 +335,7 @@ def volumes(count, seed):
                 got = volume_by_calls(image, name, takes)
                 same(f"volume {number}, {name} {takes!r:.200}", got, wanted)
                 if isinstance(wanted, str):
-                    same(f"volume {number}, bytes behind {name} {takes!r:.200}", bytes(image) == before, True)
+                    same(f"volume {number}, bytes after {name} {takes!r:.200}", bytes(image) == before, True)
                 seen[name + (" refused" if isinstance(wanted, str) else "")] += 1
             for file in sorted(model.handles):
                 wanted, model = volume_in_model(model, "close", (file,))
@@ -348,18 +348,18 @@ def volumes(count, seed):
 
 
 def guarded(size):
-    """A buffer with room on both sides that no call may touch."""
+    """Returns a buffer with guards on both sides that no call may touch."""
     whole = (ctypes.c_ubyte * (size + 2 * GUARD))(*(0xa5 for _ in range(size + 2 * GUARD)))
     return whole, ctypes.addressof(whole) + GUARD
 
 
 def filled(name, size, whole, answer, wanted, may_be_part):
-    """A buffer of so many bytes has what a call says, and nothing beside it was written."""
+    """Checks that a buffer of this size has the answer, and that nothing around it was written."""
     held = bytes(whole)[GUARD:-GUARD]
     put = wanted[:size] if may_be_part else wanted if len(wanted) <= size else b""
     same(f"{name} into {size} bytes", answer, len(put) if may_be_part else len(wanted))
     same(f"{name} into {size} bytes, the buffer", held, put + b"\xa5" * (size - len(put)))
-    same(f"{name} into {size} bytes, beside it", bytes(whole)[:GUARD] + bytes(whole)[-GUARD:], b"\xa5" * 2 * GUARD)
+    same(f"{name} into {size} bytes, around it", bytes(whole)[:GUARD] + bytes(whole)[-GUARD:], b"\xa5" * 2 * GUARD)
 
 
 def buffers():
@@ -392,7 +392,7 @@ def buffers():
 
 
 def hostile(chance, images):
-    """Bytes, a block size and a page that are no image, or hardly one."""
+    """Returns bytes, a block size and a page that are no image, or a damaged one."""
     data, block_size, page = chance.choice(images)
     data = bytearray(data)
     kind = chance.randrange(8)
@@ -412,7 +412,7 @@ def hostile(chance, images):
 
 
 def attack_image(chance, number, data, block_size, page):
-    """A volume over hostile bytes answers or refuses, and leaves an image that is accepted."""
+    """Calls a volume over hostile bytes, which must leave an image that is accepted. Returns whether they were mounted."""
     try:
         image = littlefs_c.Image(data, block_size, page)
     except OSError as error:
@@ -448,7 +448,7 @@ def attack(count, seed):
     return seen
 
 
-# Calls of littlefs_c.h that bindings/python doesn't make
+# Calls of littlefs_c.h that bindings/python doesn't use
 
 
 class Entry(ctypes.Structure):
@@ -464,7 +464,7 @@ class Breach(ctypes.Structure):
 
 
 def c_calls():
-    """Calls of the shared library by their names, with a volume in front."""
+    """Returns a function that makes a call of the shared library by its name, on the volume of an image."""
     shared = ctypes.CDLL(os.environ.get("LITTLEFS_C") or library.built_library())
 
     def call(name, image, *words):
@@ -476,7 +476,7 @@ def c_calls():
 
 
 def entries_of(call, image, number):
-    """What the rest of an open directory has."""
+    """Returns the entries of an open directory from its position on."""
     found, entry, name = [], Entry(), ctypes.create_string_buffer(255)
     while call("dir_read", image, number, ctypes.byref(entry), name, 255) == 1:
         found.append((name.raw[: entry.name_len], entry.size if entry.kind == 1 else None))
@@ -512,7 +512,7 @@ def questions():
         same("used blocks", (used[0], used[1], sum(used[:64]), used[64]), (1, 1, image.used(), -22))
         same("writable", (call("is_writable", image), call("read_only_reason", image, ctypes.byref(Breach()))), (1, 0))
         image.remount()
-        same("no directory behind a remount", call("dir_tell", image, 0), -9)
+        same("no directory after a remount", call("dir_tell", image, 0), -9)
         data = bytes(image)
     for reason, limits in ((1, {"name_max": 200}), (2, {"file_max": 1000}), (3, {"attr_max": 100}), (4, {"inline_max": 5})):
         breach = Breach()
@@ -523,11 +523,11 @@ def questions():
     return seen
 
 
-# What bindings/python promises beside that
+# Further promises of bindings/python
 
 
 def raises(wanted, call, number=None, path=None):
-    """A call raises that exception, with that number and that path, where they are given."""
+    """Checks that a call raises this exception, with this number and this path if they are given."""
     try:
         call()
     except wanted as error:
@@ -578,9 +578,9 @@ def both_ways(image):
         image.rename("/both", "/moved")
         two.write(b"!")
         one.seek(-1, io.SEEK_END)
-        same("also behind a rename", one.read(), b"!")
+        same("also after a rename", one.read(), b"!")
         image.write("/moved", b"other bytes")
-        same("and behind a write of all bytes", (two.seek(0), two.read()), (0, b"other bytes"))
+        same("and after a write of all bytes", (two.seek(0), two.read()), (0, b"other bytes"))
         image.remove("/moved")
         same("and once it is removed", (two.seek(0), two.read(), two.write(b"?"), image.exists("/moved")), (0, b"other bytes", 1, False))
     same("nothing brings it back", (image.exists("/moved"), image.exists("/both")), (False, False))
@@ -604,7 +604,7 @@ def files():
         same("a position", (file.seek(0), file.read(1), file.readline()), (0, "ä", "\n"))
     with image.open("/text", "rb") as file:
         same("from the end", (file.seek(-2, io.SEEK_END), file.read(), file.tell()), (5, b"c\n", 7))
-        same("behind the end", (file.seek(100), file.read()), (100, b""))
+        same("after the end", (file.seek(100), file.read()), (100, b""))
         raises(io.UnsupportedOperation, lambda: file.write(b"x"))
     with image.open("/json", "w") as file:
         json.dump({"a": [1, 2]}, file)
@@ -628,7 +628,7 @@ def files():
         raises(io.UnsupportedOperation, lambda: image.open("/raw", mode))
     both_ways(image)
     readers = [image.open("/raw", "rb") for _ in range(40)]
-    same("what readers read", {file.read() for file in readers}, {b"12ab"})
+    same("read by all readers", {file.read() for file in readers}, {b"12ab"})
     del readers
     gc.collect()
     lost, other = image.open("/raw", "rb", buffering=0), image.open("/lost", "wb", buffering=0)
@@ -638,7 +638,7 @@ def files():
         raises(ValueError, lost.read)
         raises(ValueError, lambda: other.write(b"x"))
         lost.close(), other.close()
-    same("behind a remount", (lost.closed, other.closed, image.stat("/lost")), (True, True, 0))
+    same("after a remount", (lost.closed, other.closed, image.stat("/lost")), (True, True, 0))
     left = image.open("/left", "w")
     left.write("open when the image is closed")
     kept = bytes(image)
@@ -649,7 +649,7 @@ def files():
 
 
 def refusals():
-    """Exceptions are Python's own, with their numbers and paths."""
+    """Exceptions are Python's own, with numbers and paths."""
     image = littlefs_c.Image.format(16 * 4096)
     image.makedirs("/a/b/c")
     image.makedirs("/a/b/c", exist_ok=True)
@@ -677,7 +677,7 @@ def refusals():
         raises(TypeError, call)
     for call in (lambda: image.setattr("/a", 256, b""), lambda: image.read("/a/file", -1), lambda: littlefs_c.Image.format(16 * 4096, -1), lambda: image.part(-1, 5)):
         raises(ValueError, call)
-    same("what is left", (sorted(image.walk()), image.stat("/a/file"), image.exists("/large")), ([("/", ["a"], []), ("/a", ["b"], ["file"]), ("/a/b", ["c"], []), ("/a/b/c", [], [])], 2, False))
+    same("the tree that is left", (sorted(image.walk()), image.stat("/a/file"), image.exists("/large")), ([("/", ["a"], []), ("/a", ["b"], ["file"]), ("/a/b", ["c"], []), ("/a/b/c", [], [])], 2, False))
     same("entries", list(image.scandir("/a")), [("b", "/a/b", None), ("file", "/a/file", 2)])
     same("kinds", (image.is_dir("/a"), image.is_file("/a"), image.is_file("/a/file"), image.is_dir("/none"), image.exists("/a/file/x")), (True, False, True, False, False))
     with image.open("/a/file", "rb") as reader:
@@ -685,7 +685,7 @@ def refusals():
         raises(OSError, lambda: image.write("/a/b/file", bytes(16 * 4096)), errno.ENOSPC)
         image.write("/a/b/file", b"kept")
         raises(OSError, lambda: image.write("/a/b/file", bytes(16 * 4096)), errno.ENOSPC)
-        same("a reader beside a refused write", (reader.read(), image.read("/a/b/file")), (b"2", b"kept"))
+        same("a reader during a refused write", (reader.read(), image.read("/a/b/file")), (b"2", b"kept"))
     missing = subprocess.run([sys.executable, "-c", "import littlefs_c; littlefs_c.Image.format(65536)"], env={**os.environ, "LITTLEFS_C": "/none.so", "PYTHONPATH": os.path.dirname(os.path.dirname(littlefs_c.__file__))}, capture_output=True, text=True)
     same("a library that isn't there", "run `rt lib` in crates/littlefs_c and `make` in bindings/c" in missing.stderr, True)
 
@@ -719,7 +719,7 @@ def profiles():
 
 
 def versions(code, room):
-    """Images that littlefs's own code makes of version 2.1 are read and written where that is asked for, and it reads them then."""
+    """Images of version 2.1 by littlefs's own code are read and written on request, and it reads them after that."""
     for number, geometry in enumerate([(4096, 256, 32), (4096, 16, 32), (2048, 128, 64)]):
         path = f"{room}/later{number}.img"
         driver = littlefs_code.Driver(code, path, geometry, fresh=True)

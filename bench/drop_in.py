@@ -1,19 +1,19 @@
 #!/usr/bin/env python3
-"""bindings/lfs in place of littlefs's own code, in programs that are the same otherwise.
+"""The same programs built with bindings/lfs and with littlefs's own code.
 
 usage: drop_in.py LITTLEFS [--count N] [--calls N] [--seed WORD] [--archives A,B] [--jobs N]
 
 LITTLEFS is the folder of littlefs's own code with version 2.11, as `lib/littlefs` of Debian's source package micropython 1.26.1+ds.
 
-- exchange.c does N lists of operations with each: files, directories and renames at random, wrong ones too, with paths of any form. Both
-  give the same answers. Each shows the same tree in both images, and it is the one that the operations make. In each fifth list the power
-  goes in bindings/lfs: littlefs then finds the tree from before that operation, or from after it.
-- lfs_calls.c does calls of each function of lfs.h at random with each, N times 2,000: several open files, positions, attributes of open
-  files, directories, mounts. Both print the same, and leave the same tree.
-- lfs_faults.c does one work with a device that fails, at each of its calls in turn, and with memory that isn't granted.
+- exchange.c performs N lists of operations with each: random files, directories and renames, also wrong ones, with paths of any form.
+  Both must return the same. Each must show the same tree in both images, the one that the operations make. In each fifth list
+  bindings/lfs loses power: littlefs must then find the tree from before that operation, or from after it.
+- lfs_calls.c makes 2,000 random calls of all functions of lfs.h with each, N times: several open files, positions, attributes of open
+  files, directories, mounts. Both must print the same, and leave the same tree.
+- lfs_faults.c repeats a fixed list of steps with a device that fails, at each of its calls in turn, and with memory that isn't granted.
 
-The archives are liblittlefs_c.a and the kit's liblibc_c.a; without `--archives` those that `make -C bindings/c archives` prints. Prints what was
-compared. Fails at the first difference.
+The archives are liblittlefs_c.a and the kit's liblibc_c.a; without `--archives` those that `make -C bindings/c archives` prints. Prints
+how much was compared. Fails at the first difference.
 """
 
 import argparse
@@ -36,11 +36,11 @@ bindings = os.path.join(os.path.dirname(here), "bindings")
 
 
 class Different(Exception):
-    """Both do something else."""
+    """The two programs differ."""
 
 
 def built(out, source, linked, *switches):
-    """A program with bindings/lfs."""
+    """Builds a program with bindings/lfs, and returns its path."""
     sources = [f"{here}/{source}", f"{bindings}/lfs/lfs.c", f"{bindings}/lfs/lfs_util.c", *linked]
     words = ["gcc", "-O1", "-Wall", "-Wextra", '-DHEADER="lfs.h"', *switches, f"-I{bindings}/lfs", "-o", out, *sources]
     subprocess.run(words, check=True)
@@ -48,7 +48,7 @@ def built(out, source, linked, *switches):
 
 
 def built_with_littlefs(littlefs, out, source):
-    """A program with littlefs's own code, which may be MicroPython's."""
+    """Builds a program with littlefs's own code, which may be MicroPython's, and returns its path."""
     prefix = "lfs2" if os.path.exists(f"{littlefs}/lfs2.c") else "lfs"
     with open(f"{here}/{source}", encoding="utf-8") as it:
         names = sorted(set(re.findall(r"\b(?:lfs|LFS)_\w+", it.read()))) if prefix == "lfs2" else []
@@ -63,7 +63,7 @@ def built_with_littlefs(littlefs, out, source):
 
 
 def wrong_operation(rnd, tree):
-    """One that is refused, or that changes nothing."""
+    """Returns an operation that is refused, or that changes nothing."""
     new, long = b"/none", b"/none-" + b"x" * 300
     operations = [("mkdir", b"/none/x"), ("remove", new), ("remove", b"/"), ("read", new), ("read", b"/.."), ("read", b"/none/../.."), ("rename", new, b"/y"), ("append", new, 1, "z"),
                   ("truncate", new, 1), ("mkdir", long), ("put", long, 1, "z"), ("read", long)]
@@ -81,7 +81,7 @@ def wrong_operation(rnd, tree):
 
 
 def in_another_form(rnd, operation):
-    """The same operation, with `.`, `..` and further `/` in its paths."""
+    """Returns the same operation, with `.`, `..` and further `/` in its paths."""
     def form(path):
         kind = rnd.randrange(8)
         return [path[1:], path.replace(b"/", b"//"), b"/." + path, b"/none/.." + path, b"none/./x/../.." + path][kind] if kind < 5 and path[1:] else path
@@ -90,7 +90,7 @@ def in_another_form(rnd, operation):
 
 
 def some_list(rnd, geometry, tree):
-    """Operations, and wrong ones between them. The plain tree is changed with them."""
+    """Yields operations, with wrong ones between them, and changes the plain tree by them."""
     for operation in some_tree(rnd, geometry[0]):
         yield operation
         carry_out(tree, operation)
@@ -109,7 +109,7 @@ def same(what, one, other):
 
 
 def try_list(options, number):
-    """A list of operations with both. Answers how many there were."""
+    """Performs a list of operations with both. Returns how many there were."""
     rnd = random.Random(f"{options.seed}/{number}")
     geometry, cycles, tree = rnd.choice(ROOMY), rnd.choice([-1, *CYCLES]), {b"": None}
     lines = [told(in_another_form(rnd, it)) for it in some_list(rnd, geometry, tree)]
@@ -134,7 +134,7 @@ def try_list(options, number):
 
 
 def lose_power(options, rnd, image, geometry, tree, cycles):
-    """The power goes in an operation with bindings/lfs. littlefs finds the tree from before it, from after it, or a new empty file."""
+    """Loses power in an operation with bindings/lfs. littlefs must find the tree from before it, from after it, or a new empty file."""
     driver = Driver(options.ours, image, geometry, cycles=cycles)
     driver.tell(f"cut {rnd.randrange(12)}")
     before = dict(tree)

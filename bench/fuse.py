@@ -1,12 +1,12 @@
 #!/usr/bin/env python3
-"""What programs do in an image that is mounted as a folder by bindings/fuse.
+"""Programs at work in an image that bindings/fuse has mounted as a folder.
 
 usage: fuse.py [--size BYTES] [--operations N] [--seed WORD] [--python PROGRAM] [--littlefs FOLDER] [--only WORD]
 
 Needs littlefs_c.so (`rt lib` in crates/littlefs_c, `make` in bindings/c), fusepy, and of Debian's packages fuse3, rsync, git, sqlite3, fio
-and gcc. Prints a line for each try: its seconds, and whether it did what it does in any folder. Then come N operations at random
-beside a plain folder, with kills and new mounts (fuse_operations.py). Last the image is unmounted and mounted again: the same has to
-be there, and the image has to be accepted. With the folder of littlefs's own code it has to show the same tree. Fails where a try does.
+and gcc. Prints a line for each try: its seconds, and whether it did the same as in any folder. After them the image is unmounted, must be
+accepted, and must show the same tree in a new mount that is read only; with the folder of littlefs's own code, in that as well. Then
+follow N random operations, each also made in a plain folder, with kills and new mounts (fuse_operations.py). Fails if a try does.
 """
 
 import argparse
@@ -28,7 +28,7 @@ top = os.path.dirname(os.path.dirname(os.path.abspath(__file__)))
 sys.path.insert(0, os.path.join(top, "bindings", "python"))
 from littlefs_c import Image
 
-# Each is a command of bash: M is the mounted folder, R a plain one, S the repository.
+# Each is a command for bash: M is the mounted folder, R a plain one, S the repository.
 TRIES = [
     ("echo and cat", "echo hello > $M/a && echo more >> $M/a && [ \"$(cat $M/a)\" = $'hello\\nmore' ] && rm $M/a"),
     ("mkdir, mv, rm", "mkdir -p $M/x/y/z && echo 1 > $M/x/a && mv $M/x/a $M/x/y/b && mv $M/x $M/w && [ -f $M/w/y/b ] && rm -r $M/w"),
@@ -66,7 +66,7 @@ TRIES = [
 
 
 class Mounted:
-    """An image that a program of its own has mounted."""
+    """An image that another process has mounted."""
 
     def __init__(self, python, image, folder, words):
         self.words = [python, os.path.join(top, "bindings", "fuse", "littlefs-fuse"), image, folder, "-f", *words]
@@ -88,7 +88,7 @@ class Mounted:
         subprocess.run(["fusermount3", "-u", *words, self.folder], check=True)
 
     def end(self):
-        """Unmounts, and waits for the program's end. Where another program looks around in the folder it takes some tries."""
+        """Unmounts, and waits for the program's end. This takes some tries if another program has the folder in use."""
         for _ in range(200):
             if subprocess.run(["fusermount3", "-u", self.folder], stderr=subprocess.DEVNULL).returncode == 0:
                 break
@@ -104,7 +104,7 @@ class Mounted:
 
 
 def tree_of(folder):
-    """What is in a folder: of each path a file's size and checksum, or None."""
+    """Returns the tree of a folder: for each path a file's size and checksum, or None."""
     found = {b"": None}
     for at, folders, files in os.walk(os.fsencode(folder)):
         below = os.path.relpath(at, os.fsencode(folder))
@@ -123,7 +123,7 @@ def line(name, is_well, seconds, more=""):
 
 
 def try_programs(mounted, room, only):
-    """Runs each program, and answers how many fail."""
+    """Runs each program, and returns how many fail."""
     shutil.copytree(os.path.join(top, "docs"), f"{room}/tree/docs")
     shutil.copytree(os.path.join(top, "bindings"), f"{room}/tree/bindings", ignore=shutil.ignore_patterns("*.so", "example", "__pycache__"))
     words = {**os.environ, "M": mounted.folder, "R": room, "S": top, "WHO": "-c user.name=a -c user.email=a@b -c gc.auto=0"}
@@ -149,7 +149,7 @@ def try_operations(mounted, room, count, seed):
 
 
 def refused_commands(python, room):
-    """Command lines that are refused, and what is said then."""
+    """Checks the messages of command lines that are refused."""
     program = os.path.join(top, "bindings", "fuse", "littlefs-fuse")
     with Image.format(64 << 10) as image:
         image.write("/file", b"kept")
@@ -168,7 +168,7 @@ def refused_commands(python, room):
 
 
 def program_of(words):
-    """The number of the process with these words, in which no other has the paths of this run."""
+    """Returns the number of the process with these arguments. Only this run has its paths."""
     for number in filter(str.isdecimal, os.listdir("/proc")):
         with contextlib.suppress(OSError), open(f"/proc/{number}/cmdline", "rb") as file:
             if file.read().split(b"\0")[:-1] == [os.fsencode(word) for word in words]:
@@ -177,13 +177,13 @@ def program_of(words):
 
 
 def in_background(python, program, room, good):
-    """The program goes to the background, and ends by a signal with all saved. Only one may write an image."""
+    """Checks that the program goes to the background, that a signal ends it with all saved, and that only one may write an image."""
     words = [python, program, f"{room}/good.img", f"{room}/point", "-o", "fsname=named,nodev"]
     subprocess.run(words, check=True)
     again = subprocess.run([python, program, "good.img", "point"], cwd=room, capture_output=True, text=True)
     with open(f"{room}/point/file", "a") as file:
         file.write(", and more")
-    with contextlib.suppress(OSError), open(f"{room}/point/other", "w") as file:  # the close comes too late
+    with contextlib.suppress(OSError), open(f"{room}/point/other", "w") as file:  # the program has ended before the close
         file.write("open at the end")
         file.flush()
         program = program_of(words)
@@ -204,7 +204,7 @@ def try_commands(python, room):
 
 
 def look_again(mounted, image, littlefs, room):
-    """The image is accepted, shows the same in a new mount that is only read, and to littlefs's own code."""
+    """Checks that the image is accepted, and has the same tree in a new mount that is read only, and by littlefs's own code."""
     before = tree_of(mounted.folder)
     mounted.end()
     with open(image, "rb") as file, Image(file.read()) as it:
@@ -216,7 +216,7 @@ def look_again(mounted, image, littlefs, room):
     again = tree_of(mounted.folder)
     refused = subprocess.run(["touch", f"{mounted.folder}/new"], stderr=subprocess.DEVNULL).returncode
     mounted.end()
-    is_well = line("a new mount that is only read", again == before and refused and not left, 0, f"{len(again)} entries, {used} blocks")
+    is_well = line("a new mount that is read only", again == before and refused and not left, 0, f"{len(again)} entries, {used} blocks")
     if littlefs:
         shown = littlefs_code.shown(littlefs_code.build(littlefs, f"{room}/littlefs", "0x00020000"), image, (4096, 256))
         is_well &= line("littlefs's own code", shown is not None and {path: content for path, (content, _) in shown.tree.items()} == before, 0)

@@ -1,4 +1,4 @@
-"""Operations at random on files in a mounted image and in a plain folder, with kills of the program that has it mounted, for fuse.py."""
+"""Random operations on files in a mounted image and in a plain folder, with kills of the program that mounts it, for fuse.py."""
 
 import contextlib
 import os
@@ -19,17 +19,17 @@ def same(what, got, wanted):
 
 
 class Files:
-    """Files in both folders. `saved` has what is in the image's file of each: what it held at its last close or sync."""
+    """Files in both folders. `saved` has the bytes of each that are in the image's file: those of its last close or sync."""
 
     def __init__(self, mount, plain, chance):
         self.mount, self.plain, self.chance = mount, plain, chance
-        self.open, self.saved = {}, {}  # by name: the two descriptors, and bytes
+        self.open, self.saved = {}, {}  # by name: the two descriptors, and the bytes
         self.in_work = None
 
     def pair(self, name):
         if name not in self.open:
             is_new = not os.path.exists(f"{self.plain}/{name}")
-            flags = os.O_RDWR | os.O_CREAT * is_new  # else a file would be made in the bare folder behind a kill
+            flags = os.O_RDWR | os.O_CREAT * is_new  # otherwise a file would be made in the bare folder after a kill
             self.open[name] = (os.open(f"{self.mount}/{name}", flags), os.open(f"{self.plain}/{name}", flags))
             if is_new:
                 self.save_folder()
@@ -78,7 +78,7 @@ class Files:
         os.close(folder)
 
     def cut(self, name):
-        """A truncation by path of a file that isn't open."""
+        """Truncates a file by its path, while it isn't open."""
         self.pair(name)
         self.close(name)
         size = self.chance.randrange(MOST)
@@ -88,7 +88,7 @@ class Files:
         self.saved[name] = self.held(name)
 
     def remove(self, name):
-        """A removal, often of a file that is open and is read on."""
+        """Removes a file, often one that is open, and reads it after that."""
         ours, plain = self.pair(name)
         for folder in (self.mount, self.plain):
             os.unlink(f"{folder}/{name}")
@@ -98,7 +98,7 @@ class Files:
         del self.open[name], self.saved[name]
 
     def rename(self, name):
-        """A renaming in place of another file. Both may be open."""
+        """Renames a file in place of another one. Both may be open."""
         other = self.chance.choice(NAMES)
         self.pair(name)
         for folder in (self.mount, self.plain):
@@ -114,7 +114,7 @@ class Files:
         getattr(self, kind)(self.chance.choice(NAMES))
 
     def only_files(self):
-        """An operation of which a kill leaves one file in one of two states."""
+        """Makes an operation that leaves one file in one of two states if it is killed."""
         kind = self.chance.choices(["read", "write", "truncate", "sync", "close"], [10, 40, 10, 20, 20])[0]
         name = self.chance.choice(sorted(self.saved) or NAMES)
         self.pair(name)
@@ -125,21 +125,21 @@ class Files:
             self.close(name)
 
     def give_up(self):
-        """Closes what a kill has left, and takes the plain folder back to what was saved."""
+        """Closes the files that a kill has left open."""
         for name in list(self.open):
             for file in self.open.pop(name):
                 with contextlib.suppress(OSError):
                     os.close(file)
 
     def compare(self, is_killed):
-        """Both folders hold the same; behind a kill the mounted one holds what was saved, and the plain one is made so."""
+        """Compares both folders. After a kill the mounted one must have the saved bytes, and the plain one gets them."""
         same("names", sorted(os.listdir(self.mount)), sorted(self.saved))
         for name, saved in self.saved.items():
             with open(f"{self.mount}/{name}", "rb") as file:
                 found = file.read()
             wanted = [saved] + [self.held(name)] * (self.in_work == name)
             if found not in wanted:
-                raise Different(f"{name} {'behind a kill' if is_killed else ''}: {len(found)} bytes, and not one of {[len(it) for it in wanted]}")
+                raise Different(f"{name} {'after a kill' if is_killed else ''}: {len(found)} bytes, and not one of {[len(it) for it in wanted]}")
             self.saved[name] = found
             if is_killed:
                 with open(f"{self.plain}/{name}", "wb") as file:
@@ -148,7 +148,8 @@ class Files:
 
 
 def run(mounted, plain, count, seed):
-    """So many operations. Each 1,000 or so the program is killed: behind closes, amid all, or within a call; it is also unmounted."""
+    """Makes so many operations. After each 1,000 or so the program is killed, with all closed, with open files or within a call; or it is
+    unmounted."""
     chance, done, ends = random.Random(seed), 0, {"killed at rest": 0, "killed with open files": 0, "killed within calls": 0, "unmounted": 0}
     files = Files(mounted.folder, plain, chance)
     while done < count:

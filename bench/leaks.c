@@ -1,4 +1,4 @@
-/* Volumes and calls at random, refused ones too, and files and directories that are left open at an unmount: for valgrind.
+/* Volumes and random calls, also refused ones, and files and directories that are open at an unmount: for valgrind.
  *
  *   A="$(make -s -C bindings/c archives | sed 's#\.\./\.\./##')"
  *   gcc -g -Ibindings/c bench/leaks.c $A -o leaks && valgrind --leak-check=full --error-exitcode=1 ./leaks */

@@ -1,10 +1,10 @@
-// Calls of lfs.h at random, for drop_in.py, which builds this with littlefs's own code and with bindings/lfs: both have to print the same.
+// Random calls of lfs.h, for drop_in.py, which builds this with littlefs's own code and with bindings/lfs: both must print the same.
 //
 //   lfs_calls SEED CALLS IMAGE     writes the device to IMAGE at the end
 //
-// Left out is what differs by choice (bindings/lfs/lfs.h): a path that is open twice, an open file that is renamed or removed, an append
-// behind the end, a write of no bytes, a directory that is changed while it is read but by removing what was read, full devices, and a
-// directory as its own parent.
+// Differences by choice (bindings/lfs/lfs.h) are left out: a path that is open twice, an open file that is renamed or removed, an append
+// after the end, a write of no bytes, full devices, a directory as its own parent, and a directory that is changed while it is read,
+// unless an entry that was read is removed.
 #include HEADER
 #include <stdio.h>
 #include <stdlib.h>
@@ -34,7 +34,7 @@ static int program_device(const struct lfs_config *c, lfs_block_t block, lfs_off
 }
 
 static int erase_device(const struct lfs_config *c, lfs_block_t block) {
-    static unsigned kind; // and not by chance, since both call it another number of times
+    static unsigned kind; // not by chance, since the two call it different numbers of times
     (void)c;
     if (kind++ % 3) memset(device[block], kind % 3 == 1 ? 0xff : 0x5a, BLOCK);
     return 0;
@@ -83,7 +83,7 @@ static void some_plain_path(char *path) {
     else sprintf(path, "%s/%s", folders[below(FOLDERS)], names[below(NAMES)]);
 }
 
-// Another text for a path.
+// Another form of the same path.
 static void some_form(const char *path, char *form) {
     *form = 0;
     if (below(3) == 0) path++;
@@ -151,14 +151,14 @@ static void seek_slot(struct slot *s) {
     if ((s->flags & LFS_O_APPEND) && (whence == LFS_SEEK_SET ? off : whence == LFS_SEEK_CUR ? at + off : size + off) > size) return;
     int answer = lfs_file_seek(&lfs, &s->file, off, whence);
     printf("seek %d %d: %d, at %d\n", off, whence, answer, (int)lfs_file_tell(&lfs, &s->file));
-    // no file gets long
+    // keeps files short
     if (answer > 20000) printf("rewind: %d\n", lfs_file_rewind(&lfs, &s->file));
 }
 
 static void truncate_slot(struct slot *s) {
     if (!(s->flags & LFS_O_WRONLY)) return;
     uint32_t size = below(40) ? some_size() : 0x80000000u;
-    // an append behind the end is left out
+    // an append after the end is left out
     if ((s->flags & LFS_O_APPEND) && size < (uint32_t)lfs_file_tell(&lfs, &s->file)) return;
     int err = lfs_file_truncate(&lfs, &s->file, size);
     printf("truncate %u: %d, at %d of %d\n", (unsigned)size, err, (int)lfs_file_tell(&lfs, &s->file), (int)lfs_file_size(&lfs, &s->file));
@@ -281,7 +281,7 @@ static void use_entry(void) {
 static void mount_again(void) {
     struct lfs_config other = config;
     struct lfs_fsinfo info;
-    // what is open is lost at times
+    // sometimes files are left open, and their changes are lost
     for (int k = 0; k < SLOTS && below(2); k++)
         if (slots[k].is_open) close_slot(&slots[k]);
     for (int k = 0; k < SLOTS; k++) slots[k].is_open = 0;

@@ -1,7 +1,7 @@
-// What bindings/lfs does with a device that fails, for drop_in.py: a fixed work, in which each call of the device fails in turn.
+// bindings/lfs with a device that fails, for drop_in.py: a fixed list of steps, in which each call of the device fails in turn.
 //
-// Built with -Wl,--wrap=malloc,--wrap=calloc,--wrap=realloc and -DLFS_THREADSAFE. Prints how many faults there were, and fails where one is
-// not answered as lfs.h says: the call returns the error of the device; nothing is written after it; all else returns LFS_ERR_IO; a
+// Built with -Wl,--wrap=malloc,--wrap=calloc,--wrap=realloc and -DLFS_THREADSAFE. Prints how many faults there were. Fails if one isn't
+// handled as lfs.h says: the call returns the error of the device; nothing is written after it; all other calls return LFS_ERR_IO; a
 // new mount finds the tree from before that call or from after it.
 #include "lfs.h"
 #include <stdio.h>
@@ -14,7 +14,7 @@ enum { BLOCK = 1024, BLOCKS = 64, STEPS = 52, ERROR = -71 };
 
 static uint8_t device[BLOCKS][BLOCK], before_fault[BLOCKS][BLOCK];
 
-// which call of a kind goes wrong, counted from 1 on, and how
+// the kind of call that fails, how much of it is done, and how many calls of that kind are left until then
 static enum { NOTHING, READ, PROGRAM, ERASE, SYNC, LOCK, MEMORY } kind;
 static enum { NOT_DONE, HALF_DONE, DONE, DONE_WRONG } extent;
 static long left;
@@ -101,7 +101,7 @@ void *__wrap_malloc(size_t size) { return fails(MEMORY) ? NULL : __real_malloc(s
 void *__wrap_calloc(size_t count, size_t size) { return fails(MEMORY) ? NULL : __real_calloc(count, size); }
 void *__wrap_realloc(void *at, size_t size) { return fails(MEMORY) ? NULL : __real_realloc(at, size); }
 
-// ---- The work
+// ---- The steps
 
 static lfs_t lfs;
 static lfs_file_t one, other;
@@ -116,7 +116,7 @@ static int made(const char *path) {
     return err ? err : closed;
 }
 
-// A step of the work; what it returns below 0 is an error.
+// Takes a step. Returns an error below 0.
 static int take(int number) {
     char path[20];
     sprintf(path, "/n%02d", number % 20);
@@ -141,7 +141,7 @@ static int take(int number) {
 
 static int is_read_only(int number) { return number == 2 || number == 4 || number == 7 || number == 8; }
 
-// The files with their bytes, without the attribute of an open file, which is set after its contents.
+// The checksum of all files, without the attribute of an open file, which is set after its contents.
 static uint32_t tree(lfs_t *fs) {
     static const char *paths[] = {"/d", "/d/a", "/b", "/c"};
     uint32_t sum = 0xffffffff;
@@ -181,7 +181,7 @@ static void begin(void) {
     MUST(!lfs_format(&lfs, &config) && !lfs_mount(&lfs, &config));
 }
 
-static void work_well(int also_notes) {
+static void take_all(int also_notes) {
     begin();
     for (step = 0; step < STEPS; step++) {
         if (also_notes) trees[step] = found();
@@ -192,7 +192,7 @@ static void work_well(int also_notes) {
     MUST(trees[STEPS] == found());
 }
 
-// After an error of the device: nothing goes on.
+// After an error of the device no call works.
 static void look_at_end(void) {
     struct lfs_info info;
     lfs_dir_t dir;
@@ -208,7 +208,7 @@ static void look_at_end(void) {
     MUST(!memcmp(device, before_fault, sizeof device));
 }
 
-// The work with a fault. Returns whether it was met.
+// Takes all steps with a fault. Returns whether the fault happened.
 static int try_fault(int which, int how, long number) {
     begin();
     left = number;
@@ -223,7 +223,7 @@ static int try_fault(int which, int how, long number) {
         return 0;
     }
     if (which == MEMORY) MUST(answer == LFS_ERR_NOMEM || answer >= 0);
-    else if (how == DONE_WRONG) MUST(answer == LFS_ERR_CORRUPT || (answer == LFS_ERR_IO && erases != BLANK)); // a block that is made blank
+    else if (how == DONE_WRONG) MUST(answer == LFS_ERR_CORRUPT || (answer == LFS_ERR_IO && erases != BLANK)); // in a block that is made blank
     else MUST(answer == ERROR);
     if (which == PROGRAM || which == ERASE || which == SYNC) look_at_end();
     if (which == LOCK) MUST(take(step) >= 0);
@@ -241,7 +241,7 @@ static void try_faults(const char *name, int which, int how) {
     printf("%s: %ld\n", name, number - 1);
 }
 
-// Another one changes the device: that is seen before anything is written.
+// Another writer changes the device: that is noticed before anything is written.
 static void try_other_writer(void) {
     begin();
     MUST(!lfs_mkdir(&lfs, "/d"));
@@ -264,7 +264,7 @@ static void try_late_closes(void) {
     MUST(!lfs_unmount(&lfs) && lfs_stat(&lfs, "/a", &info) == LFS_ERR_BADF);
 }
 
-// What littlefs leaves open: files that share a path, and go with it; and which calls a file has.
+// Cases that littlefs leaves open: files that share a path, and follow its renames; and calls that a file isn't open for.
 static void try_shared_files(void) {
     lfs_file_t third;
     uint8_t room[8];
@@ -296,7 +296,7 @@ static void try_directories(void) {
     MUST(!lfs_unmount(&lfs));
 }
 
-// Settings that can't be had.
+// Settings that are refused.
 static void try_settings(void) {
     struct lfs_config good = config;
     lfs_t fs;
@@ -318,7 +318,7 @@ static void try_settings(void) {
 
 int main(void) {
     for (unsigned k = 0; k < sizeof bytes; k++) bytes[k] = (uint8_t)(k * 7 + k / 256);
-    for (erases = BLANK; erases < NOR; erases++) work_well(erases == BLANK);
+    for (erases = BLANK; erases < NOR; erases++) take_all(erases == BLANK);
     for (erases = BLANK; erases < NOR; erases++) {
         printf("an erase that %s\n", erases == BLANK ? "leaves 0xff" : erases == NOTHING_DONE ? "does nothing" : "leaves 0");
         try_faults(" program, not done", PROGRAM, NOT_DONE);

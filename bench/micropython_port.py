@@ -3,11 +3,11 @@
 
 usage: micropython_port.py SOURCE [--archives A,B] [--keep FOLDER] [--jobs N]
 
-SOURCE is MicroPython's source, as of Debian's source package micropython 1.26.1+ds (whose lib/littlefs is release 2.11); nothing in it is
+SOURCE is MicroPython's source, as of Debian's source package micropython 1.26.1+ds, whose lib/littlefs is release 2.11. Nothing in it is
 changed. A copy is built twice: as it is, and with bindings/lfs in place of lib/littlefs, whose names begin with lfs2 there. Each runs the
-tests vfs_lfs*.py and vfs_blockdev*.py. In three of them blocks have less than 1,024 bytes, which can't be had. Two of these are run with
-blocks of 1,024 bytes as well, in their half for littlefs 2. Prints a line for each test: what it does with littlefs, and with
-bindings/lfs. Fails where a test that passes with littlefs doesn't with bindings/lfs, but for those three.
+tests vfs_lfs*.py and vfs_blockdev*.py. Three of them have blocks of less than 1,024 bytes, which bindings/lfs refuses. Two of these
+also run with blocks of 1,024 bytes, in their half for littlefs 2. Prints a line for each test: whether it passes with littlefs, and with
+bindings/lfs. Fails if a test that passes with littlefs doesn't pass with bindings/lfs, but for those three.
 
 The archives are liblittlefs_c.a and the kit's liblibc_c.a; without `--archives` those that `make -C bindings/c archives` prints. It needs
 gcc, make and python3. With `--keep` both programs are left in FOLDER.
@@ -27,13 +27,13 @@ WITHOUT = ["MICROPY_PY_SSL=0", "MICROPY_PY_BTREE=0", "MICROPY_PY_FFI=0", "FROZEN
 
 
 def archives():
-    """What a program with bindings/lfs is linked with."""
+    """Returns the archives that a program with bindings/lfs is linked with."""
     words = subprocess.run(["make", "-s", "-C", f"{top}/bindings/c", "archives"], stdout=subprocess.PIPE, text=True, check=True).stdout.split()
     return [os.path.join(top, "bindings", "c", it) for it in words]
 
 
 def put_in_place(folder, prefix="lfs2"):
-    """Copies bindings/lfs to a folder, with names as MicroPython has them."""
+    """Copies bindings/lfs to a folder, with the names that MicroPython uses."""
     for name in ("lfs.c", "lfs.h", "lfs_util.c", "lfs_util.h"):
         with open(f"{top}/bindings/lfs/{name}", encoding="utf-8") as it:
             text = re.sub(r"\b(?:lfs|LFS)(?=_(?!c_|C_)|\b)", lambda found: prefix if found[0] == "lfs" else prefix.upper(), it.read()).replace('"../c/littlefs_c.h"', '"littlefs_c.h"')
@@ -43,7 +43,7 @@ def put_in_place(folder, prefix="lfs2"):
 
 
 def build(source, out, jobs, more=()):
-    """Builds the unix port, and answers the program's path."""
+    """Builds the unix port, and returns the program's path."""
     words = ["make", "-C", f"{source}/ports/unix", f"-j{jobs}", *WITHOUT, f"BUILD={out}", *more]
     run = subprocess.run(words, stdout=subprocess.PIPE, stderr=subprocess.STDOUT, text=True)
     if run.returncode:
@@ -52,7 +52,7 @@ def build(source, out, jobs, more=()):
 
 
 def enlarge_blocks(source, program):
-    """Tests with blocks of 1,024 bytes. What they are to print is what the program with littlefs does."""
+    """Adds tests with blocks of 1,024 bytes. Their expected output is that of the program with littlefs."""
     folder = f"{source}/tests/extmod"
     for name in ("vfs_blockdev", "vfs_blockdev_invalid"):
         with open(f"{folder}/{name}.py", encoding="utf-8") as it:
@@ -65,7 +65,7 @@ def enlarge_blocks(source, program):
 
 
 def outcomes(source, program, out):
-    """What each test does: pass, FAIL or skip."""
+    """Returns the outcome of each test: pass, FAIL or skip."""
     tests = [f"extmod/{name}" for name in sorted(os.listdir(f"{source}/tests/extmod")) if re.fullmatch(r"vfs_(?:lfs|blockdev).*\.py", name)]
     words = [sys.executable, "run-tests.py", "-j1", "-r", out, *tests]
     run = subprocess.run(words, cwd=f"{source}/tests", env={**os.environ, "MICROPY_MICROPYTHON": program}, stdout=subprocess.PIPE, text=True)

@@ -4,7 +4,7 @@
 usage: micropython_tests.py FOLDER
 
 FOLDER is tests/extmod of MicroPython's source, as of Debian's source package micropython; its tests are MIT-licensed, and stay there. Each
-vfs_lfs*.py is run by micropython_vfs.py, and what it prints compared with its .exp. The half for littlefs 1 is left out. Prints a line for
+vfs_lfs*.py runs in micropython_vfs.py, and its output is compared with its .exp. The half for littlefs 1 is left out. Prints a line for
 each test: that it passes, why it can't, or the first line that differs. Needs littlefs_c.so, as bindings.py does.
 """
 
@@ -22,7 +22,7 @@ OTHER_HALF = re.compile(r"^test\(.*vfs\.VfsLfs1\)$", re.M)
 
 
 def run(path):
-    """Runs a test, and prints what it prints."""
+    """Runs a test in this process, with its output."""
     import micropython_vfs
 
     with open(path, encoding="utf-8") as file:

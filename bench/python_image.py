@@ -1,15 +1,16 @@
 #!/usr/bin/env python3
-"""What bindings/python promises beside what bindings.py compares: each method's refusals, an end amid threads, and an installation.
+"""Promises of bindings/python that bindings.py doesn't compare: each method's refusals, closes during other calls, an installation.
 
 usage: python_image.py [--no-install]
 
 Needs littlefs_c.so (`rt lib` in crates/littlefs_c, `make` in bindings/c). In turn:
 
-- writes within a file and truncations, refused ones too, beside a plain bytearray; attributes, limits, superblocks and changed blocks;
-- each method with words of wrong types: each gives a `TypeError`, a `ValueError` or an `OSError`, and the image stays as it was;
-- each method of an image and of a file behind its end;
-- threads that read, write and close the same files and images: each call answers or raises, and nothing is lost or mixed up;
-- many images, which leave no memory behind, and the example;
+- writes within a file and truncations, also refused ones, compared with a plain bytearray; attributes, limits, superblocks and changed
+  blocks;
+- each method with arguments of wrong types: it raises a `TypeError`, a `ValueError` or an `OSError`, and the image stays as it was;
+- each method of an image and of a file after its close;
+- threads that read, write and close the same files and images: each call returns or raises, and no bytes are lost or mixed up;
+- many images, whose memory is freed, and the example;
 - a wheel, and `pip install` into an environment of its own, without and with the library.
 
 Prints a line for each. Fails at the first difference.
@@ -41,7 +42,7 @@ FILE_METHODS = {"read": 1, "readinto": 1, "write": 1, "seek": 2, "truncate": 1, 
 
 
 class Different(Exception):
-    """Something came that shouldn't."""
+    """Two results differ."""
 
 
 def same(what, got, wanted):
@@ -59,7 +60,7 @@ def raises(wanted, call, number=None):
 
 
 def within_files(count):
-    """Writes within a file are those of a bytearray, and a refused one changes nothing."""
+    """Compares writes within a file with those of a bytearray. A refused one changes nothing."""
     chance, refused = random.Random("within"), 0
     with Image.format(32 * 4096) as image:
         image.write("/f", b"")
@@ -122,7 +123,7 @@ def changed_blocks():
 
 
 def wrong_types(count):
-    """Words of any type give Python's exceptions, and a refused call changes nothing."""
+    """Arguments of any type raise Python's exceptions, and a refused call changes nothing."""
     chance, seen = random.Random("types"), {"answered": 0, "refused": 0}
     image = Image.format(64 * 4096)
     for number in range(count):
@@ -162,8 +163,8 @@ def wrong_types(count):
     return seen
 
 
-def behind_the_end():
-    """All methods of what is closed raise a ValueError."""
+def after_close():
+    """All methods of a closed image or file raise a ValueError."""
     image = Image.format(16 * 4096)
     image.write("/f", b"")
     raw, buffered, text = image.open("/f", "rb", buffering=0), image.open("/f", "rb"), image.open("/f")
@@ -182,7 +183,7 @@ def behind_the_end():
 
 
 def ends_amid_threads(rounds):
-    """Threads use files and an image while others close them: each call answers right, or raises."""
+    """Threads use files and an image while others close them: each call returns the right bytes, or raises."""
     failed, answered, refused = [], [0], [0]
 
     def work(image, name, file):
@@ -227,7 +228,7 @@ def ends_amid_threads(rounds):
 
 
 def memory():
-    """How many bytes 400 images and the refusals of 20,000 calls leave, behind as many before."""
+    """Returns how many bytes 400 images and 20,000 refused calls leave allocated, after as many before."""
 
     def work():
         for number in range(400):
@@ -269,7 +270,7 @@ def example():
 
 
 def installation():
-    """A wheel has the library, and pip installs it where nothing else is."""
+    """A wheel has the library, and pip installs it into an empty environment."""
     source = os.path.join(top, "bindings", "python")
     program = "import sys, littlefs_c; image = littlefs_c.Image.format(65536); image.write('/f', b'installed'); print(sys.prefix in littlefs_c.__file__, image.read('/f').decode())"
     with tempfile.TemporaryDirectory() as room:
@@ -293,10 +294,10 @@ def main():
     print("writes within a file: 300, refused", within_files(300))
     attributes_and_limits()
     print("changed blocks noted:", changed_blocks())
-    print("words of any type:", wrong_types(20000))
-    behind_the_end()
-    print("calls amid threads that end, answered and refused:", ends_amid_threads(60))
-    print("bytes that many images leave:", memory())
+    print("arguments of any type:", wrong_types(20000))
+    after_close()
+    print("calls during closes by other threads, returned and raised:", ends_amid_threads(60))
+    print("bytes that many images leave allocated:", memory())
     example()
     if not given.no_install:
         print("installed:", installation())

@@ -119,10 +119,10 @@ int64_t lfs_c_mkfs(lfs_c_volume *volume, const lfs_c_config *config, uint32_t bl
 /* Unmounts a volume and frees its memory. Returns 0, even if nothing is mounted. What an open file hasn't synced is lost. */
 int64_t lfs_c_unmount(lfs_c_volume *volume);
 
-/* Each call below returns NO_VOLUME if nothing is mounted, and NO_MEMORY if memory isn't granted. After NO_MEMORY either nothing has
- * changed, or the volume has failed: it returns FAILED to all but lfs_c_remount, lfs_c_image, lfs_c_image_part, lfs_c_is_writable,
- * lfs_c_note_changes, lfs_c_fetch_change, the calls of directory handles but lfs_c_dir_open and lfs_c_dir_rewind, and
- * lfs_c_unmount. */
+/* Each call below returns NO_VOLUME if nothing is mounted, and then leaves buffers and structs as they were. It returns NO_MEMORY if
+ * memory isn't granted. After NO_MEMORY either nothing has changed, or the volume has failed: it returns FAILED to all but
+ * lfs_c_remount, lfs_c_image, lfs_c_image_part, lfs_c_is_writable, lfs_c_note_changes, lfs_c_fetch_change, the calls of directory
+ * handles but lfs_c_dir_open and lfs_c_dir_rewind, and lfs_c_unmount. */
 
 /* Closes all files and directories, reads the image again and returns 0. What an open file hasn't synced is lost. */
 int64_t lfs_c_remount(lfs_c_volume *volume);

@@ -1,6 +1,6 @@
 // The changes of a volume's image, for C to make the same ones on a flash of its own.
 
-ghost use Rattle.std.specs.Prelude.{◌≡◌, ◌<◌, ◌^◌, IfSome, List};
+ghost use Rattle.std.specs.Prelude.{◌≡◌, ◌<◌, ◌^◌, IfNone, IfSome, List};
 ghost use Rattle.lfs_model.specs.session.History.{DeviceCall};
 ghost use Rattle.littlefs_c.specs.ChangeLog.{AreNoted, change_call, history_writes};
 ghost use Rattle.littlefs_c.specs.Fetches.{FetchesChange, IsFetchAnswer, IsChangeNumber, IsNextChange, IsShownChange, buffer_after_change, next_change_code, code_of_fetched};
@@ -154,7 +154,8 @@ pub extern "C" fn lfs_c_fetch_change(
     change: &mut ShownChange,
     buffer: &mut [u8],
 ) -> i64
-    ensures { CallsVolume (IsFetchAnswer number change.old change.new buffer.old buffer.new result) result volume.old.slot.mounted volume.new.slot.mounted }
+    ensures call { CallsVolume (IsFetchAnswer number change.old change.new buffer.old buffer.new result) result volume.old.slot.mounted volume.new.slot.mounted }
+    ensures closed { IfNone volume.old.slot.mounted ((change.new ≡ change.old) × (buffer.new ≡ buffer.old)) }
 {
     let Some(inner) = take_volume(alloc, volume) else {
         return CLOSED;

@@ -1,6 +1,6 @@
 // The calls about what is at a path.
 
-ghost use Rattle.std.specs.Prelude.{◌^◌, ◌<◌, IfOk};
+ghost use Rattle.std.specs.Prelude.{◌≡◌, ◌^◌, ◌<◌, IfNone, IfOk};
 ghost use Rattle.lfs_model.specs.session.Operations as ops;
 ghost use Rattle.lfs_volume.specs.Calls as calls;
 ghost use Rattle.littlefs_c.specs.Volumes.{CallsVolume, FillsWithLines, IsBytesCall, IsListCall, IsStatCall, IsUnitCall, IsUnitOperation};
@@ -60,7 +60,8 @@ pub extern "C" fn lfs_c_list_at(
     path: &[u8],
     buffer: &mut [u8],
 ) -> i64
-    ensures { CallsVolume (IsListCall path.now result buffer.old buffer.new) result volume.old.slot.mounted volume.new.slot.mounted }
+    ensures call { CallsVolume (IsListCall path.now result buffer.old buffer.new) result volume.old.slot.mounted volume.new.slot.mounted }
+    ensures closed { IfNone volume.old.slot.mounted (buffer.new ≡ buffer.old) }
 {
     let Some(mut inner) = take_volume(alloc, volume) else {
         return CLOSED;
@@ -137,7 +138,8 @@ pub extern "C" fn lfs_c_get_attr_at(
     kind: u8,
     buffer: &mut [u8],
 ) -> i64
-    ensures { CallsVolume (IsBytesCall (ops.GetAttr path.now kind) result buffer.old buffer.new) result volume.old.slot.mounted volume.new.slot.mounted }
+    ensures call { CallsVolume (IsBytesCall (ops.GetAttr path.now kind) result buffer.old buffer.new) result volume.old.slot.mounted volume.new.slot.mounted }
+    ensures closed { IfNone volume.old.slot.mounted (buffer.new ≡ buffer.old) }
 {
     let Some(mut inner) = take_volume(alloc, volume) else {
         return CLOSED;

@@ -8,6 +8,7 @@ mod codes;
 mod config;
 mod directories;
 mod entries;
+mod examples;
 mod handle;
 mod image;
 mod lines;

@@ -1,5 +1,6 @@
 // The calls about open directories.
 
+ghost use Rattle.std.specs.Prelude.{◌≡◌, IfNone};
 ghost use Rattle.littlefs_c.specs.Directories.{RewindsDirectory};
 ghost use Rattle.littlefs_c.specs.Volumes.{CallsVolume, IsDirClose, IsDirOpen, IsDirRead, IsDirRewind, IsDirSeek, IsDirTell};
 
@@ -49,7 +50,8 @@ pub extern "C" fn lfs_c_dir_read(
     entry: &mut ShownEntry,
     name: &mut [u8],
 ) -> i64
-    ensures { CallsVolume (IsDirRead dir entry.old entry.new name.old name.new result) result volume.old.slot.mounted volume.new.slot.mounted }
+    ensures call { CallsVolume (IsDirRead dir entry.old entry.new name.old name.new result) result volume.old.slot.mounted volume.new.slot.mounted }
+    ensures closed { IfNone volume.old.slot.mounted ((entry.new ≡ entry.old) × (name.new ≡ name.old)) }
 {
     let Some(mut inner) = take_volume(alloc, volume) else {
         return CLOSED;

@@ -1,6 +1,6 @@
 // The calls about open files.
 
-ghost use Rattle.std.specs.Prelude.{◌≡◌, ◌≤◌, ◌<◌, ◌^◌, IfOk, MatchResult, drop, length};
+ghost use Rattle.std.specs.Prelude.{◌≡◌, ◌≤◌, ◌<◌, ◌^◌, IfNone, IfOk, MatchResult, drop, length};
 ghost use Rattle.lfs_model.specs.session.Operations as ops;
 ghost use Rattle.lfs_volume.specs.Calls as calls;
 ghost use Rattle.lfs_volume.specs.VolumeCalls.{IsVolumeCall};
@@ -65,7 +65,8 @@ pub extern "C" fn lfs_c_file_read(
     file: u32,
     buffer: &mut [u8],
 ) -> i64
-    ensures { CallsVolume (IsReadCall file result buffer.old buffer.new) result volume.old.slot.mounted volume.new.slot.mounted }
+    ensures call { CallsVolume (IsReadCall file result buffer.old buffer.new) result volume.old.slot.mounted volume.new.slot.mounted }
+    ensures closed { IfNone volume.old.slot.mounted (buffer.new ≡ buffer.old) }
 {
     let Some(mut inner) = take_volume(alloc, volume) else {
         return CLOSED;

@@ -1,6 +1,6 @@
 // The calls about an image's superblock, and about why the image is read only.
 
-ghost use Rattle.std.specs.Prelude.{◌≡◌};
+ghost use Rattle.std.specs.Prelude.{◌≡◌, IfNone};
 ghost use Rattle.littlefs_c.specs.Superblocks.{IsReasonCall, IsSuperblockCall, IsWritableCall, ShowsReason, ShowsSuperblock, breach_number, limit_number, limit_value, shown_breach, shown_superblock};
 ghost use Rattle.littlefs_c.specs.Volumes.{CallsVolume};
 
@@ -69,7 +69,8 @@ pub extern "C" fn lfs_c_superblock(
     volume: &mut Handle,
     info: &mut ShownSuperblock,
 ) -> i64
-    ensures { CallsVolume (IsSuperblockCall info.old info.new result) result volume.old.slot.mounted volume.new.slot.mounted }
+    ensures call { CallsVolume (IsSuperblockCall info.old info.new result) result volume.old.slot.mounted volume.new.slot.mounted }
+    ensures closed { IfNone volume.old.slot.mounted (info.new ≡ info.old) }
 {
     let Some(mut inner) = take_volume(alloc, volume) else {
         return CLOSED;
@@ -186,7 +187,8 @@ pub extern "C" fn lfs_c_read_only_reason(
     volume: &mut Handle,
     breach: &mut ShownBreach,
 ) -> i64
-    ensures { CallsVolume (IsReasonCall breach.old breach.new result) result volume.old.slot.mounted volume.new.slot.mounted }
+    ensures call { CallsVolume (IsReasonCall breach.old breach.new result) result volume.old.slot.mounted volume.new.slot.mounted }
+    ensures closed { IfNone volume.old.slot.mounted (breach.new ≡ breach.old) }
 {
     let Some(mut inner) = take_volume(alloc, volume) else {
         return CLOSED;

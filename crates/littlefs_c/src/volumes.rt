@@ -1,6 +1,6 @@
 // The calls about a whole volume, and its image.
 
-ghost use Rattle.std.specs.Prelude.{◌^◌, ◌<◌};
+ghost use Rattle.std.specs.Prelude.{◌≡◌, ◌^◌, ◌<◌, IfNone};
 ghost use Rattle.lfs_model.specs.session.Operations as ops;
 ghost use Rattle.littlefs_c.specs.Volumes.{CallsVolume, CopiesImage, CopiesPart, FromSession, IsBoolCall, IsCountOperation, IsDiskImage, IsRemountCall, IsUnitOperation};
 
@@ -104,7 +104,8 @@ fn copy_image(volume: &Volume<HeldDevice>, buffer: &mut [u8]) -> usize
 /// 77 where nothing is mounted.
 #[unsafe(no_mangle)]
 pub extern "C" fn lfs_c_image(alloc: Global, volume: &mut Handle, buffer: &mut [u8]) -> i64
-    ensures { CallsVolume (FromSession (λ s room. CopiesImage s room buffer.old buffer.new) result) result volume.old.slot.mounted volume.new.slot.mounted }
+    ensures call { CallsVolume (FromSession (λ s room. CopiesImage s room buffer.old buffer.new) result) result volume.old.slot.mounted volume.new.slot.mounted }
+    ensures closed { IfNone volume.old.slot.mounted (buffer.new ≡ buffer.old) }
 {
     let Some(inner) = take_volume(alloc, volume) else {
         return CLOSED;
@@ -135,7 +136,8 @@ pub extern "C" fn lfs_c_image_part(
     offset: usize,
     buffer: &mut [u8],
 ) -> i64
-    ensures { CallsVolume (FromSession (λ s count. CopiesPart s offset count buffer.old buffer.new) result) result volume.old.slot.mounted volume.new.slot.mounted }
+    ensures call { CallsVolume (FromSession (λ s count. CopiesPart s offset count buffer.old buffer.new) result) result volume.old.slot.mounted volume.new.slot.mounted }
+    ensures closed { IfNone volume.old.slot.mounted (buffer.new ≡ buffer.old) }
 {
     let Some(inner) = take_volume(alloc, volume) else {
         return CLOSED;

@@ -1,0 +1,19 @@
+// What a call returns and leaves if nothing is mounted, by examples.
+
+ghost use Rattle.std.specs.Prelude.{◌≡◌, ◌∷◌, [], IfNone, None, Some, pos, ⊤};
+ghost use Rattle.littlefs_c.specs.Volumes.{CallsVolume, closed_code};
+ghost use Rattle.littlefs_c.specs.declared.mounted.Mounted.{Mounted};
+
+/// If nothing is mounted, a call has the code of that. No other code, and no volume after the call,
+/// meets the clause.
+pub fn closed_handle_has_one_code()
+    ensures code { CallsVolume (λ old new. ⊥) closed_code None None }
+    ensures other_code { CallsVolume (λ old new. ⊥) (pos 0) None None → ⊥ }
+    ensures volume_after { (m : Mounted) → CallsVolume (λ old new. ⊤) closed_code None (Some m) → ⊥ }
+{}
+
+/// If nothing is mounted, a buffer is as it was. One that got a byte doesn't meet the clause.
+pub fn closed_handle_keeps_buffer()
+    ensures kept { IfNone {T = Mounted} None (0 ∷ [] ≡ 0 ∷ []) }
+    ensures filled { IfNone {T = Mounted} None (1 ∷ [] ≡ 0 ∷ []) → ⊥ }
+{}

@@ -35,7 +35,7 @@ def arguments(words):
 
 
 def take_option(parser, given, word):
-    """Sets an option of this program that stands behind -o, or answers one of FUSE's."""
+    """Sets an option of this program that follows -o, or returns one of FUSE's."""
     name, has_value, value = word.partition("=")
     if name in ("also_2.1", "also_2_1"):
         given.also_2_1 = True
@@ -84,7 +84,7 @@ def opened(image_file, given):
 
 
 def main(words=None):
-    """Mounts the folder, and answers the program's status, or what it says on its end."""
+    """Mounts the folder, and returns the program's status, or its last message."""
     given = arguments(words)
     try:
         from folder import Folder, mount

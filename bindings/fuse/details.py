@@ -39,12 +39,12 @@ class Details:
             self._image.setattr(path, kind, data)
 
     def time(self, path: bytes) -> int:
-        """When an entry was changed, in nanoseconds: when the image's file was, if it isn't said."""
+        """Returns when an entry was changed, in nanoseconds; without a time of its own, when the image's file was."""
         data = self._get(path, TIME)
         return int.from_bytes(data, "little") if data and len(data) == 8 else self._begun
 
     def set_time(self, path: bytes, time: int) -> None:
-        """Says when an entry was changed."""
+        """Stores when an entry was changed."""
         self._set(path, TIME, min(max(time, 0), 2**64 - 1).to_bytes(8, "little"))
 
     def note_time(self, path: bytes, time: int) -> None:
@@ -56,12 +56,12 @@ class Details:
                 raise
 
     def mode(self, path: bytes, is_directory: bool) -> int:
-        """An entry's permissions."""
+        """Returns an entry's permissions."""
         data = self._get(path, MODE)
         return int.from_bytes(data, "little") if data and len(data) == 2 else USUAL[is_directory]
 
     def set_mode(self, path: bytes, mode: int, is_directory: bool) -> None:
-        """Gives an entry permissions."""
+        """Sets an entry's permissions."""
         if mode & 0o7777 != USUAL[is_directory] or path == ROOT:
             self._set(path, MODE, (mode & 0o7777).to_bytes(2, "little"))
         elif self._get(path, MODE) is not None:
@@ -75,18 +75,18 @@ class Attributes:
         self._image = image
 
     def names(self, path: bytes) -> list[str]:
-        """The names of an entry's attributes."""
+        """Returns the names of an entry's attributes."""
         return [] if path == ROOT else [f"user.lfs.{kind}" for kind in self._image.attributes(path)]
 
     def get(self, path: bytes, name: bytes) -> bytes:
-        """An attribute's bytes."""
+        """Returns an attribute's bytes."""
         kind = _kind(name)
         if kind is None or path == ROOT:
             raise OSError(errno.ENODATA, os.strerror(errno.ENODATA))
         return self._image.getattr(path, kind)
 
     def set(self, path: bytes, name: bytes, data: bytes, flags: int) -> None:
-        """Gives an entry an attribute: a new one, or one that is there, where the flags say so."""
+        """Sets an attribute of an entry: a new one or an existing one, if the flags say so."""
         kind = _kind(name)
         if kind is None or path == ROOT:
             raise OSError(errno.ENOTSUP, os.strerror(errno.ENOTSUP))
@@ -100,7 +100,7 @@ class Attributes:
         self._image.setattr(path, kind, data)
 
     def remove(self, path: bytes, name: bytes) -> None:
-        """Takes an attribute."""
+        """Removes an attribute."""
         kind = _kind(name)
         if kind is None or path == ROOT:
             raise OSError(errno.ENODATA, os.strerror(errno.ENODATA))

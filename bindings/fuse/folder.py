@@ -1,4 +1,4 @@
-"""An image as a folder: what the system asks of a mounted folder, over an `Image`."""
+"""An image as a folder: the operations of FUSE, over an `Image`."""
 
 from __future__ import annotations
 
@@ -25,8 +25,8 @@ NAMES_AS_BYTES = "latin-1"  # so each byte of a name is a letter for fusepy
 
 
 class Folder(Operations):
-    """The operations of a mounted folder. `save_at` says when changes come to the image's file: at each close of a file and within
-    a second else, at each sync, or at the end. A sync always brings them there."""
+    """The operations of a mounted folder. `save_at` says when changes are written to the image's file: at each close of a file and
+    otherwise within a second, at each sync, or at the end. A sync always writes them."""
 
     use_ns = True
     flag_nullpath_ok = 1  # a file that is removed while it is open has no path
@@ -49,7 +49,7 @@ class Folder(Operations):
                 raise OSError(FOR_SYSTEM.get(error.errno, error.errno or errno.EIO), str(error)) from error
 
     def _mend(self):
-        """Reads the image again where a want of memory has made the volume fail. What wasn't saved is lost then."""
+        """Reads the image again if the volume has failed for want of memory. What wasn't saved is lost."""
         try:
             self.image.used()
         except OSError:
@@ -77,7 +77,7 @@ class Folder(Operations):
             self._is_changed = False
 
     def _saved(self, was_changed):
-        """What follows the end of a file's changes."""
+        """Saves the image after the last change of a file, if that is wanted."""
         self._is_changed |= was_changed
         if self._save_at == "close":
             self._save(is_durable=False)
@@ -208,7 +208,7 @@ class Folder(Operations):
         return len(data)
 
     def _grow(self, handle, size):
-        """Refuses a size for which there is no room, where the volume would refuse it at a sync alone."""
+        """Refuses a size for which there is no room. The volume would refuse it only at a sync."""
         if size > self.image.limits.file_max:
             raise OSError(errno.EFBIG, os.strerror(errno.EFBIG))
         if size > handle.size():

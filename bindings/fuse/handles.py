@@ -1,4 +1,4 @@
-"""Files that are open in the folder: handles of the image's volume, which has their contents, and the times of their last changes."""
+"""Files that are open in the folder: handles of the image's volume, and the times of their last changes."""
 
 from __future__ import annotations
 
@@ -32,7 +32,7 @@ class Handle:
         return self.image._call(name, [], self.number, *words)
 
     def size(self) -> int:
-        """How many bytes the file has, with what isn't saved."""
+        """Returns how many bytes the file has, with what isn't saved."""
         return self._call("file_size")
 
     def read(self, offset: int, count: int) -> bytes:
@@ -47,7 +47,7 @@ class Handle:
         self.file.time = time
 
     def truncate(self, size: int, time: int) -> None:
-        """Cuts the file, or fills it up with zeros."""
+        """Truncates the file, or extends it with zeros."""
         self._call("file_truncate", size)
         self.file.time = time
 
@@ -62,7 +62,7 @@ class Handles:
         self._numbers = itertools.count(1)
 
     def open(self, path: bytes, is_written: bool, is_new: bool = False) -> int:
-        """Opens a file, and answers its number."""
+        """Opens a file, and returns its number."""
         flags = READ | WRITE * is_written | CREATE * is_new
         number = self._image._call("open", [path], *readable(path), flags)
         file = self._files.setdefault(path, OpenFile(path))
@@ -72,17 +72,17 @@ class Handles:
         return known
 
     def handle(self, number: int) -> Handle:
-        """The handle of that number. One that a want of memory has closed is refused."""
+        """Returns the handle of that number. Refuses one that a remount has closed."""
         if number not in self._handles:
             raise OSError(errno.EIO, os.strerror(errno.EIO))
         return self._handles[number]
 
     def at(self, path: Optional[bytes]) -> Optional[Handle]:
-        """A handle on the open file at that path, or None."""
+        """Returns a handle on the open file at that path, or None."""
         return next((it for it in self._handles.values() if path is not None and it.file.path == path), None)
 
     def save(self, number: int) -> bool:
-        """Brings the changes of a file into the image, and answers whether there were any."""
+        """Syncs a file to the image, and returns whether it had changes."""
         handle = self.handle(number)
         handle._call("file_sync")
         return self._note_time(handle.file)
@@ -94,7 +94,7 @@ class Handles:
         return time is not None
 
     def close(self, number: int) -> bool:
-        """Saves a file and closes it, and answers whether there was something to save."""
+        """Syncs and closes a file, and returns whether it had changes."""
         handle = self.handle(number)
         del self._handles[number]
         file = handle.file
@@ -105,23 +105,23 @@ class Handles:
         return self._note_time(file)
 
     def save_all(self) -> None:
-        """Saves each file."""
+        """Syncs each file."""
         for number in self._handles:
             self.save(number)
 
     def lost(self) -> None:
-        """Says that a remount has closed all handles, with what wasn't saved."""
+        """Drops all handles: a remount has closed them."""
         self._handles.clear()
         self._files.clear()
 
     def removed(self, path: bytes) -> None:
-        """Says that a path is gone. A file that is open there is kept until it is closed."""
+        """Notes that a path is gone. A file that is open there stays until it is closed."""
         file = self._files.pop(path, None)
         if file:
             file.path = None
 
     def renamed(self, old: bytes, new: bytes) -> None:
-        """Says that an entry has another path, and what is beneath it, too."""
+        """Notes the new path of an entry and of all beneath it."""
         self.removed(new)
         for path in list(self._files):
             if path == old or path.startswith(old + b"/"):

@@ -41,12 +41,12 @@ class ImageFile:
         return here
 
     def read(self, size: int | None = None) -> bytes:
-        """The first bytes of the file, all of them without a size."""
+        """Returns the first bytes of the file, or all of them without a size."""
         with open(self.path, "rb") as file:
             return file.read() if size is None else file.read(size)
 
     def begin(self, image) -> None:
-        """Says which image the file has. What is behind it in the file stays as it is."""
+        """Notes which image the file has. What follows it in the file stays as it is."""
         image.changed_blocks()
         if image.changed_blocks() is None:
             self._shown, self._room = _pieces(image), _pieces(image)
@@ -55,7 +55,7 @@ class ImageFile:
             self._tail = file.read()
 
     def save(self, image, is_durable: bool) -> None:
-        """Gives the path an image's bytes. They are on the disk then if that is asked for."""
+        """Puts an image's bytes at the path, and on the disk if that is asked for."""
         changed = self._changed(image)
         if changed or self._is_lost:
             try:
@@ -77,7 +77,7 @@ class ImageFile:
         os.close(self._here)
 
     def _changed(self, image) -> set[int]:
-        """The blocks that the image has otherwise than at the last save: as it notes them, or else by a look at all of them."""
+        """Returns the blocks that have changed since the last save: as the image notes them, or by a comparison of all."""
         changed = image.changed_blocks()
         if changed is not None:
             return changed
@@ -157,12 +157,12 @@ def _write_at(file: int, data: bytes, at: int) -> None:
 
 
 def _step(block_size: int) -> int:
-    """How many bytes are looked at together: some blocks."""
+    """Returns how many bytes are compared at a time: some blocks."""
     return max(PIECE // block_size, 1) * block_size
 
 
 def _pieces(image) -> list[bytearray]:
-    """The bytes of an image, in pieces."""
+    """Yields the bytes of an image in pieces."""
     size, step = image.block_count * image.block_size, _step(image.block_size)
     pieces = [bytearray(min(step, size - at)) for at in range(0, size, step)]
     _fill(image, pieces)
@@ -175,6 +175,6 @@ def _fill(image, pieces: list[bytearray]) -> None:
 
 
 def _differing(new: bytearray, old: bytearray, piece: int, size: int) -> list[int]:
-    """The blocks in which a piece differs."""
+    """Returns the blocks in which a piece differs."""
     first = piece * _step(size) // size
     return [first + at // size for at in range(0, len(new), size) if new[at : at + size] != old[at : at + size]]

@@ -34,7 +34,7 @@ Tag: {}
 
 
 def files_of_wheel(library, tag, licences):
-    """The bytes of each file of the wheel, by its name there."""
+    """Returns the bytes of each file of the wheel by its name there."""
     if not library.exists():
         sys.exit(f"{library} isn't there: run `rt lib` in crates/littlefs_c and `make` in bindings/c")
     package = HERE / NAME
@@ -50,12 +50,12 @@ def line_of_record(name, data):
 
 
 def build_wheel(folder, config_settings=None, metadata_directory=None):
-    """Writes the wheel to a folder, and answers its name: what pip calls."""
+    """Writes the wheel to a folder, and returns its name. pip calls this."""
     return write_wheel(folder, LIBRARY, TAG)
 
 
 def write_wheel(folder, library, tag, licences=LICENCE.read_text()):
-    """Writes a wheel with a library, for the machines of a tag, and answers its name."""
+    """Writes a wheel with a library, for the machines of a tag, and returns its name."""
     files = files_of_wheel(library, tag, licences)
     record = f"{NAME}-{VERSION}.dist-info/RECORD"
     files[record] = ("".join(line_of_record(*it) for it in files.items()) + f"{record},,\n").encode()

@@ -1,4 +1,4 @@
-"""Open files of an image, as those of the module io."""
+"""Open files of an image, in the manner of the module io."""
 
 from __future__ import annotations
 
@@ -33,7 +33,7 @@ class File(io.RawIOBase):
                 self.seek(0, io.SEEK_END)
 
     def _is_open(self) -> bool:
-        """Whether the file is open. Its number holds until a remount."""
+        """Returns whether the file is open. Its number is good until a remount."""
         return self._number is not None and self._mount == self._image._mount
 
     def _call(self, name: str, *more: Any) -> int:
@@ -52,7 +52,7 @@ class File(io.RawIOBase):
         return True
 
     def readinto(self, buffer: Any) -> int:
-        """Reads bytes into a buffer, and answers how many: fewer than it has where the file ends."""
+        """Reads bytes into a buffer and returns how many: fewer than its size if the file ends."""
         if not self.readable():
             raise io.UnsupportedOperation("not readable")
         return self._call("file_read", *writable(buffer))
@@ -66,13 +66,13 @@ class File(io.RawIOBase):
             return bytes(memoryview(buffer)[: self.readinto(buffer)])
 
     def write(self, data: Any) -> int:
-        """Writes all of the bytes at the position, or at the end of a file that is appended to, and answers how many they are."""
+        """Writes all bytes at the position, or at the end in append mode, and returns how many they are."""
         if not self.writable():
             raise io.UnsupportedOperation("not writable")
         return self._call("file_write", *readable(data))
 
     def seek(self, offset: int, whence: int = io.SEEK_SET) -> int:
-        """Sets the position, and answers it. It may be behind the end."""
+        """Sets the position and returns it. It may be past the end."""
         with self._image._lock:
             if whence not in (io.SEEK_SET, io.SEEK_CUR, io.SEEK_END):
                 raise ValueError(f"whence is 0, 1 or 2: {whence!r}")
@@ -85,7 +85,7 @@ class File(io.RawIOBase):
         return self._call("file_tell")
 
     def truncate(self, size: Optional[int] = None) -> int:
-        """Gives the file so many bytes, those up to its position where no number is given. The position stays."""
+        """Truncates the file, or extends it with zeros, to a size; without one, to its position. The position stays."""
         if not self.writable():
             raise io.UnsupportedOperation("not writable")
         with self._image._lock:
@@ -94,11 +94,11 @@ class File(io.RawIOBase):
         return size
 
     def sync(self) -> None:
-        """Commits what was written. Flush a buffer above it first."""
+        """Commits what was written. Flush a buffer above this file first."""
         self._call("file_sync")
 
     def close(self) -> None:
-        """Commits what was written, and closes the file, also where the commit is refused."""
+        """Commits what was written and closes the file, even if the commit is refused."""
         with self._image._lock:
             is_open, number = self._is_open(), self._number
             self._number = None

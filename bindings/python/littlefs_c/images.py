@@ -19,7 +19,7 @@ ATTR_ROOM = 1024  # more than an attribute has
 
 
 class Entry(NamedTuple):
-    """What is in a directory, as of `os.scandir`."""
+    """An entry of a directory, as from `os.scandir`."""
 
     name: str
     path: str
@@ -48,8 +48,8 @@ LARGEST = Limits(255, 2147483647, 1022, 1022)  # littlefs's own
 
 
 class Image:
-    """An image in memory that is mounted, until it is closed. A refused call leaves it as it was. Several threads may use it: one
-    at a time is in a call."""
+    """An image in memory, mounted until it is closed. A refused call leaves it as it was. Threads may share it: their calls take
+    turns."""
 
     def __init__(self, data: Any, block_size: int = 4096, page: Optional[int] = None, *, also_2_1: bool = False, name_max: int = 255,
                  file_max: int = 2147483647, attr_max: int = 1022, inline_max: int = 1022, pair_cycles: int = 0):
@@ -64,7 +64,7 @@ class Image:
     def format(cls, size: int, block_size: int = 4096, page: Optional[int] = None, order: int = LONGER_FIRST, *, also_2_1: bool = False,
                name_max: int = 255, file_max: int = 2147483647, attr_max: int = 1022, inline_max: int = 1022,
                pair_cycles: int = 0) -> Image:
-        """An empty image of so many bytes. littlefs's own code reads those whose order is `LONGER_FIRST`."""
+        """Returns an empty image of `size` bytes. littlefs's own code reads images whose order is `LONGER_FIRST`."""
         image = cls.__new__(cls)
         numbers = order, int(also_2_1), name_max, file_max, attr_max, inline_max, pair_cycles
         image._begin(None, size, (block_size, page, *numbers))
@@ -73,8 +73,8 @@ class Image:
     @classmethod
     def by_superblock(cls, data: Any, page: Optional[int] = None, *, also_2_1: bool = False, inline_max: int = LARGEST.inline_max,
                       pair_cycles: int = 0) -> Image:
-        """Mounts a copy of an image by the sizes and limits that are in its superblock. Bytes behind the image are left out. Raises an
-        `OSError` with the number 84 where no superblock is found."""
+        """Mounts a copy of an image by the sizes and limits that are in its superblock. Bytes after the image are ignored. Raises an
+        `OSError` with the number 84 if no superblock is found."""
         found = superblock(data)
         if found is None:
             raise refusal(CORRUPT)
@@ -101,7 +101,7 @@ class Image:
             raise refusal(-answer)
 
     def _ask(self, name: str, *more: Any) -> int:
-        """What a call of the volume answers: an error as minus its number."""
+        """Returns the result of a call of the volume: an error as minus its number."""
         with self._lock:
             if not self._handle.is_open:
                 raise ValueError("the image is closed")
@@ -117,7 +117,7 @@ class Image:
         return self._call(name + "_at", [path], *readable(path_bytes(path)), *more)
 
     def _whole_answer(self, name: str, path: PathName, *more: Any) -> bytes:
-        """What a call puts into a buffer, once it is told how much room that wants."""
+        """Returns all bytes that a call writes to a buffer, which grows as the call asks."""
         size = 2048
         while True:
             buffer = ctypes.create_string_buffer(size)
@@ -140,11 +140,11 @@ class Image:
 
     @property
     def block_count(self) -> int:
-        """How many blocks the image has. `used` says how many of them are in use."""
+        """The number of blocks. `used` returns how many of them are in use."""
         return self._size // self.block_size
 
     def close(self) -> None:
-        """Closes the open files, as `close` of each does, and frees the image. Nothing but `close` and `closed` may follow."""
+        """Closes the open files, as `close` of each does, and frees the image. After it only `close` and `closed` work."""
         with contextlib.ExitStack() as stack:
             stack.callback(self._end)
             # without the lock, since a file's buffer has one that is taken before it
@@ -172,21 +172,21 @@ class Image:
         return f"<{type(self).__name__} of {self._size} bytes{', closed' * self.closed}>"
 
     def __bytes__(self) -> bytes:
-        """The bytes of the image. What an open file hasn't synced isn't in them."""
+        """Returns the bytes of the image, without what open files haven't synced."""
         return self.part(0, self._size)
 
     def part(self, offset: int, count: int) -> bytes:
-        """At most `count` bytes of the image from an offset on."""
+        """Returns at most `count` bytes of the image from an offset on."""
         buffer = bytearray(min(in_range(count, 64, "count"), max(self._size - in_range(offset, 64, "offset"), 0)))
         return bytes(memoryview(buffer)[: self.part_into(offset, buffer)])
 
     def part_into(self, offset: int, buffer: Any) -> int:
-        """Writes the bytes of the image from an offset on to a buffer, and answers how many they are."""
+        """Writes the bytes of the image from an offset on to a buffer, and returns how many they are."""
         return self._call("image_part", [], in_range(offset, 64, "offset"), *writable(buffer))
 
     def changed_blocks(self) -> Optional[set[int]]:
-        """The blocks that were changed since the last such call, or None where that isn't known: at the first one, and where memory was
-        wanting."""
+        """Returns the blocks that have changed since the last such call, or None if that isn't known: at the first call, and if memory
+        ran out."""
         with self._lock:
             self.__enter__()
             found, change = set(), Change()
@@ -200,7 +200,7 @@ class Image:
             return None
 
     def check(self) -> None:
-        """Nothing, where a mount accepts the image as it is now. Raises as `Image(..)` else."""
+        """Mounts the image as it is now a second time, and raises what `Image(..)` raises if that is refused."""
         handle, data = Handle(None, 0), bytes(self)
         answer = self._calls["mount"](handle, self._config, data, len(data))
         self._calls["unmount"](handle)
@@ -208,24 +208,24 @@ class Image:
             raise refusal(-answer)
 
     def remount(self) -> None:
-        """Closes all files without saving them, and reads the image anew."""
+        """Closes all files without saving them, and reads the image again."""
         with self._lock:
             self._call("remount", [])
             self._mount += 1
             self._raws.clear()
 
     def recover(self) -> None:
-        """Ends what a loss of power left. Each call that changes the image does so first."""
+        """Completes or undoes what a loss of power left. Each call that changes the image does so first."""
         self._call("recover", [])
 
     def used(self) -> int:
-        """How many blocks the image uses."""
+        """Returns how many blocks the image uses."""
         return self._call("used_blocks", [])
 
     # ---- directories
 
     def items(self, path: PathName = "/") -> list[tuple[bytes, Optional[int]]]:
-        """Pairs of a name in bytes and a file's size, or None for a directory, in name order."""
+        """Returns a pair for each entry: its name in bytes, and a file's size or None for a directory. In name order."""
         found = []
         for line in self._whole_answer("list", path).splitlines():
             kind, size, name = line.split(b" ", 2)
@@ -235,16 +235,16 @@ class Image:
         return found
 
     def scandir(self, path: PathName = "/") -> Iterator[Entry]:
-        """The entries of a directory with their sizes, in name order."""
+        """Yields the entries of a directory with their sizes, in name order."""
         above = path_text(path_bytes(path)).rstrip("/")
         return iter([Entry(path_text(name), f"{above}/{path_text(name)}", size) for name, size in self.items(path)])
 
     def listdir(self, path: PathName = "/") -> list[str]:
-        """The names in a directory, in order."""
+        """Returns the names in a directory, in order."""
         return [path_text(name) for name, _ in self.items(path)]
 
     def walk(self, path: PathName = "/") -> Iterator[tuple[str, list[str], list[str]]]:
-        """Triples of a directory's path, the names of the directories in it and those of its files, as `os.walk` from the top."""
+        """Yields for each directory its path, the names of its directories and those of its files, as `os.walk` does from the top."""
         entries = list(self.scandir(path))
         folders = [entry.name for entry in entries if entry.is_dir()]
         path = path_text(path_bytes(path))
@@ -257,7 +257,7 @@ class Image:
         self._at("mkdir", path)
 
     def makedirs(self, path: PathName, exist_ok: bool = False) -> None:
-        """Makes a directory, and those above it that aren't there."""
+        """Makes a directory, and those above it that don't exist."""
         with self._lock:
             name = path_bytes(path)
             for end in [at for at in range(1, len(name)) if name[at : at + 1] == b"/"]:
@@ -269,20 +269,20 @@ class Image:
     # ---- entries
 
     def stat(self, path: PathName) -> Optional[int]:
-        """A file's size in bytes, or None for a directory. Of a file that is written it is the size at its last sync."""
+        """Returns a file's size in bytes, or None for a directory. A file that is being written has the size of its last sync."""
         answer = self._at("stat", path)
         return None if answer == DIRECTORY else answer
 
     def exists(self, path: PathName) -> bool:
-        """Whether something is at a path."""
+        """Returns whether a file or directory is at a path."""
         return self._kind(path) != ""
 
     def is_dir(self, path: PathName) -> bool:
-        """Whether a directory is at a path."""
+        """Returns whether a directory is at a path."""
         return self._kind(path) == "directory"
 
     def is_file(self, path: PathName) -> bool:
-        """Whether a file is at a path."""
+        """Returns whether a file is at a path."""
         return self._kind(path) == "file"
 
     def _kind(self, path: PathName) -> str:
@@ -292,27 +292,27 @@ class Image:
             return ""
 
     def remove(self, path: PathName) -> None:
-        """Removes a file or an empty directory. A file that is open can still be read and written; nothing of it is stored."""
+        """Removes a file or an empty directory. A file that is open can still be read and written, but is never stored."""
         self._at("remove", path)
 
     def rename(self, old: PathName, new: PathName) -> None:
-        """Gives an entry another path, in place of a file or an empty directory there. Open files go with it."""
+        """Renames or moves an entry, and replaces a file or an empty directory at the new path. Open files go with it."""
         self._call("rename_at", [old, new], *readable(path_bytes(old)), *readable(path_bytes(new)))
 
     def getattr(self, path: PathName, kind: int) -> bytes:
-        """The bytes of an entry's attribute, whose type is from 0 to 255."""
+        """Returns the bytes of an entry's attribute. Its type is 0 to 255."""
         return self._whole_answer("get_attr", path, in_range(kind, 8, "kind"))
 
     def setattr(self, path: PathName, kind: int, data: Any) -> None:
-        """Gives an entry an attribute, in place of the one of that type."""
+        """Sets an attribute of an entry, and replaces the one of that type."""
         self._at("set_attr", path, in_range(kind, 8, "kind"), *readable(data))
 
     def removeattr(self, path: PathName, kind: int) -> None:
-        """Takes an attribute from an entry."""
+        """Removes an attribute of an entry."""
         self._at("remove_attr", path, in_range(kind, 8, "kind"))
 
     def attributes(self, path: PathName) -> dict[int, bytes]:
-        """All attributes of an entry, by their types."""
+        """Returns all attributes of an entry by their types."""
         found, name, buffer = {}, readable(path_bytes(path)), ctypes.create_string_buffer(ATTR_ROOM)
         with self._lock:
             for kind in range(256):
@@ -327,8 +327,8 @@ class Image:
 
     def open(self, path: PathName, mode: str = "r", buffering: int = -1, encoding: Optional[str] = None, errors: Optional[str] = None,
              newline: Optional[str] = None) -> IO[Any]:
-        """A file object, as of the builtin `open`: mode r, w, a or x, with + for reading and writing both, and with b for bytes; without
-        it for text, in UTF-8 where no encoding is given. Any number of files may be open, also several times."""
+        """Opens a file, as the builtin `open` does: mode r, w, a or x, with + for both reading and writing, and with b for bytes.
+        Without b it is text, in UTF-8 unless an encoding is given. Any number of files may be open, also several times."""
         kinds = [letter for letter in mode if letter in "rwax"]
         kind = "".join(kinds) + "+" * ("+" in mode)
         if kind not in MODES or not set(mode) <= set("rwax+bt") or len(set(mode)) < len(mode) or {"b", "t"} <= set(mode):
@@ -352,24 +352,24 @@ class Image:
         return file
 
     def read(self, path: PathName, position: int = 0, count: Optional[int] = None) -> bytes:
-        """A file's bytes from a position on, at most so many where that is given."""
+        """Returns a file's bytes from a position on, at most `count` of them if that is given."""
         with self._lock:
             with File(self, path, "r") as file:
                 file.seek(position)
                 return file.readall() if count is None else file.read(in_range(count, 32, "count"))
 
     def write(self, path: PathName, data: Any) -> None:
-        """Makes a file with these bytes, or gives the one there these in place of its own. A refusal leaves the tree as it was."""
+        """Makes a file of these bytes, or replaces the contents of the one there. A refusal leaves the tree as it was."""
         data, size = readable(data)
         self._put(path, WRITE | CREATE, 0, data, size)
 
     def write_at(self, path: PathName, position: int, data: Any, size: Optional[int] = None) -> None:
-        """Writes bytes into a file from a position on, and gives the file `size` bytes then, if that is given. What else is in it
-        stays. A refusal leaves the tree as it was."""
+        """Writes bytes into a file from a position on. After that truncates or extends the file to `size` bytes, if that is given. Its
+        other bytes stay. A refusal leaves the tree as it was."""
         self._put(path, WRITE, in_range(position, 32, "position"), data, size)
 
     def truncate(self, path: PathName, size: int) -> None:
-        """Gives a file so many bytes: it is cut, or zeros fill it up."""
+        """Truncates a file to a size, or extends it with zeros."""
         self._put(path, WRITE, 0, b"", size)
 
     def _put(self, path: PathName, flags: int, position: int, data: Any, size: Optional[int]) -> None:
@@ -391,8 +391,7 @@ class Image:
                 raise
 
     def _forget(self, file: File, is_new: int, error: BaseException) -> None:
-        """Takes a file back that couldn't be written. One that is new is removed. Where memory was wanting, only a remount forgets what
-        isn't saved."""
+        """Undoes a write that failed: a new file is removed. If memory ran out, only a remount drops what isn't saved."""
         with contextlib.suppress(OSError):
             if not is_new and getattr(error, "errno", None) == NO_MEMORY:
                 self.remount()

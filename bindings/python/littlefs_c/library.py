@@ -46,7 +46,7 @@ class Config(ctypes.Structure):
 
 
 class Change(ctypes.Structure):
-    """`lfs_c_fetch_change`'s answer: a program (1) or an erase (2), its block, the offset in it, and how many bytes are programmed there."""
+    """`lfs_c_change`: a program (1) or an erase (2), its block, the offset in it, and how many bytes are programmed there."""
 
     _fields_ = [("kind", ctypes.c_uint32), ("block", ctypes.c_uint32), ("offset", ctypes.c_uint32), ("len", ctypes.c_size_t)]
 
@@ -62,7 +62,7 @@ _TYPES = {"n": [ctypes.c_uint32], "q": [ctypes.c_uint64], "g": [ctypes.POINTER(C
 
 
 def built_library() -> Path:
-    """The shared library: beside this module where a wheel has put it, else in bindings/c."""
+    """Returns the path of the shared library: next to this module in an installed wheel, and otherwise in bindings/c."""
     here = Path(__file__).resolve().parent
     name = "littlefs_c.dll" if os.name == "nt" else "littlefs_c.so"
     installed = here / name
@@ -70,7 +70,7 @@ def built_library() -> Path:
 
 
 def load(path: Optional[PathName] = None) -> dict[str, Any]:
-    """The calls of the shared library at a path. Without one it is the library that LITTLEFS_C names, or the one that is built."""
+    """Returns the calls of the shared library at a path; without one, of the library that LITTLEFS_C names, or of the built one."""
     path = path or os.environ.get("LITTLEFS_C") or built_library()
     calls = {}
     try:
@@ -88,38 +88,38 @@ _calls: dict[str, Any] = {}
 
 
 def loaded() -> dict[str, Any]:
-    """The calls of the library, which is loaded once."""
+    """Returns the calls of the library, which is loaded once."""
     if not _calls:
         _calls.update(load())
     return _calls
 
 
 def path_bytes(path: PathName) -> bytes:
-    """A path as the library takes it."""
+    """Returns a path as the library takes it."""
     path = os.fspath(path)
     return path.encode("utf-8", "surrogateescape") if isinstance(path, str) else path
 
 
 def path_text(name: bytes) -> str:
-    """A name of the library as text."""
+    """Returns a name of the library as text."""
     return name.decode("utf-8", "surrogateescape")
 
 
 def readable(data: Any) -> tuple[Any, int]:
-    """What has bytes, as C may read it, and how many they are."""
+    """Returns an object with bytes as C may read it, and how many they are."""
     if not isinstance(data, bytes):
         data = memoryview(data).tobytes()
     return data, len(data)
 
 
 def writable(data: Any) -> tuple[Any, int]:
-    """What has bytes that may be changed, as C may write it, and how many they are."""
+    """Returns an object with bytes as C may write it, and how many they are."""
     view = memoryview(data).cast("B")
     return (ctypes.c_ubyte * len(view)).from_buffer(view) if len(view) else ctypes.create_string_buffer(1), len(view)
 
 
 def in_range(value: int, bits: int, what: str) -> int:
-    """A whole number of so many bits. Raises a `ValueError` for another number, and a `TypeError` for what is none."""
+    """Returns a whole number of at most `bits` bits. Raises a `ValueError` for another number, and a `TypeError` for anything else."""
     value = operator.index(value)
     if not 0 <= value < 1 << bits:
         raise ValueError(f"{what} is out of range: {value}")
@@ -127,11 +127,11 @@ def in_range(value: int, bits: int, what: str) -> int:
 
 
 def usual_page(block_size: int) -> int:
-    """The largest page up to 256 that goes with blocks of that size."""
+    """Returns the largest page up to 256 that suits blocks of that size."""
     return max((page for page in (8, 16, 32, 64, 128, 256) if block_size % page == 0 and 8 * page <= block_size), default=8)
 
 
 def refusal(number: int, *paths: PathName) -> OSError:
-    """The exception for an error's number, with the paths that the call was given."""
+    """Returns the exception for an error's number, with the paths of the call."""
     shown = [os.fsdecode(path) for path in paths]
     return OSError(number, MEANINGS.get(number) or os.strerror(number), *[it for path in shown for it in (path, None)][:3])

@@ -10,7 +10,7 @@ SIZES = struct.Struct("<8x4x6I")  # behind the name and a tag
 
 
 class Superblock(NamedTuple):
-    """What a superblock says of its image. `version` is 0x20000 for 2.0, and 0x20001 for 2.1."""
+    """The fields of a superblock. `version` is 0x20000 for 2.0, and 0x20001 for 2.1."""
 
     version: int
     block_size: int
@@ -21,7 +21,7 @@ class Superblock(NamedTuple):
 
 
 def superblock(data: Any) -> Optional[Superblock]:
-    """The superblock of an image, found by its place in block 0 or 1, or None. Nothing of it is checked, so an old one counts, too."""
+    """Returns the superblock of an image by its place in block 0 or 1, or None. Nothing is checked, so an old one counts as well."""
     head = bytes(memoryview(data)[: 65536 + BEHIND_REVISION + SIZES.size])
     at = head.find(MAGIC)
     while at >= 0:

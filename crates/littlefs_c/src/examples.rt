@@ -1,6 +1,6 @@
 // What a call returns and leaves if nothing is mounted, by examples.
 
-ghost use Rattle.std.specs.Prelude.{◌≡◌, ◌∷◌, [], IfNone, None, Some, pos, ⊤};
+ghost use Rattle.std.specs.Prelude.{◌≡◌, codes, IfNone, None, Some, pos, ⊤};
 ghost use Rattle.littlefs_c.specs.Volumes.{CallsVolume, closed_code};
 ghost use Rattle.littlefs_c.specs.declared.mounted.Mounted.{Mounted};
 
@@ -12,8 +12,8 @@ pub fn closed_handle_has_one_code()
     ensures volume_after { (m : Mounted) → CallsVolume (λ old new. ⊤) closed_code None (Some m) → ⊥ }
 {}
 
-/// If nothing is mounted, a buffer is as it was. One that got a byte doesn't meet the clause.
+/// If nothing is mounted, a buffer is as it was. Other bytes don't meet the clause.
 pub fn closed_handle_keeps_buffer()
-    ensures kept { IfNone {T = Mounted} None (0 ∷ [] ≡ 0 ∷ []) }
-    ensures filled { IfNone {T = Mounted} None (1 ∷ [] ≡ 0 ∷ []) → ⊥ }
+    ensures kept { IfNone {T = Mounted} None (codes "old" ≡ codes "old") }
+    ensures filled { IfNone {T = Mounted} None (codes "new" ≡ codes "old") → ⊥ }
 {}

@@ -112,6 +112,8 @@ int main(int words, char **word) {
     row(NULL);
     read_file("/long");
     row("read");
+    for (int i = 0; i < 10; i++) read_file("/long");
+    row("rereads");
     make_directory("/d");
     row(NULL);
     for (unsigned i = 0; i < count; i++) {

@@ -21,8 +21,8 @@ Builds the static library (`rt lib`), and from it the examples and the shared li
 - further promises of bindings/python: file objects, exceptions, limits and versions, threads, and calls after a close.
 
 Prints how many there were of each. Fails at the first difference. With `--times` it prints instead the seconds of 1,000 writes of 100
-bytes, 1,000 stats, a read of 1 MiB in pieces, and 1,000 new files: by a volume, by littlefs's own code if its folder is given, and
-from Python.
+bytes, 1,000 stats, a read of 1 MiB in pieces, ten more such reads, and 1,000 new files: by a volume, by littlefs's own code if its
+folder is given, and from Python.
 """
 
 import argparse
@@ -823,11 +823,13 @@ def from_python(size, count):
             image.stat("/small")
         rows["stats"] = clock() - begun
         image.write("/long", bytes(1 << 20))
-        begun = clock()
-        with image.open("/long", "rb", buffering=0) as file:
-            while file.read(4096):
-                pass
-        rows["read"] = clock() - begun
+        for name, reads in (("read", 1), ("rereads", 10)):
+            begun = clock()
+            for _ in range(reads):
+                with image.open("/long", "rb", buffering=0) as file:
+                    while file.read(4096):
+                        pass
+            rows[name] = clock() - begun
         image.mkdir("/d")
         begun = clock()
         for number in range(count):

@@ -13,13 +13,14 @@ use Rattle.lfs_model.proofs.Survived.{stopped_has}
 use Rattle.lfs_model.proofs.JoinedLives.{lives_joined}
 use Rattle.lfs_model.proofs.LivesSurvived.{life_is_safe}
 use Rattle.lfs_model.proofs.RunTurns.{none_inside, run_in_turns}
+use Rattle.lfs_model.proofs.SessionSteps.{tree_step}
 use Rattle.lfs_fs.specs.ReadOnly.{MayWrite}
 use Rattle.lfs_fs.specs.SessionView.{BeginsByMount}
 use Rattle.lfs_fs.specs.Turns.{IsSafeRun, reply_if_any, turn_of}
 use Rattle.lfs_fs.proofs.Running.{call_performed, warm_behind}
 
 call_ends : (old : SessionView) (op : Operation) (r : Result ops.Reply Error) (new : SessionView) → StepsOrFails old op r new → EndsWith (reply_if_any r) (system_state old) op (system_state new)
-call_ends old op (Ok reply) new step = step
+call_ends old op (Ok reply) new step = tree_step (system_state old) (system_state new) op reply step
 call_ends old op (Err e) new fails = fails.fails
 
 pub call_turn : (old : SessionView) (op : Operation) (r : Result ops.Reply Error) (new : SessionView) → IsCall old op r new → IsTurn (system_state old) (turn_of op r (system_state new))

@@ -9,6 +9,7 @@ use Rattle.lfs_model.specs.session.Operations as ops
 use Rattle.lfs_model.specs.session.Run as model
 use Rattle.lfs_model.specs.session.Run.{IsDiskEffect}
 use Rattle.lfs_model.proofs.Counts.{each_always}
+use Rattle.lfs_model.proofs.SessionSteps.{tree_step}
 use Rattle.lfs_model.proofs.Surviving.{session_step_survives_loss}
 use Rattle.lfs_fs.specs.declared.files.OpenFile.TheVariants as file
 use Rattle.lfs_fs.specs.declared.files.Writer.{Writer}
@@ -51,7 +52,7 @@ turn_others from op reply to turn nothing s at ps qs a b none = go (model.is_ref
   where
     go : (x : Bool) → model.is_refusal reply ≡ x → KeepsOthers from.disk ps s op to.disk qs
     go true e = same_alone from.disk to.disk from.disk.order ps qs s op (turn.refused e).0
-    go false e = same_alone from.disk to.disk to.disk.order ps qs s op (nothing s at ps qs turn.calls a none (turn.effect_on_disk e s at ps qs a b))
+    go false e = same_alone from.disk to.disk to.disk.order ps qs s op (nothing s at ps qs turn.calls a none (turn.effect_on_disk e s at ps qs a b).effect)
 
 pub turned_others : {A : Type 0} (old : SessionView) (op : Operation) (reply : A → Reply) (r : Result A Error) (new : SessionView) → StepsOrFails old op (reply_from reply r) new → WritesNothing (system_state old) op (system_state new) → OnOk r (SparesOthers (system_state old) op (system_state new))
 turned_others old op reply (Ok x) new turn nothing = turn_others (system_state old) op (reply x) (system_state new) turn nothing
@@ -113,7 +114,7 @@ few_asked t new fs op sound few s at ps a calls is looks =
 -- an error leaves the disk as it was, too
 asking_stands : (old : SessionView) (op : Operation) (r : Result Reply Error) (new : SessionView) → HealthyHasDiskTree old.tree.disk (system_state old).state → ((s : Session) → is_read_only s op ≡ true) → StepsOrFails old op r new → SurvivesStoppedCalls (system_state old) op (system_state new) →
     SurvivesPowerLoss (system_state old) op (system_state new)
-asking_stands old op (Ok reply) new agrees asks turn survives = session_step_survives_loss (system_state old) op reply (system_state new) agrees turn survives
+asking_stands old op (Ok reply) new agrees asks turn survives = session_step_survives_loss (system_state old) op reply (system_state new) agrees (tree_step (system_state old) (system_state new) op reply turn) survives
 asking_stands old op (Err e) new agrees asks fails survives = record {
   stops = survives;
   stands = λ s ps around work clean stopped. subst (λ d. HasEitherTree d s.tree (operation_result around s op).1.tree) (sym (fails.fails.asks s work.healthy (asks s)).0) (stood_before (system_state old) op agrees s ps around work);

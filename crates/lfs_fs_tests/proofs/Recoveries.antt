@@ -20,6 +20,7 @@ use Rattle.lfs_model.specs.session.State.{SessionHealth, Healthy, nonremount_res
 use Rattle.lfs_model.specs.format.Thread.{Pair}
 use Rattle.lfs_model.specs.tree.Tree.{Tree}
 use Rattle.lfs_model.proofs.Premises.{since_of_each}
+use Rattle.lfs_model.proofs.SessionSteps.{tree_step}
 use Rattle.lfs_fs_tests.specs.Recovered.{IsRecoveredWithEither}
 
 -- ---- a recovery
@@ -39,7 +40,7 @@ shown_after before after tree left other from to either safe same mount step =
     record {
       tree = tree;
       either = either;
-      restored = safe.recovers other from to ops.Done same mount step;
+      restored = safe.recovers other from to ops.Done same mount (tree_step from to ops.Recover ops.Done step);
       healthy = sym (ap (λ (z : Option Reply × SessionHealth). z.1) a.answers) ∙ ap (λ s. (nonremount_result a.around s ops.Recover).1) (safe.mounts other from same mount)
           ∙ state_stays a.around (mounted_session tree);
     }

@@ -42,7 +42,7 @@ pub use Rattle.lfs_model.specs.session.Moved.{AreUnused, is_worn, is_worn_block}
 pub use Rattle.lfs_model.specs.session.Operations.{Operation, Refusal, Reply}
 pub use Rattle.lfs_model.specs.session.Recovery.{IsRecovered}
 pub use Rattle.lfs_model.specs.session.Refusals.{operation_refusal, path_or_root}
-pub use Rattle.lfs_model.specs.session.Run.{AreSteps, HealthyHasDiskTree, IsDiskEffect, IsStep, ShowsTree, SystemState, is_refusal}
+pub use Rattle.lfs_model.specs.session.Run.{AreSteps, EffectRelation, HealthyHasDiskTree, IsArrangedEffect, IsDiskEffect, IsStep, IsStepWith, IsTreeStep, ShowsTree, SystemState, is_refusal}
 pub use Rattle.lfs_model.specs.session.Session.{DiskSummary, FileReader, FileWriter, Session, Writing, file_numbered, file_reader, refuse_if}
 pub use Rattle.lfs_model.specs.session.SlotEdits.{EditsSlots, GivesBytes, RemovesSlot, ReplacesSlot, ReplacesSlots, StoresWriter, directory_slot, file_slot, pair_with_slots, pairs_without_moved, slot_of}
 pub use Rattle.lfs_model.specs.session.State.{HasFailed, Healthy, IsSummary, SessionHealth, is_remount, mounted_session, nonremount_result, remount_result}

@@ -1,7 +1,7 @@
 -- A loss of power in the first turn of a life, and in a later one.
 use Rattle.std.proofs.Common.{◌≡◌, inl, inr, false, List, [], ◌∷◌, refl, sym, ap, subst, ◌∙◌}
 use Rattle.std.specs.Prelude.{Any}
-use Rattle.lfs_model.proofs.Common.{append_cancel_right, Blocks, Disk, ordered_disk, Tree, IsWritable, IsWritableDisk, disk_tree, Reply, is_remount, SystemState, IsStep, HasDiskTree, LeftByLoss, ErasesCleanly, with_blocks, KeepsTree, AllCallsSince}
+use Rattle.lfs_model.proofs.Common.{append_cancel_right, Blocks, Disk, ordered_disk, Tree, IsWritable, IsWritableDisk, disk_tree, Reply, is_remount, SystemState, IsTreeStep, HasDiskTree, LeftByLoss, ErasesCleanly, with_blocks, KeepsTree, AllCallsSince}
 use Rattle.lfs_model.proofs.Counts.{Each}
 use Rattle.lfs_model.specs.declared.order.NameOrder.{NameOrder}
 use Rattle.lfs_model.specs.crash.Lives.{Turn, IsTurn, IsLife}
@@ -79,7 +79,7 @@ later from to turn turns left tree one (inl h) = inl (record {
 later from to turn turns left tree one (inr h) = inr h
 
 -- an answered turn in front of others that are survived
-pub further : (from to : SystemState) (turn : Turn) (turns : List Turn) (reply : Reply) (left : Disk) → IsTurn from turn → IsStep from turn.op reply turn.to → IsLife turn.to turns to →
+pub further : (from to : SystemState) (turn : Turn) (turns : List Turn) (reply : Reply) (left : Disk) → IsTurn from turn → IsTreeStep from turn.op reply turn.to → IsLife turn.to turns to →
     (MeetsRunPremises turn.to to → (left : Disk) → LeftBetween turn.to to left → IsSurvivedWith (LossInLife turn.to turns to) (NoRemount turns) left) → MeetsRunPremises from to → LeftBetween from to left →
     IsSurvivedWith (LossInLife from (turn ∷ turns) to) (NoRemount (turn ∷ turns)) left
 further from to turn turns reply left one step rest last may stop = go stop

@@ -1,12 +1,12 @@
 -- What runs of a session keep: the session that the accepted operations define, the writing profile, and nothing to recover.
 use Rattle.std.proofs.Common.{◌≡◌, Bool, true, false, cond, List, [], ◌∷◌, Option, Some, None, refl, sym, ap, subst, ◌∙◌}
-use Rattle.lfs_model.proofs.Common.{same_Some, Disk, block_count, ordered_disk, content_at, Pair, Tree, IsAccepted, IsWritable, disk_tree, CallEvent, Operation, Reply, Refusal, Session, DiskSummary, operation_result, operation_effect, unless_refused, operation_refusal, SessionHealth, HasFailed, Healthy, is_remount, remount_result, nonremount_result, mounted_session, IsFreshDisk, fresh_pair, empty_tree, IsRecovered, SystemState, ShowsTree, HealthyHasDiskTree, is_refusal, IsDiskEffect, IsStep, AreSteps, HasDiskTree, IsMounted}
+use Rattle.lfs_model.proofs.Common.{same_Some, Disk, block_count, ordered_disk, content_at, Pair, Tree, IsAccepted, IsWritable, disk_tree, CallEvent, Operation, Reply, Refusal, Session, DiskSummary, operation_result, operation_effect, unless_refused, operation_refusal, SessionHealth, HasFailed, Healthy, is_remount, remount_result, nonremount_result, mounted_session, IsFreshDisk, fresh_pair, empty_tree, IsRecovered, SystemState, ShowsTree, HealthyHasDiskTree, is_refusal, EffectRelation, IsDiskEffect, IsStepWith, IsTreeStep, AreSteps, HasDiskTree, IsMounted}
 use Rattle.lfs_model.specs.session.Operations as ops
 use Rattle.lfs_model.specs.session.Headline.{LeadsFromFresh, session_after, session_after_all, IsRecoveredDisk, SessionMatchesDisk}
 use Rattle.lfs_model.proofs.Uniqueness.{one_thread}
 use Rattle.lfs_model.proofs.OtherOrder.{same_tree}
 use Rattle.lfs_model.proofs.Fresh.{accepted, writable}
-use Rattle.lfs_model.proofs.SessionSteps.{IsHealthy, session_step_is_healthy, session_steps_are_healthy, session_steps_agree, true_from, fresh_agrees, question_answered, reader_answered}
+use Rattle.lfs_model.proofs.SessionSteps.{IsHealthy, tree_step, session_step_is_healthy, session_steps_are_healthy, session_steps_agree, true_from, fresh_agrees, question_answered, reader_answered}
 use Rattle.lfs_model.proofs.StepsMade.{no_refusal}
 
 -- ---- what the accepted operations define
@@ -31,7 +31,7 @@ same_effect around other s _ = refl
 pub one_tree : (disk : Disk) (t u : Tree) → ShowsTree disk (Some t) → ShowsTree disk (Some u) → t ≡ u
 one_tree disk t u (ps, (a, e)) (qs, (b, f)) = e ∙ ap (disk_tree disk) (one_thread (content_at disk) (block_count disk) ps qs a.thread b.thread) ∙ sym f
 
-defined_next : (around : DiskSummary) (from to : SystemState) (op : Operation) (reply : Reply) (s : Session) → from.state ≡ Healthy s → HealthyHasDiskTree from.disk from.state → IsStep from op reply to →
+pub defined_next : {E : EffectRelation} (around : DiskSummary) (from to : SystemState) (op : Operation) (reply : Reply) (s : Session) → from.state ≡ Healthy s → HealthyHasDiskTree from.disk from.state → IsStepWith E from op reply to →
     to.state ≡ Healthy (session_after around s op reply)
 defined_next around from to op reply s healthy agrees turn =
     go (is_remount op) refl (sym (ap (λ z. cond (is_remount op) (remount_result turn.answered.shown) (nonremount_result turn.answered.around z op)) healthy) ∙ turn.answered.answers)
@@ -76,7 +76,7 @@ ArePairs Q disk = (ps : List Pair) × (IsAccepted disk ps × Q disk ps)
 abbrev pub StaysCarried : (Disk → List Pair → Type 0) → Type 0
 StaysCarried Q = (disk new : Disk) (ps qs : List Pair) (s : Session) (op : Operation) (calls : List CallEvent) → IsDiskEffect disk ps s op calls new qs → Q disk ps → Q new qs
 
-pub turn_keeps : (Q : Disk → List Pair → Type 0) → StaysCarried Q → (from to : SystemState) (op : Operation) (reply : Reply) → IsStep from op reply to → IsHealthy from.state → ArePairs Q from.disk →
+pub turn_keeps : (Q : Disk → List Pair → Type 0) → StaysCarried Q → (from to : SystemState) (op : Operation) (reply : Reply) → IsTreeStep from op reply to → IsHealthy from.state → ArePairs Q from.disk →
     ArePairs Q to.disk
 turn_keeps Q carries from to op reply turn h (ps, (ok, q)) = go (is_refusal reply) refl from.state refl h
   where
@@ -96,7 +96,7 @@ session_steps_keep Q carries [] [] from to e h q = subst (λ (m : SystemState). 
 session_steps_keep Q carries [] (reply ∷ replies) from to e h q = absurd e
 session_steps_keep Q carries (op ∷ operations) [] from to e h q = absurd e
 session_steps_keep Q carries (op ∷ operations) (reply ∷ replies) from to (next, (turn, rest)) h q =
-    session_steps_keep Q carries operations replies next to rest (session_step_is_healthy from next op reply turn h) (turn_keeps Q carries from next op reply turn h q)
+    session_steps_keep Q carries operations replies next to rest (session_step_is_healthy from next op reply turn h) (turn_keeps Q carries from next op reply (tree_step from next op reply turn) h q)
 
 pub profile_stays : StaysCarried IsWritable
 profile_stays disk new ps qs s op calls c h = c.profile h
@@ -111,8 +111,8 @@ session_shows from at operations replies known session_steps = record {
   answers = session_steps;
   shows = here;
   defined = λ around s healthy. defined around operations replies from at s healthy agrees session_steps;
-  questions = λ to op reply asks turn. question_answered at to op reply here asks turn;
-  readers = λ to fd count reply turn. reader_answered at to fd count reply here turn;
+  questions = λ to op reply asks turn. question_answered at to op reply here asks turn.answered;
+  readers = λ to fd count reply turn. reader_answered at to fd count reply here turn.answered;
   profile = session_steps_keep IsWritable profile_stays operations replies from at session_steps healthy;
   settled = settled;
 }
@@ -146,7 +146,7 @@ pub mount_begins : (disk : Disk) (at : SystemState) → IsMounted disk at → Ha
 mount_begins disk at m = record { session = mounted_session m.tree; healthy = m.healthy; shows = subst (λ d. ShowsTree d (Some m.tree)) (sym m.on) m.shows }
 
 -- a remount is a mount, also of a session that had failed
-pub remount_mounts : (from to : SystemState) → IsStep from ops.Remount ops.Done to → IsMounted to.disk to
+pub remount_mounts : {E : EffectRelation} (from to : SystemState) → IsStepWith E from ops.Remount ops.Done to → IsMounted to.disk to
 remount_mounts from to turn = go turn.answered.shown turn.answered.answers
   where
     go : (shown : Option Tree) → remount_result shown ≡ (Some ops.Done, to.state) → IsMounted to.disk to

@@ -1,13 +1,13 @@
 -- What a life makes of a session.
 use Rattle.std.proofs.Common.{◌≡◌, true, false, ◌&&◌, List, [], ◌∷◌, Option, Some, None, is_some, refl, sym, ap, subst, ◌∙◌}
-use Rattle.lfs_model.proofs.Common.{Disk, Pair, IsWritable, AllCallsSince, Operation, Reply, Session, DiskSummary, Healthy, IsRecovered, SystemState, HealthyHasDiskTree, IsStep, HasDiskTree, and_parts}
+use Rattle.lfs_model.proofs.Common.{Disk, Pair, IsWritable, AllCallsSince, Operation, Reply, Session, DiskSummary, Healthy, IsRecovered, SystemState, HealthyHasDiskTree, EffectRelation, IsStepWith, HasDiskTree, and_parts}
 use Rattle.lfs_model.specs.session.Headline.{IsRecoveredDisk, session_after}
 use Rattle.lfs_model.proofs.Histories.{began, goes_on_by}
 use Rattle.lfs_model.proofs.Performing.{IsAny, calls_since}
 use Rattle.lfs_model.proofs.SessionSteps.{IsHealthy, session_step_is_healthy, true_from, question_answered, reader_answered}
-use Rattle.lfs_model.proofs.Kept.{ArePairs, StaysCarried, defined, turn_keeps, profile_stays}
+use Rattle.lfs_model.proofs.Kept.{ArePairs, StaysCarried, defined_next, turn_keeps, profile_stays}
 use Rattle.lfs_model.specs.crash.Lives.{Turn, EndsWith, IsLife, all_answered}
-use Rattle.lfs_model.specs.crash.LifeHeadline.{session_after_turn, session_after_turns, AnswersAsDisk, LifeMatchesDisk, WorksAllAlong}
+use Rattle.lfs_model.specs.crash.LifeHeadline.{session_after_turn, session_after_turns, AnswersAsDisk, AreAnswers, IsAnswer, LifeMatchesDisk, WorksAllAlong}
 
 -- ---- one turn
 
@@ -19,9 +19,13 @@ pub turn_since : (reply : Option Reply) (op : Operation) (from to : SystemState)
 turn_since None op from to fails = calls_since from.calls to.calls fails.calls fails.called
 turn_since (Some reply) op from to step = calls_since from.calls to.calls step.calls step.called
 
+turn_answer : (reply : Option Reply) (op : Operation) (from to : SystemState) → EndsWith reply from op to → IsAnswer reply from op to
+turn_answer None op from to fails = fails.failed
+turn_answer (Some reply) op from to step = step.answered
+
 -- what an answered one defines
-pub step_defined : (around : DiskSummary) (op : Operation) (reply : Reply) (from to : SystemState) (s : Session) → from.state ≡ Healthy s → HealthyHasDiskTree from.disk from.state → IsStep from op reply to → to.state ≡ Healthy (session_after around s op reply)
-step_defined around op reply from to s healthy agrees step = defined around (op ∷ []) (reply ∷ []) from to s healthy agrees (to, (step, refl))
+pub step_defined : {E : EffectRelation} (around : DiskSummary) (op : Operation) (reply : Reply) (from to : SystemState) (s : Session) → from.state ≡ Healthy s → HealthyHasDiskTree from.disk from.state → IsStepWith E from op reply to → to.state ≡ Healthy (session_after around s op reply)
+step_defined around op reply from to s healthy agrees step = defined_next around from to op reply s healthy agrees step
 
 -- ---- a life
 
@@ -32,6 +36,10 @@ life_since (turn ∷ turns) from to (one, rest) = goes_on_by (turn_since turn.re
 pub life_agrees : (turns : List Turn) (from to : SystemState) → IsLife from turns to → HealthyHasDiskTree from.disk from.state → HealthyHasDiskTree to.disk to.state
 life_agrees [] from to same agrees = subst (λ (m : SystemState). HealthyHasDiskTree m.disk m.state) same agrees
 life_agrees (turn ∷ turns) from to (one, rest) agrees = life_agrees turns turn.to to rest (turn_agrees turn.reply turn.op from turn.to one.ends)
+
+pub life_answers : (turns : List Turn) (from to : SystemState) → IsLife from turns to → AreAnswers from turns to
+life_answers [] from to same = same
+life_answers (turn ∷ turns) from to (one, rest) = (turn_answer turn.reply turn.op from turn.to one.ends, life_answers turns turn.to to rest)
 
 -- where all turns were answered
 pub life_defined : (around : DiskSummary) (turns : List Turn) (from to : SystemState) (s : Session) → all_answered turns ≡ true → from.state ≡ Healthy s → HealthyHasDiskTree from.disk from.state → IsLife from turns to →
@@ -71,7 +79,7 @@ WritableRecovered disk ps = IsWritable disk ps × IsRecovered ps
 
 pub life_matches : (from : SystemState) (turns : List Turn) (at : SystemState) → HealthyHasDiskTree from.disk from.state → IsLife from turns at → LifeMatchesDisk from turns at
 life_matches from turns at agrees lived = record {
-  lived = lived;
+  answers = life_answers turns from at lived;
   works = λ s works. answers_as_disk at (true_from at (subst IsHealthy (sym works) tt) (life_agrees turns from at lived agrees));
   defined = λ s w around. life_defined around turns from at s w.answered w.begins agrees lived;
   profile = λ s w was. life_keeps IsWritable profile_stays turns from at w.answered lived (subst IsHealthy (sym w.begins) tt) was;

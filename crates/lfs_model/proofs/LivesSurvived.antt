@@ -2,7 +2,7 @@
 -- losses.
 use Rattle.std.proofs.Common.{◌≡◌, ◌⊎◌, inl, inr, Bool, true, false, cond, List, [], ◌∷◌, ◌++◌, Option, Some, None, refl, sym, ap, subst, ◌∙◌}
 use Rattle.std.specs.Prelude.{Any}
-use Rattle.lfs_model.proofs.Common.{recursion_from_All, same_Some, append_cancel_right, Blocks, Disk, SameGeometry, ordered_disk, Tree, disk_tree, Operation, Reply, SessionHealth, HasFailed, is_remount, operation_result, nonremount_result, remount_result, SystemState, HealthyHasDiskTree, IsStep, is_refusal, LeftByLoss, ErasesCleanly, FailsLikeLoss, HasEitherTree, with_blocks, IsMounted, KeepsTree, CallEvent, AllCallsSince, IsRead}
+use Rattle.lfs_model.proofs.Common.{recursion_from_All, same_Some, append_cancel_right, Blocks, Disk, SameGeometry, ordered_disk, Tree, disk_tree, Operation, Reply, SessionHealth, HasFailed, is_remount, operation_result, nonremount_result, remount_result, SystemState, HealthyHasDiskTree, IsTreeStep, is_refusal, LeftByLoss, ErasesCleanly, FailsLikeLoss, HasEitherTree, with_blocks, IsMounted, KeepsTree, CallEvent, AllCallsSince, IsRead}
 use Rattle.lfs_model.specs.session.Operations as ops
 use Rattle.lfs_model.specs.session.Operations.{Failed}
 use Rattle.lfs_model.specs.session.History.{OnlyReadsSince}
@@ -179,7 +179,7 @@ left_by_same from next to left q (inr (inl (blocks, (e, since)))) = inr (inl (bl
 left_by_same from next to left q (inr (inr (e, fails))) = inr (inr (e, subst (λ (calls : List CallEvent). AllCallsSince FailsLikeLoss calls to.calls) (sym q.calls) fails))
 
 -- a remount that ends well is a mount
-remounted : (from next : SystemState) (op : Operation) (reply : Reply) → is_remount op ≡ true → IsStep from op reply next → IsMounted next.disk next
+remounted : (from next : SystemState) (op : Operation) (reply : Reply) → is_remount op ≡ true → IsTreeStep from op reply next → IsMounted next.disk next
 remounted from next op reply is step = go step.answered.shown (sym (ap (λ b. cond b (remount_result step.answered.shown) (nonremount_result step.answered.around from.state op)) is) ∙ step.answered.answers)
   where
     go : (shown : Option Tree) → remount_result shown ≡ (Some reply, next.state) → IsMounted next.disk next

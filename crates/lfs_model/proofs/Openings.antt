@@ -17,7 +17,7 @@ use Rattle.lfs_model.specs.session.Writers.{opened_writer}
 use Rattle.lfs_model.specs.session.State.{Healthy}
 use Rattle.lfs_model.specs.session.Effects.{open_effect}
 use Rattle.lfs_model.specs.session.Refusals.{operation_refusal, path_or_root}
-use Rattle.lfs_model.specs.session.Run.{SystemState, IsStep}
+use Rattle.lfs_model.specs.session.Run.{SystemState, EffectRelation, IsStepWith}
 use Rattle.lfs_model.specs.session.Accepted.{IsAcceptedOpen}
 use Rattle.lfs_model.proofs.Passing.{accepted_step}
 
@@ -86,7 +86,7 @@ same_fd m n e = ap number e
     number (ops.Opened k) = k
     number _ = m
 
-pub accepted_open : (from to : SystemState) (s : Session) (path : List ℕ) (flags : FlagsOfOpen) (fd : ℕ) → from.state ≡ Healthy s → IsStep from (ops.Open path flags) (ops.Opened fd) to → IsAcceptedOpen s path flags fd
+pub accepted_open : {E : EffectRelation} (from to : SystemState) (s : Session) (path : List ℕ) (flags : FlagsOfOpen) (fd : ℕ) → from.state ≡ Healthy s → IsStepWith E from (ops.Open path flags) (ops.Opened fd) to → IsAcceptedOpen s path flags fd
 accepted_open from to s path flags fd healthy step =
     let a = accepted_step from to (ops.Open path flags) (ops.Opened fd) s healthy refl refl step in
     let both = open_passes a.around s path flags a.passed in

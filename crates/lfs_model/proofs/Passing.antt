@@ -1,6 +1,6 @@
 -- An operation that wasn't refused passed its checks.
 use Rattle.std.proofs.Common.{not, ◌≡◌, Bool, true, false, cond, Option, Some, None, refl, sym, ap, subst, ◌∙◌}
-use Rattle.lfs_model.proofs.Common.{same_Some, Operation, Reply, Refusal, Session, DiskSummary, operation_effect, operation_refusal, unless_refused, SessionHealth, Healthy, is_remount, nonremount_result, remount_result, SystemState, IsStep, is_refusal, refuse_if, IsWritable, IsFreshDisk, empty_tree, mounted_session}
+use Rattle.lfs_model.proofs.Common.{same_Some, Operation, Reply, Refusal, Session, DiskSummary, operation_effect, operation_refusal, unless_refused, SessionHealth, Healthy, is_remount, nonremount_result, remount_result, SystemState, EffectRelation, IsStepWith, IsTreeStep, is_refusal, refuse_if, IsWritable, IsFreshDisk, empty_tree, mounted_session}
 use Rattle.lfs_model.specs.session.Operations as ops
 use Rattle.lfs_model.specs.session.Operations.{ReadOnly}
 use Rattle.lfs_model.proofs.SessionSteps.{IsHealthy, true_from, session_step_is_healthy}
@@ -14,7 +14,7 @@ use Rattle.lfs_model.proofs.Common.{HealthyHasDiskTree}
 use Rattle.std.proofs.Common.{List}
 use Rattle.lfs_model.specs.session.Accepted.{IsAcceptedStep}
 
-pub accepted_step : (from to : SystemState) (op : Operation) (reply : Reply) (s : Session) → from.state ≡ Healthy s → is_remount op ≡ false → is_refusal reply ≡ false → IsStep from op reply to → IsAcceptedStep from s op reply to
+pub accepted_step : {E : EffectRelation} (from to : SystemState) (op : Operation) (reply : Reply) (s : Session) → from.state ≡ Healthy s → is_remount op ≡ false → is_refusal reply ≡ false → IsStepWith E from op reply to → IsAcceptedStep from s op reply to
 accepted_step from to op reply s healthy other accepted step =
     go (operation_refusal step.answered.around s op) refl
     (sym (ap (λ state. nonremount_result step.answered.around state op) healthy) ∙ sym (ap (λ b. cond b (remount_result step.answered.shown) (nonremount_result step.answered.around from.state op)) other) ∙ step.answered.answers)
@@ -46,7 +46,7 @@ writes around = go around.writable
     go false e = absurd (cc)
 
 -- a recovery that isn't refused shows that the image may be written
-pub recovered_may : (from to : SystemState) (s : Session) → from.state ≡ Healthy s → IsStep from ops.Recover ops.Done to → MayLosePower to
+pub recovered_may : (from to : SystemState) (s : Session) → from.state ≡ Healthy s → IsTreeStep from ops.Recover ops.Done to → MayLosePower to
 recovered_may from to s works step =
     let healthy = subst IsHealthy (sym works) tt in
     let a = accepted_step from to ops.Recover ops.Done s works refl refl step in

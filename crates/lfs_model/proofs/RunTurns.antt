@@ -4,6 +4,7 @@ use Rattle.std.proofs.lemmas.List.{map-append}
 use Rattle.lfs_model.proofs.Common.{Operation, Reply, SystemState, ArePerformed, IsRun, accepted_operation, and_parts}
 use Rattle.lfs_model.specs.crash.Lives.{Turn, IsTurn, FailLikeLossInside, IsLifeOfRun, IsRunInTurns, answered, failed, all_answered, fails_last, is_last}
 use Rattle.lfs_model.proofs.JoinedLives.{lives_joined}
+use Rattle.lfs_model.proofs.SessionSteps.{tree_step}
 
 record IsAnsweredRun (from : SystemState) (operations : List Operation) (replies : List Reply) (to : SystemState) : Type 0 where
   run : IsLifeOfRun from operations replies to
@@ -18,7 +19,7 @@ in_turns before (op ∷ operations) (reply ∷ replies) from to (next, (one, oth
     record {
       run = record {
         turns = answered op reply next ∷ rest.run.turns;
-        lived = (record { ends = one.turn; survives_loss = one.survives_loss }, rest.run.lived);
+        lived = (record { ends = tree_step from next op reply one.turn; survives_loss = one.survives_loss }, rest.run.lived);
         did = ap (λ (ops : List Operation). op ∷ ops) rest.run.did;
         replied = ap (λ (rs : List (Option Reply)). Some reply ∷ rs) rest.run.replied;
       };

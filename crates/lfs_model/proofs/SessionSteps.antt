@@ -1,9 +1,10 @@
 -- Runs of a session: joined, parted, and from a fresh disk.
 use Rattle.std.proofs.Common.{ℕ, ◌≡◌, Bool, true, false, cond, List, [], ◌∷◌, ◌++◌, Option, Some, None, is_none, refl, sym, ap, subst, ◌∙◌}
-use Rattle.lfs_model.proofs.Common.{same_Some, Disk, block_count, content_at, disk_tree, Operation, Reply, Refusal, Session, DiskSummary, FileReader, file_reader, file_numbered, refuse_if, operation_result, unless_refused, read_effect, operation_refusal, SessionHealth, HasFailed, Healthy, is_remount, nonremount_result, remount_result, mounted_session, IsFreshDisk, fresh_pair, empty_tree, HasDiskTree, read_reply, SystemState, ShowsTree, HealthyHasDiskTree, IsStep, AreSteps}
+use Rattle.lfs_model.proofs.Common.{same_Some, Disk, block_count, content_at, disk_tree, Operation, Reply, Refusal, Session, DiskSummary, FileReader, file_reader, file_numbered, refuse_if, operation_result, unless_refused, read_effect, operation_refusal, SessionHealth, HasFailed, Healthy, is_remount, nonremount_result, remount_result, mounted_session, IsFreshDisk, fresh_pair, empty_tree, HasDiskTree, read_reply, SystemState, ShowsTree, HealthyHasDiskTree, EffectRelation, IsStep, IsStepWith, IsTreeStep, AreSteps}
 use Rattle.lfs_model.specs.session.Operations as ops
 use Rattle.lfs_model.specs.session.Operations.{BadFile}
 use Rattle.lfs_model.specs.session.Headline.{is_query, IsFreshReply, IsReaderReply, IsDividedRun}
+use Rattle.lfs_model.specs.session.Run.{IsReply}
 use Rattle.lfs_model.proofs.Uniqueness.{one_thread}
 use Rattle.lfs_model.proofs.Fresh.{accepted, shows}
 
@@ -24,13 +25,28 @@ session_steps_parted (op ∷ operations) more (reply ∷ replies) a c (next, (tu
     let p = session_steps_parted operations more replies next c rest in
     record { between = p.between; front = reply ∷ p.front; back = p.back; joined = ap (λ z. reply ∷ z) p.joined; first = (next, (turn, p.first)); second = p.second }
 
+-- ---- one that says where slots are is one that doesn't
+
+pub tree_step : (from to : SystemState) (op : Operation) (reply : Reply) → IsStep from op reply to → IsTreeStep from op reply to
+tree_step from to op reply step = record {
+  answered = step.answered;
+  agrees = step.agrees;
+  geometry = step.geometry;
+  calls = step.calls;
+  called = step.called;
+  refused = step.refused;
+  remounted = step.remounted;
+  failed = step.failed;
+  effect_on_disk = λ accepted s healthy ps qs a b. (step.effect_on_disk accepted s healthy ps qs a b).effect;
+}
+
 -- ---- health
 
 abbrev pub IsHealthy : SessionHealth → Type 0
 IsHealthy HasFailed = ⊥
 IsHealthy (Healthy session) = Unit {0}
 
-pub session_step_is_healthy : (from to : SystemState) (op : Operation) (reply : Reply) → IsStep from op reply to → IsHealthy from.state → IsHealthy to.state
+pub session_step_is_healthy : {E : EffectRelation} (from to : SystemState) (op : Operation) (reply : Reply) → IsStepWith E from op reply to → IsHealthy from.state → IsHealthy to.state
 session_step_is_healthy from to op reply turn h = go (is_remount op) (from.state) h turn.answered.shown turn.answered.answers
   where
     remounts : (shown : Option _) → remount_result shown ≡ (Some reply, to.state) → IsHealthy to.state
@@ -87,9 +103,8 @@ pub not_remount : (op : Operation) → is_query op ≡ true → is_remount op �
 not_remount ops.Remount e = absurd (cc)
 not_remount _ e = refl
 
-pub question_answered : (from to : SystemState) (op : Operation) (reply : Reply) → HasDiskTree from → is_query op ≡ true → IsStep from op reply to → IsFreshReply from op reply
-question_answered from to op reply known asks turn =
-    let a = turn.answered in
+pub question_answered : (from to : SystemState) (op : Operation) (reply : Reply) → HasDiskTree from → is_query op ≡ true → IsReply from.disk to.disk.order from.state op reply to.state → IsFreshReply from op reply
+question_answered from to op reply known asks a =
     let s = a.surrounds known.session known.healthy in
     let t = known.shows in
     record {
@@ -115,9 +130,8 @@ reader_reply around s fd count = go (file_reader (file_numbered s.files fd))
     go (Some r) = refl
 
 -- What an open reader gives is what the disk's tree has there.
-pub reader_answered : (from to : SystemState) (fd count : ℕ) (reply : Reply) → HasDiskTree from → IsStep from (ops.Read fd count) reply to → IsReaderReply from fd count reply
-reader_answered from to fd count reply known turn =
-    let a = turn.answered in
+pub reader_answered : (from to : SystemState) (fd count : ℕ) (reply : Reply) → HasDiskTree from → IsReply from.disk to.disk.order from.state (ops.Read fd count) reply to.state → IsReaderReply from fd count reply
+reader_answered from to fd count reply known a =
     let t = known.shows in
     record {
       pairs = t.0;

@@ -1,6 +1,6 @@
 -- From what an operation does to the disk to its step in a run.
 use Rattle.std.proofs.Common.{◌≡◌, true, false, cond, List, [], ◌++◌, Option, Some, None, refl, sym, ap, subst, ◌∙◌}
-use Rattle.lfs_model.proofs.Common.{Disk, SameGeometry, block_count, ordered_disk, content_at, zero_gstate, Pair, pairs_gstate, IsAccepted, DiskView, HasDiskView, disk_view, disk_tree, IsWritable, AllCalls, CallEvent, IsRead, Operation, Reply, Refusal, Session, DiskSummary, FileReader, file_reader, file_numbered, operation_refusal, operation_effect, read_effect, unless_refused, IsSummary, SessionHealth, HasFailed, Healthy, is_remount, remount_result, nonremount_result, mounted_session, IsRecovered, is_refusal, IsDiskEffect, IsStep}
+use Rattle.lfs_model.proofs.Common.{Disk, SameGeometry, block_count, ordered_disk, content_at, zero_gstate, Pair, pairs_gstate, IsAccepted, DiskView, HasDiskView, disk_view, disk_tree, IsWritable, AllCalls, CallEvent, IsRead, Operation, Reply, Refusal, Session, DiskSummary, FileReader, file_reader, file_numbered, operation_refusal, operation_effect, read_effect, unless_refused, IsSummary, SessionHealth, HasFailed, Healthy, is_remount, remount_result, nonremount_result, mounted_session, IsRecovered, is_refusal, IsArrangedEffect, IsStep}
 use Rattle.lfs_model.specs.declared.order.NameOrder.{NameOrder}
 use Rattle.lfs_model.specs.declared.order.NameOrder.TheVariants.{LongerFirst, ShorterFirst}
 use Rattle.lfs_model.specs.session.Operations as ops
@@ -43,12 +43,12 @@ same_geometry : (op : Operation) (disk new : Disk) → is_remount op ≡ false �
 same_geometry op disk new other geometry = subst (λ d. SameGeometry d new) (sym (same_disk_read op new.order disk other)) geometry
 
 -- what an applied operation does is said of any pairs, and those of an accepted disk are known
-carried_any : (disk new : Disk) (ps qs : List Pair) (s : Session) (op : Operation) (calls : List CallEvent) → IsAccepted disk ps → IsAccepted new qs → IsDiskEffect disk ps s op calls new qs →
-    (t : Session) → Healthy s ≡ Healthy t → (xs ys : List Pair) → IsAccepted disk xs → IsAccepted new ys → IsDiskEffect disk xs t op calls new ys
+carried_any : (disk new : Disk) (ps qs : List Pair) (s : Session) (op : Operation) (calls : List CallEvent) → IsAccepted disk ps → IsAccepted new qs → IsArrangedEffect disk ps s op calls new qs →
+    (t : Session) → Healthy s ≡ Healthy t → (xs ys : List Pair) → IsAccepted disk xs → IsAccepted new ys → IsArrangedEffect disk xs t op calls new ys
 carried_any disk new ps qs s op calls a b c t e xs ys x y =
-    subst (λ z. IsDiskEffect disk xs z op calls new ys) (same_session s t e)
-    (subst (λ z. IsDiskEffect disk z s op calls new ys) (one_thread (content_at disk) (block_count disk) ps xs a.thread x.thread)
-    (subst (IsDiskEffect disk ps s op calls new) (one_thread (content_at new) (block_count new) qs ys b.thread y.thread) c))
+    subst (λ z. IsArrangedEffect disk xs z op calls new ys) (same_session s t e)
+    (subst (λ z. IsArrangedEffect disk z s op calls new ys) (one_thread (content_at disk) (block_count disk) ps xs a.thread x.thread)
+    (subst (IsArrangedEffect disk ps s op calls new) (one_thread (content_at new) (block_count new) qs ys b.thread y.thread) c))
 
 -- an operation that is applied isn't answered by a refusal
 pub no_refusal : (around : DiskSummary) (s : Session) (op : Operation) → is_refusal (operation_effect around s op).0 ≡ false
@@ -108,18 +108,20 @@ spread_step disk ps s around op new qs calls old over accepted proper done = rec
     never : is_refusal (operation_effect around s op).0 ≡ true → ⊥
     never h = let k = sym (no_refusal around s op) ∙ h in absurd (cc)
 
-    carried : IsDiskEffect disk ps s op calls new qs
+    carried : IsArrangedEffect disk ps s op calls new qs
     carried = record {
-      asks = λ e. absurd (let k = sym proper.asks ∙ e in cc);
-      opens = proper.opens;
-      fills = λ e. absurd (let k = sym proper.fills ∙ e in cc);
-      recovered = λ e. done.recovered;
-      stays = λ h. done.recovered;
+      effect = record {
+        asks = λ e. absurd (let k = sym proper.asks ∙ e in cc);
+        opens = proper.opens;
+        fills = λ e. absurd (let k = sym proper.fills ∙ e in cc);
+        recovered = λ e. done.recovered;
+        stays = λ h. done.recovered;
+        profile = λ h. done.writable;
+        silent = proper.silent;
+        itself = proper.itself;
+        nothing_left = proper.nothing_left;
+      };
       arranged = λ e. done.arranged;
-      profile = λ h. done.writable;
-      silent = proper.silent;
-      itself = proper.itself;
-      nothing_left = proper.nothing_left;
     }
 
 pub completed_step : (disk : Disk) (ps : List Pair) (s : Session) (around : DiskSummary) (op : Operation) (new : Disk) (qs : List Pair) (calls old : List CallEvent) → IsOver disk ps s around →
@@ -145,18 +147,20 @@ idle_step disk ps s around op calls old over accepted other same none still writ
   effect_on_disk = λ h t e xs ys x y. carried_any disk disk ps ps s op calls over.accepted over.accepted carried t e xs ys x y;
 }
   where
-    carried : IsDiskEffect disk ps s op calls disk ps
+    carried : IsArrangedEffect disk ps s op calls disk ps
     carried = record {
-      asks = λ e. (sym (same_disk_read op disk.order disk other), writes);
-      opens = λ e f. refl;
-      fills = λ e. (refl, λ view h. h);
-      recovered = λ e. absurd (let k = sym none ∙ e in cc);
-      stays = λ h. h;
+      effect = record {
+        asks = λ e. (sym (same_disk_read op disk.order disk other), writes);
+        opens = λ e f. refl;
+        fills = λ e. (refl, λ view h. h);
+        recovered = λ e. absurd (let k = sym none ∙ e in cc);
+        stays = λ h. h;
+        profile = λ h. h;
+        silent = λ e. (refl, silent e);
+        itself = λ e. (refl, writes);
+        nothing_left = λ e h. (refl, writes);
+      };
       arranged = λ e. absurd (let k = sym still ∙ e in cc);
-      profile = λ h. h;
-      silent = λ e. (refl, silent e);
-      itself = λ e. (refl, writes);
-      nothing_left = λ e h. (refl, writes);
     }
 
 pub asked_step : (disk : Disk) (ps : List Pair) (s : Session) (around : DiskSummary) (op : Operation) (calls old : List CallEvent) → IsOver disk ps s around → operation_refusal around s op ≡ None →
@@ -196,30 +200,34 @@ filled_step disk ps s around op new qs calls old over accepted fill needs geomet
         let k = one_thread (content_at disk) (block_count disk) h.0 ps h.1.0.thread over.accepted.thread in
         (qs, (ok, h.1.1 ∙ ap (disk_view disk) k ∙ sym same))
 
-    carried : (op : Operation) → writes_or_truncates op ≡ true → needs_no_device s op ≡ false → IsDiskEffect disk ps s op calls new qs
+    carried : (op : Operation) → writes_or_truncates op ≡ true → needs_no_device s op ≡ false → IsArrangedEffect disk ps s op calls new qs
     carried (ops.Write fd bytes) e needs = record {
-      asks = λ f. absurd (cc);
-      opens = λ f. absurd (cc);
-      fills = λ f. (pairs, views);
-      recovered = λ f. absurd (cc);
-      stays = λ f. recovered;
+      effect = record {
+        asks = λ f. absurd (cc);
+        opens = λ f. absurd (cc);
+        fills = λ f. (pairs, views);
+        recovered = λ f. absurd (cc);
+        stays = λ f. recovered;
+        profile = profile;
+        silent = λ f. absurd (let k = sym needs ∙ f in cc);
+        itself = λ f. absurd (cc);
+        nothing_left = λ f. absurd (cc);
+      };
       arranged = λ f. absurd (cc);
-      profile = profile;
-      silent = λ f. absurd (let k = sym needs ∙ f in cc);
-      itself = λ f. absurd (cc);
-      nothing_left = λ f. absurd (cc);
     }
     carried (ops.Truncate fd size) e needs = record {
-      asks = λ f. absurd (cc);
-      opens = λ f. absurd (cc);
-      fills = λ f. (pairs, views);
-      recovered = λ f. absurd (cc);
-      stays = λ f. recovered;
+      effect = record {
+        asks = λ f. absurd (cc);
+        opens = λ f. absurd (cc);
+        fills = λ f. (pairs, views);
+        recovered = λ f. absurd (cc);
+        stays = λ f. recovered;
+        profile = profile;
+        silent = λ f. absurd (let k = sym needs ∙ f in cc);
+        itself = λ f. absurd (cc);
+        nothing_left = λ f. absurd (cc);
+      };
       arranged = λ f. absurd (cc);
-      profile = profile;
-      silent = λ f. absurd (let k = sym needs ∙ f in cc);
-      itself = λ f. absurd (cc);
-      nothing_left = λ f. absurd (cc);
     }
     carried _ e needs = absurd (cc)
 
@@ -267,18 +275,20 @@ remounted_step disk order ps around state calls old surrounds ok longer writes r
   effect_on_disk = λ h t e xs ys x y. carried_of t xs ys x y;
 }
   where
-    carried_of : (t : Session) (xs ys : List Pair) → IsAccepted disk xs → IsAccepted (ordered_disk order disk) ys → IsDiskEffect disk xs t ops.Remount calls (ordered_disk order disk) ys
+    carried_of : (t : Session) (xs ys : List Pair) → IsAccepted disk xs → IsAccepted (ordered_disk order disk) ys → IsArrangedEffect disk xs t ops.Remount calls (ordered_disk order disk) ys
     carried_of t xs ys x y =
         let same = same_pairs order disk xs ys x y in
         record {
-          asks = λ f. (refl, writes);
-          opens = λ f. absurd (cc);
-          fills = λ f. absurd (cc);
-          recovered = λ f. absurd (cc);
-          stays = subst IsRecovered same;
+          effect = record {
+            asks = λ f. (refl, writes);
+            opens = λ f. absurd (cc);
+            fills = λ f. absurd (cc);
+            recovered = λ f. absurd (cc);
+            stays = subst IsRecovered same;
+            profile = λ w. writable_in_order order disk ys (subst (IsWritable disk) same w);
+            silent = λ f. absurd (cc);
+            itself = λ f. absurd (cc);
+            nothing_left = λ f. absurd (cc);
+          };
           arranged = λ f. absurd (cc);
-          profile = λ w. writable_in_order order disk ys (subst (IsWritable disk) same w);
-          silent = λ f. absurd (cc);
-          itself = λ f. absurd (cc);
-          nothing_left = λ f. absurd (cc);
         }

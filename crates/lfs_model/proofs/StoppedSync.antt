@@ -17,6 +17,7 @@ use Rattle.lfs_model.proofs.Files.{SameFileBlocks}
 use Rattle.lfs_model.proofs.Splices.{IsDevice}
 use Rattle.lfs_model.proofs.SameLogs.{entries_same, has_commit_same}
 use Rattle.lfs_model.proofs.Unchanged.{same_follows}
+use Rattle.lfs_model.proofs.SessionSteps.{tree_step}
 use Rattle.lfs_model.proofs.Surviving.{same_surroundings, session_step_survives_loss}
 use Rattle.lfs_model.proofs.TreesLeft.{same_session}
 use Rattle.lfs_model.proofs.FreshSession.{none_accepted}
@@ -146,7 +147,7 @@ stops s ps about work clean = record { events = programming 512 synced_commit im
         (subst (λ after. Left written_session.tree after blocks) (sym (same_result about around around_is refl)) (either_left blocks stop))
 
 pub sync_survives : SurvivesPowerLoss state_after_write (ops.Sync 0) state_after_sync
-sync_survives = session_step_survives_loss state_after_write (ops.Sync 0) ops.Done state_after_sync (before.next ∷ [], (written_over.accepted, written_over.tree)) sync_step stops
+sync_survives = session_step_survives_loss state_after_write (ops.Sync 0) ops.Done state_after_sync (before.next ∷ [], (written_over.accepted, written_over.tree)) (tree_step state_after_write state_after_sync (ops.Sync 0) ops.Done sync_step) stops
 
 -- where no block is left, no tree is
 pub not_lost : SurvivesPowerLoss state_after_write (ops.Sync 0) (record state_after_sync { disk = blockless_disk }) → ⊥

@@ -1,7 +1,7 @@
 -- What a loss of power in an operation leaves, and what a mount and a recovery make of it.
 use Rattle.std.proofs.Common.{◌≡◌, ◌⊎◌, inl, inr, ℕ, Bool, true, false, cond, not, List, [], ◌∷◌, ◌++◌, Option, Some, refl, sym, ap, ap₂, subst, ◌∙◌, append_assoc}
 use Rattle.std.specs.Prelude.{Any}
-use Rattle.lfs_model.proofs.Common.{same_Some, append_cancel_right, Blocks, Disk, SameGeometry, block_count, ordered_disk, content_at, Pair, pairs_gstate, Tree, IsAccepted, IsWritable, IsWritableDisk, disk_tree, used_blocks, Operation, Reply, Session, DiskSummary, refuse_if, operation_result, unless_refused, SessionHealth, Healthy, nonremount_result, mounted_session, IsRecovered, SystemState, ShowsTree, HealthyHasDiskTree, is_refusal, IsStep, HasDiskTree, LeftByLoss, ErasesCleanly, HasEitherTree, with_blocks, IsHealthySession, SurvivesPowerLoss, IsMounted, KeepsTree, CallEvent, AllCalls, AllCallsSince, HoldsAtLosses}
+use Rattle.lfs_model.proofs.Common.{same_Some, append_cancel_right, Blocks, Disk, SameGeometry, block_count, ordered_disk, content_at, Pair, pairs_gstate, Tree, IsAccepted, IsWritable, IsWritableDisk, disk_tree, used_blocks, Operation, Reply, Session, DiskSummary, refuse_if, operation_result, unless_refused, SessionHealth, Healthy, nonremount_result, mounted_session, IsRecovered, SystemState, ShowsTree, HealthyHasDiskTree, is_refusal, IsTreeStep, HasDiskTree, LeftByLoss, ErasesCleanly, HasEitherTree, with_blocks, IsHealthySession, SurvivesPowerLoss, IsMounted, KeepsTree, CallEvent, AllCalls, AllCallsSince, HoldsAtLosses}
 use Rattle.lfs_model.specs.declared.order.NameOrder.{NameOrder}
 use Rattle.lfs_model.specs.declared.limits.Profile.{Profile}
 use Rattle.lfs_model.specs.session.Operations as ops
@@ -24,7 +24,7 @@ pub record IsRecoveredFrom (disk : Disk) (ps : List Pair) (reply : Reply) (new :
 
 -- the session that a mount of the disk begins, and a recover in it
 pub recover_keeps : (from to : SystemState) (reply : Reply) (ps : List Pair) → IsAccepted from.disk ps → IsWritable from.disk ps → from.state ≡ Healthy (mounted_session (disk_tree from.disk ps)) →
-    IsStep from ops.Recover reply to → IsRecoveredFrom from.disk ps reply to.disk
+    IsTreeStep from ops.Recover reply to → IsRecoveredFrom from.disk ps reply to.disk
 recover_keeps from to reply ps ok fits state turn =
     let a = turn.answered in
     let s = a.surrounds (mounted_session (disk_tree from.disk ps)) state in
@@ -79,7 +79,7 @@ found disk other ps begin ok fits same m =
       state = m.healthy ∙ ap (λ t. Healthy (mounted_session t)) (s.1.1 ∙ ap (disk_tree other) (sym pairs) ∙ tree);
     }
 
-restored : (disk : Disk) (ps : List Pair) (begin to : SystemState) (reply : Reply) → IsFound disk ps begin → IsStep begin ops.Recover reply to → RecoversTree (disk_tree disk ps) reply to.disk
+restored : (disk : Disk) (ps : List Pair) (begin to : SystemState) (reply : Reply) → IsFound disk ps begin → IsTreeStep begin ops.Recover reply to → RecoversTree (disk_tree disk ps) reply to.disk
 restored disk ps begin to reply f turn =
     let r = recover_keeps begin to reply ps f.accepted f.writable (f.state ∙ ap (λ t. Healthy (mounted_session t)) (sym f.tree)) turn in
     record { done = r.done; pairs = r.pairs; accepted = r.accepted; writable = r.writable; recovered = r.recovered; kept = r.tree ∙ f.tree }

@@ -1,7 +1,7 @@
 -- Session steps that survive stops survive them.
 use Rattle.std.proofs.Common.{ℕ, ◌≡◌, Bool, true, false, cond, List, Option, Some, refl, sym, ap, ap₂, subst, ◌∙◌}
 use Rattle.lfs_model.specs.declared.limits.Profile.{Profile}
-use Rattle.lfs_model.proofs.Common.{content_at, Disk, block_count, ordered_disk, Operation, Reply, IsHealthySession, HasEitherTree, SurvivesStoppedCalls, SurvivesPowerLoss, HealthyHasDiskTree, ShowsTree, IsStep, SystemState, is_refusal, Session, DiskSummary, Gstate, Healthy, SessionHealth, IsSummary, nonremount_result, is_remount, remount_result, operation_result, Pair, IsAccepted, disk_tree, IsWritable}
+use Rattle.lfs_model.proofs.Common.{content_at, Disk, block_count, ordered_disk, Operation, Reply, IsHealthySession, HasEitherTree, SurvivesStoppedCalls, SurvivesPowerLoss, HealthyHasDiskTree, ShowsTree, IsTreeStep, SystemState, is_refusal, Session, DiskSummary, Gstate, Healthy, SessionHealth, IsSummary, nonremount_result, is_remount, remount_result, operation_result, Pair, IsAccepted, disk_tree, IsWritable}
 use Rattle.lfs_model.proofs.AfterStops.{left_after, left_before}
 use Rattle.lfs_model.proofs.Kept.{one_tree}
 use Rattle.lfs_model.proofs.OtherOrder.{same_pairs, same_tree, writable_in_order}
@@ -30,7 +30,7 @@ same_surroundings disk ps qs a b one other around about =
 -- ---- a turn
 
 -- What is at the end of a session step is what the definitions have there, so a session step that survives stops survives them.
-pub session_step_survives_loss : (from : SystemState) (op : Operation) (reply : Reply) (to : SystemState) → HealthyHasDiskTree from.disk from.state → IsStep from op reply to → SurvivesStoppedCalls from op to → SurvivesPowerLoss from op to
+pub session_step_survives_loss : (from : SystemState) (op : Operation) (reply : Reply) (to : SystemState) → HealthyHasDiskTree from.disk from.state → IsTreeStep from op reply to → SurvivesStoppedCalls from op to → SurvivesPowerLoss from op to
 session_step_survives_loss from op reply to agrees turn survives = record { stops = survives; stands = λ s ps around work clean fails. stands s ps around work }
   where
     stands : (s : Session) (ps : List Pair) (around : DiskSummary) → IsHealthySession from s ps around → HasEitherTree to.disk s.tree (operation_result around s op).1.tree

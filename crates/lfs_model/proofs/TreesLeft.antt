@@ -1,6 +1,6 @@
 -- Which tree a loss of power in a life leaves, from what its turns define.
 use Rattle.std.proofs.Common.{append-nil, ◌≡◌, ◌⊎◌, inl, inr, Bool, true, false, cond, List, [], ◌∷◌, ◌++◌, Option, Some, None, refl, sym, ap, subst, ◌∙◌}
-use Rattle.lfs_model.proofs.Common.{default_profile, zero_gstate, Disk, ordered_disk, Pair, Tree, Operation, Reply, Refusal, Session, DiskSummary, IsHealthySession, operation_result, operation_effect, operation_refusal, unless_refused, SessionHealth, HasFailed, Healthy, is_remount, nonremount_result, remount_result, mounted_session, SystemState, HealthyHasDiskTree, IsStep, is_refusal, and_parts}
+use Rattle.lfs_model.proofs.Common.{default_profile, zero_gstate, Disk, ordered_disk, Pair, Tree, Operation, Reply, Refusal, Session, DiskSummary, IsHealthySession, operation_result, operation_effect, operation_refusal, unless_refused, SessionHealth, HasFailed, Healthy, is_remount, nonremount_result, remount_result, mounted_session, SystemState, HealthyHasDiskTree, IsTreeStep, is_refusal, and_parts}
 use Rattle.lfs_model.specs.crash.Failure.{OperationFails}
 use Rattle.lfs_model.specs.session.Operations as ops
 use Rattle.lfs_model.specs.session.Headline.{session_after}
@@ -50,7 +50,7 @@ remount_keeps around s ops.Remount e = refl
 remount_keeps around s _ e = absurd (cc)
 
 -- what an answered operation makes of the session, by any summary of its disk
-answered_result : (at next : SystemState) (op : Operation) (reply : Reply) (s : Session) (ps : List Pair) (around : DiskSummary) → is_remount op ≡ false → IsStep at op reply next → IsHealthySession at s ps around →
+answered_result : (at next : SystemState) (op : Operation) (reply : Reply) (s : Session) (ps : List Pair) (around : DiskSummary) → is_remount op ≡ false → IsTreeStep at op reply next → IsHealthySession at s ps around →
     next.state ≡ Healthy (operation_result around s op).1
 answered_result at next op reply s ps around other step work =
     let a = step.answered in

@@ -11,7 +11,7 @@ ghost use Rattle.lfs_model.specs.session.Operations as ops;
 ghost use Rattle.lfs_model.specs.session.Operations.{FlagsOfOpen, Operation, Reply, Exist};
 ghost use Rattle.lfs_model.specs.session.Session.{OpenFile, OpenFilesByNumber, Session, DiskSummary, file_numbered, files_with_file};
 ghost use Rattle.lfs_model.specs.session.State.{Healthy, is_remount, mounted_session};
-ghost use Rattle.lfs_model.specs.session.Run.{SystemState, IsStep, is_refusal};
+ghost use Rattle.lfs_model.specs.session.Run.{SystemState, IsTreeStep, is_refusal};
 ghost use Rattle.lfs_model.specs.session.Accepted.{IsAcceptedOpen, IsAcceptedStep};
 ghost use Rattle.lfs_model.specs.crash.Lives.{Turn, IsLife, answered, failed, all_answered, fails_last};
 ghost use Rattle.lfs_model.specs.crash.RepeatedPowerLoss.{IsMounted, KeepsTree, LeftBetween, MeetsRunPremises, SameBytes};
@@ -22,8 +22,8 @@ ghost use Rattle.lfs_model.specs.examples.Runs.{fresh_state, failed_state, block
 
 /// An operation that wasn't refused passed its checks, and had its effect.
 pub fn accepted_operations_have_their_effect()
-    ensures effect { (from to : SystemState) (op : Operation) (reply : Reply) (s : Session) → from.state ≡ Healthy s → is_remount op ≡ false → is_refusal reply ≡ false → IsStep from op reply to → IsAcceptedStep from s op reply to }
-    ensures open { (from to : SystemState) (s : Session) (path : List ℕ) (flags : FlagsOfOpen) (fd : ℕ) → from.state ≡ Healthy s → IsStep from (ops.Open path flags) (ops.Opened fd) to → IsAcceptedOpen s path flags fd }
+    ensures effect { (from to : SystemState) (op : Operation) (reply : Reply) (s : Session) → from.state ≡ Healthy s → is_remount op ≡ false → is_refusal reply ≡ false → IsTreeStep from op reply to → IsAcceptedStep from s op reply to }
+    ensures open { (from to : SystemState) (s : Session) (path : List ℕ) (flags : FlagsOfOpen) (fd : ℕ) → from.state ≡ Healthy s → IsTreeStep from (ops.Open path flags) (ops.Opened fd) to → IsAcceptedOpen s path flags fd }
 
     // What is written under that number, is found there.
     ensures file { (files : OpenFilesByNumber) (fd : ℕ) (old new : OpenFile) → file_numbered files fd ≡ Some old → file_numbered (files_with_file files fd (Some new)) fd ≡ Some new }
@@ -56,7 +56,7 @@ pub fn sessions_start_safely()
 /// of them is about the device's erases.
 pub fn session_may_lose_power()
     ensures fresh { (at : SystemState) → IsFreshDisk at.disk → at.state ≡ Healthy (mounted_session empty_tree) → MayLosePower at }
-    ensures recovered { (from to : SystemState) (s : Session) → from.state ≡ Healthy s → IsStep from ops.Recover ops.Done to → MayLosePower to }
+    ensures recovered { (from to : SystemState) (s : Session) → from.state ≡ Healthy s → IsTreeStep from ops.Recover ops.Done to → MayLosePower to }
     ensures goes_on { (from : SystemState) (turns : List Turn) (to : SystemState) → MayLosePower from → IsLife from turns to → all_answered turns ≡ true → MayLosePower to }
     ensures premises { (from to : SystemState) → MayLosePower from → AllCallsSince ErasesCleanly from.calls to.calls → MeetsRunPremises from to }
     ensures may { MayLosePower fresh_state }

@@ -5,12 +5,17 @@ ghost use Rattle.lfs_model.specs.format.Disk.{ordered_disk};
 ghost use Rattle.lfs_model.specs.declared.order.NameOrder.TheVariants.{LongerFirst};
 ghost use Rattle.lfs_model.specs.session.Operations as ops;
 ghost use Rattle.lfs_model.specs.session.Operations.{Operation, Reply, Failed};
-ghost use Rattle.lfs_model.specs.session.Run.{SystemState, HealthyHasDiskTree};
+ghost use Rattle.lfs_model.specs.session.Run.{SystemState, HealthyHasDiskTree, IsStep, IsTreeStep};
 ghost use Rattle.lfs_model.specs.crash.Performed.{ArePerformed, IsRun};
 ghost use Rattle.lfs_model.specs.crash.Lives.{Turn, IsTurn, IsLife, IsLifeOfRun, IsRunInTurns, FailLikeLossInside, answered, failed, fails_last};
-ghost use Rattle.lfs_model.specs.crash.LifeHeadline.{AnswersAsDisk, LifeMatchesDisk};
+ghost use Rattle.lfs_model.specs.crash.LifeHeadline.{AnswersAsDisk, AreAnswers, LifeMatchesDisk};
 ghost use Rattle.lfs_model.specs.examples.Images.{small_image};
 ghost use Rattle.lfs_model.specs.examples.Runs.{fresh_state, failed_state, state_after_open};
+
+/// A step that says where it leaves the slots is a step, as a life has them.
+pub fn steps_are_tree_steps()
+    ensures { (from to : SystemState) (op : Operation) (reply : Reply) → IsStep from op reply to → IsTreeStep from op reply to }
+{}
 
 /// Lives join, and a life can be parted after any turn.
 pub fn lives_are_joined()
@@ -49,6 +54,7 @@ pub fn session_lives_on_after_error()
 /// What holds of a life on a fresh disk, and what is said of turns that failed.
 pub fn fresh_session_agrees_with_its_disk()
     ensures matches { LifeMatchesDisk fresh_state (answered (ops.Stat (codes "/")) (ops.StatIs None) fresh_state ∷ []) fresh_state }
+    ensures not_answered { AreAnswers fresh_state (answered (ops.Stat (codes "/")) (ops.StatIs (Some 5)) fresh_state ∷ []) fresh_state → ⊥ }
     ensures not_failed { AnswersAsDisk failed_state → ⊥ }
     ensures last { fails_last (answered (ops.Stat (codes "/")) (ops.StatIs None) fresh_state ∷ failed (ops.Mkdir (codes "/d")) failed_state ∷ []) ≡ true }
     ensures not_last { fails_last (failed (ops.Mkdir (codes "/d")) failed_state ∷ answered (ops.Stat (codes "/")) (ops.Refused Failed) failed_state ∷ []) ≡ false }

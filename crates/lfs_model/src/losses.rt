@@ -9,7 +9,7 @@ ghost use Rattle.lfs_model.specs.tree.Fresh.{empty_tree};
 ghost use Rattle.lfs_model.specs.crash.Conformance.{CallsConform};
 ghost use Rattle.lfs_model.specs.session.Operations as ops;
 ghost use Rattle.lfs_model.specs.session.Operations.{Operation, Reply};
-ghost use Rattle.lfs_model.specs.session.Run.{HealthyHasDiskTree, IsStep, SystemState};
+ghost use Rattle.lfs_model.specs.session.Run.{HealthyHasDiskTree, IsTreeStep, SystemState};
 ghost use Rattle.lfs_model.specs.crash.Failure.{OperationFails};
 ghost use Rattle.lfs_model.specs.crash.Performed.{FailsDuringRun};
 ghost use Rattle.lfs_model.specs.crash.PowerLoss.{HasEitherTree, SurvivesLossSince, SurvivesStoppedCalls, SurvivesPowerLoss, with_blocks};
@@ -80,7 +80,7 @@ pub fn repeated_power_losses_keep_tree()
 /// At its end an operation leaves the tree that the definitions give. So an operation that survives stops survives losses of
 /// power.
 pub fn operation_surviving_stopped_calls_survives_power_loss()
-    ensures { (from to : SystemState) (op : Operation) (reply : Reply) → HealthyHasDiskTree from.disk from.state → IsStep from op reply to → SurvivesStoppedCalls from op to → SurvivesPowerLoss from op to }
+    ensures { (from to : SystemState) (op : Operation) (reply : Reply) → HealthyHasDiskTree from.disk from.state → IsTreeStep from op reply to → SurvivesStoppedCalls from op to → SurvivesPowerLoss from op to }
 {}
 
 /// After its last call a device that conforms holds what a stop may leave. So it is also where an error ended the operation.

@@ -79,8 +79,8 @@ asked_to_save old at path from idle (h1, (opens, same1, (h2, (seek, same2, (h3, 
     let d1 = done h1 (ops.Seek 0 from) seek.reply h2 refl d0.works seek.accepted seek.call.answers in
     let d2 = done h2 ops.UsedCount used.reply h3 refl d1.works used.accepted used.call.answers in
     let first : IsWritable old.tree.disk d0.pairs = d0.surrounds.writable.0 (writable_already d0.around (viewed_session old) path writing_flags refl d0.passes) in
-    let second = (opens.call.answers.effect_on_disk opens.accepted (viewed_session old) (healthy_view old idle.works) d0.pairs d1.pairs d0.accepted d1.accepted).profile first in
-    let third = (seek.call.answers.effect_on_disk seek.accepted (viewed_session h1) (healthy_view h1 d0.works) d1.pairs d2.pairs d1.accepted d2.accepted).profile second in
+    let second = (opens.call.answers.effect_on_disk opens.accepted (viewed_session old) (healthy_view old idle.works) d0.pairs d1.pairs d0.accepted d1.accepted).effect.profile first in
+    let third = (seek.call.answers.effect_on_disk seek.accepted (viewed_session h1) (healthy_view h1 d0.works) d1.pairs d2.pairs d1.accepted d2.accepted).effect.profile second in
     let there = there_already d0.around (viewed_session old) path writing_flags refl d0.passes in
     subst (λ h. IsAsked old path h) (sym (used.call.asks.asked refl) ∙ end) (record {
       around = d2.around;

@@ -205,7 +205,7 @@ fits h around ps v m ok sum room dirty turned len =
 pub room_stays : (old new : SessionView) (op : Operation) (reply : Reply) (n : ℕ) → is_remount op ≡ false → writes_or_truncates op ≡ true → is_refusal reply ≡ false → IsStep (system_state old) op reply (system_state new) → SameGeometry old.tree.disk new.tree.disk →
     IsDone old op reply new → old.tree.failed ≡ false → HasRoom old n → HasRoom new n
 room_stays old new op reply n other writes accepted step geometry d works room qs ok =
-    let effect = step.effect_on_disk accepted (viewed_session old) (healthy_view old works) d.pairs qs d.accepted ok in
+    let effect = (step.effect_on_disk accepted (viewed_session old) (healthy_view old works) d.pairs qs d.accepted ok).effect in
     let shown = (effect.fills writes).1 (disk_view old.tree.disk d.pairs) (d.pairs, (d.accepted, refl)) in
     let same = one_view new.tree.disk (disk_view old.tree.disk d.pairs) (disk_view new.tree.disk qs) shown (qs, (ok, refl)) in
     let used : length (used_blocks old.tree.disk d.pairs) ≡ length (used_blocks new.tree.disk qs) = ap (λ (v : DiskView). length v.used) same in

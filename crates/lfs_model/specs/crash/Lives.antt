@@ -3,7 +3,7 @@
 use Rattle.std.specs.Prelude.{◌≡◌, ◌≢◌, ◌&&◌, ◌||◌, Bool, true, false, List, [], ◌∷◌, ◌++◌, Option, Some, None, is_some, map}
 use Rattle.lfs_model.specs.session.History.{AllCallsSince}
 use Rattle.lfs_model.specs.session.Operations.{Operation, Reply}
-use Rattle.lfs_model.specs.session.Run.{SystemState, IsStep}
+use Rattle.lfs_model.specs.session.Run.{SystemState, IsTreeStep}
 use Rattle.lfs_model.specs.crash.Failure.{OperationFails}
 use Rattle.lfs_model.specs.crash.PowerLoss.{FailsLikeLoss, SurvivesPowerLoss}
 
@@ -16,7 +16,7 @@ pub record Turn : Type 0 where
 -- the operation was answered, a refusal among the replies, or it failed
 abbrev pub EndsWith : Option Reply → SystemState → Operation → SystemState → Type 0
 EndsWith None from op to = OperationFails from op to
-EndsWith (Some reply) from op to = IsStep from op reply to
+EndsWith (Some reply) from op to = IsTreeStep from op reply to
 
 -- One turn: what it did, and what a loss of power in it leaves.
 pub record IsTurn (from : SystemState) (turn : Turn) : Type 0 where
@@ -37,7 +37,7 @@ failed op to = record { op = op; reply = None; to = to }
 
 abbrev pub all_answered : List Turn → Bool
 all_answered [] = true
-all_answered (turn ∷ turns) = is_some turn.reply && all_answered turns
+all_answered (turn ∷ later) = is_some turn.reply && all_answered later
 
 abbrev pub is_last : List Turn → Bool
 is_last [] = true

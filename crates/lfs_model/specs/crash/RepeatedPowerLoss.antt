@@ -16,7 +16,7 @@ use Rattle.lfs_model.specs.session.Session.{Session, DiskSummary}
 use Rattle.lfs_model.specs.session.Effects.{operation_result}
 use Rattle.lfs_model.specs.session.State.{Healthy, is_remount, mounted_session}
 use Rattle.lfs_model.specs.session.Recovery.{IsRecovered}
-use Rattle.lfs_model.specs.session.Run.{SystemState, ShowsTree, IsStep}
+use Rattle.lfs_model.specs.session.Run.{SystemState, ShowsTree, IsTreeStep}
 use Rattle.lfs_model.specs.session.Headline.{HasDiskTree}
 use Rattle.lfs_model.specs.crash.Lives.{Turn, IsTurn, IsLife, FailLikeLossInside}
 use Rattle.lfs_model.specs.crash.PowerLoss.{with_blocks, FailsLikeLoss, IsHealthySession}
@@ -50,7 +50,7 @@ pub record KeepsTree (tree : Tree) (disk : Disk) : Type 0 where
   pub writable : IsWritable disk pairs
   pub shows : disk_tree disk pairs ≡ tree
   pub mounts : (other : Disk) (begin : SystemState) → SameBytes disk other → IsMounted other begin → begin.state ≡ Healthy (mounted_session tree)
-  pub recovers : (other : Disk) (begin to : SystemState) (reply : Reply) → SameBytes disk other → IsMounted other begin → IsStep begin ops.Recover reply to
+  pub recovers : (other : Disk) (begin to : SystemState) (reply : Reply) → SameBytes disk other → IsMounted other begin → IsTreeStep begin ops.Recover reply to
       → RecoversTree tree reply to.disk
 
 -- ---- a stop

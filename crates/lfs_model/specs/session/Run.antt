@@ -146,12 +146,19 @@ pub record IsDiskEffect (disk : Disk) (ps : List Pair) (s : Session) (op : Opera
   -- what is left to recover
   pub recovered : recovers_first op ≡ true → IsRecovered qs
   pub stays : IsRecovered ps → IsRecovered qs
-  -- where slots are
-  pub arranged : edits_slots s op ≡ true → IsLayoutMoved disk ps s op calls new qs
   pub profile : IsWritable disk ps → IsWritable new qs
 
--- One operation, from the system state before it to the one after it.
-pub record IsStep (from : SystemState) (op : Operation) (reply : Reply) (to : SystemState) : Type 0 where
+-- The same, and where the slots are afterwards.
+pub record IsArrangedEffect (disk : Disk) (ps : List Pair) (s : Session) (op : Operation) (calls : List CallEvent) (new : Disk) (qs : List Pair) : Type 0 where
+  pub effect : IsDiskEffect disk ps s op calls new qs
+  pub arranged : edits_slots s op ≡ true → IsLayoutMoved disk ps s op calls new qs
+
+-- a relation between a disk with its pairs, an operation of a session, its calls, and the disk with its pairs afterwards
+abbrev pub EffectRelation : Type 1
+EffectRelation = Disk → List Pair → Session → Operation → List CallEvent → Disk → List Pair → Type 0
+
+-- One operation, from the system state before it to the one after it. Where it is accepted, it has this effect on the disk.
+pub record IsStepWith (Effect : EffectRelation) (from : SystemState) (op : Operation) (reply : Reply) (to : SystemState) : Type 0 where
   pub answered : IsReply from.disk to.disk.order from.state op reply to.state
   pub agrees : HealthyHasDiskTree to.disk to.state
   pub geometry : SameGeometry (operation_disk op to.disk.order from.disk) to.disk
@@ -161,7 +168,15 @@ pub record IsStep (from : SystemState) (op : Operation) (reply : Reply) (to : Sy
   pub remounted : is_remount op ≡ true → IsRemountedDisk from.disk calls to.disk
   pub failed : is_remount op ≡ false → from.state ≡ HasFailed → calls ≡ []
   pub effect_on_disk : is_refusal reply ≡ false → (s : Session) → from.state ≡ Healthy s → (ps qs : List Pair)
-      → IsAccepted from.disk ps → IsAccepted to.disk qs → IsDiskEffect from.disk ps s op calls to.disk qs
+      → IsAccepted from.disk ps → IsAccepted to.disk qs → Effect from.disk ps s op calls to.disk qs
+
+-- an operation, by what it does to what the disk shows
+abbrev pub IsTreeStep : SystemState → Operation → Reply → SystemState → Type 0
+IsTreeStep from op reply to = IsStepWith IsDiskEffect from op reply to
+
+-- the same, and where it leaves the slots
+abbrev pub IsStep : SystemState → Operation → Reply → SystemState → Type 0
+IsStep from op reply to = IsStepWith IsArrangedEffect from op reply to
 
 -- operations in order, with their replies
 abbrev pub AreSteps : SystemState → List Operation → List Reply → SystemState → Type 0

@@ -9,12 +9,13 @@ use Rattle.lfs_model.proofs.AskedStep.{turn}
 use Rattle.lfs_model.proofs.Example.{fresh}
 use Rattle.lfs_model.proofs.Fresh.{accepted, shows}
 use Rattle.lfs_model.proofs.FreshSession.{around, pairs, surviving}
+use Rattle.lfs_model.proofs.SessionSteps.{tree_step}
 use Rattle.lfs_model.proofs.StepsMade.{remounted_step}
 use Rattle.lfs_model.specs.crash.Lives.{IsTurn, answered, failed}
 use Rattle.lfs_model.proofs.lives.session_lives_on_after_error.Goals as goal
 
 asked : IsTurn fresh_state (answered (ops.Stat (codes "/")) (ops.StatIs None) fresh_state)
-asked = record { ends = turn; survives_loss = surviving (ops.Stat (codes "/")) (Healthy (mounted_session _)) }
+asked = record { ends = tree_step fresh_state fresh_state _ _ turn; survives_loss = surviving (ops.Stat (codes "/")) (Healthy (mounted_session _)) }
 
 fails : IsTurn fresh_state (failed (ops.Mkdir (codes "/d")) failed_state)
 fails = record {
@@ -68,4 +69,4 @@ works_again =
     (remounted_step small_image LongerFirst pairs around HasFailed [] [] (λ s e. absurd (cc)) fits_longer (λ e. absurd (cc)) (refl, refl) tt)
 
 pub returns-clause-again : goal.returns-clause-again
-returns-clause-again c = (refused, (record { ends = works_again; survives_loss = none_stopped ops.Remount _ }, refl))
+returns-clause-again c = (refused, (record { ends = tree_step failed_state _ ops.Remount ops.Done works_again; survives_loss = none_stopped ops.Remount _ }, refl))

@@ -21,7 +21,7 @@ returns-clause-synced c = sync_step
 pub returns-clause-no_call : goal.returns-clause-no_call
 returns-clause-no_call c = λ h.
     let done = h.effect_on_disk refl opened refl (next ∷ []) (next ∷ []) completed.accepted completed.accepted in
-    let none = (done.silent refl).1 in
+    let none = (done.effect.silent refl).1 in
     let same = append_cancel_right (repeated_reads 1) h.calls state_after_open.calls h.called in
     absurd (let k = same ∙ none in cc)
 

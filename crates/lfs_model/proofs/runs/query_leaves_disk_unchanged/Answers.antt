@@ -18,7 +18,7 @@ no_change : (to : SystemState) → to.disk ≡ two_commit_image → IsStep fresh
 no_change to e h =
     let known = true_from to (session_step_is_healthy fresh_state to op (ops.StatIs None) h tt) h.agrees in
     let done = h.effect_on_disk refl (mounted_session empty_tree) refl (fresh_pair small_image ∷ []) known.shows.0 (accepted small_image fresh) known.shows.1.0 in
-    differ (sym (done.asks refl).0 ∙ e)
+    differ (sym (done.effect.asks refl).0 ∙ e)
 
 pub returns-clause-no_change : goal.returns-clause-no_change
 returns-clause-no_change c = no_change

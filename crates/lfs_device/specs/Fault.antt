@@ -5,7 +5,7 @@ use Rattle.lfs_device.specs.declared.fault.CountedCalls.TheVariants.{Any, Read, 
 use Rattle.lfs_device.specs.declared.fault.FaultExtent.{FaultExtent}
 use Rattle.lfs_device.specs.declared.fault.FaultExtent.TheVariants.{Nothing, FirstBytes, AllButFirst, Whole}
 use Rattle.lfs_device.specs.declared.fault.PlannedFault.{PlannedFault}
-use Rattle.lfs_model.specs.session.History.DeviceCall.{Read as Read', Program as Program', Erase as Erase'}
+use Rattle.lfs_model.specs.session.History.DeviceCall.{Read as Read', Program as Program', Erase as Erase', Blank as Blank'}
 use Rattle.lfs_model.specs.session.History.{DeviceCall, CallEvent, read_count, program_count, erase_count}
 
 abbrev pub call_count : CountedCalls → List CallEvent → ℕ
@@ -14,7 +14,9 @@ call_count Read history = read_count history
 call_count Program history = program_count history
 call_count Erase history = erase_count history
 
+-- a question whether bytes are blank isn't
 abbrev pub is_counted : CountedCalls → DeviceCall → Bool
+is_counted Any (Blank' block off len) = false
 is_counted Any call = true
 is_counted Read (Read' block off len) = true
 is_counted Program (Program' block off bytes) = true

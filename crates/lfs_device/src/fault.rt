@@ -1,10 +1,10 @@
-ghost use Rattle.std.specs.Prelude.{◌≡◌, ◌≤◌, ◌<◌, ◌+◌, ◌-◌, ◌^◌, ◌||◌, ℕ, true, false, min, [], length, slice_range, is_err, IfSome, OnOk, Ok, None, Some};
+ghost use Rattle.std.specs.Prelude.{◌≡◌, ◌≤◌, ◌<◌, ◌+◌, ◌-◌, ◌^◌, ◌||◌, ℕ, true, false, min, [], length, slice_range, is_err, is_none, ◌&&◌, IfErr, IfSome, OnOk, Ok, None, Some};
 ghost use Rattle.lfs_model.specs.format.Blocks.{SameExcept, block_bytes, programmed};
 ghost use Rattle.lfs_model.specs.session.History.{read_count, program_count, erase_count, fault_count, is_unprogrammed_byte, LeftByLatest};
-ghost use Rattle.lfs_model.specs.session.History.DeviceCall.{Read, Program, Erase};
+ghost use Rattle.lfs_model.specs.session.History.DeviceCall.{Read, Program, Erase, Blank};
 ghost use Rattle.lfs_model.specs.crash.Conformance.{CallsConform};
 ghost use Rattle.lfs_model.specs.crash.Premises.{MeetsPremises};
-ghost use Rattle.lfs_device.specs.BlockCalls.{CanProgram, IsWithinBlock, Programs};
+ghost use Rattle.lfs_device.specs.BlockCalls.{AsksIfBlank, CanProgram, IsWithinBlock, Programs};
 ghost use Rattle.lfs_device.specs.Fault.{call_count, extent_if_due, extent_with_bad, have_due_failed, is_bad_block, is_partial, numbered_extent, unplanned_faults};
 ghost use Rattle.lfs_device.specs.DevicePremises.{DevicesMeetPremisesFaultless};
 ghost use Rattle.lfs_device.specs.CallsBelow.{AddsNoFault, KeepsFirstBytes, PassesUnlessDue, programmed_bytes};
@@ -53,12 +53,14 @@ pub struct PlannedFault {
 /// A device over another device. One of its calls fails, for tests of faults.
 ///
 /// Each other call is passed to the device below, and fails only where that one fails. The calls
-/// are counted up to `u64::MAX`.
+/// are counted up to `u64::MAX`. Questions whether bytes are blank aren't counted.
 #[derive(Drop)]
 pub struct FaultDevice<D: BlockDevice> {
     inner: D,
     fault: PlannedFault,
     tears: bool,
+    // Whether the device passes on what the one below says of blank bytes.
+    checks_blanks: bool,
     // Holds a block's bytes while an erase of it is cut short. Without it such an erase does nothing.
     buffer: Option<Vec<u8>>,
     read_calls: u64,
@@ -78,7 +80,7 @@ pub struct FaultDevice<D: BlockDevice> {
 }
 
 impl<D: BlockDevice> FaultDevice<D> {
-    ghost use Rattle.lfs_device.specs.FaultDevice.{inner_device, planned_fault, can_tear, fault_history};
+    ghost use Rattle.lfs_device.specs.FaultDevice.{inner_device, planned_fault, can_tear, passes_blanks, fault_history};
 
     /// Makes a device whose `n`-th call of those that `which` names fails without an effect. `n`
     /// counts from 1; at 0 no call fails. With `stop` each later call fails too. Every byte counts
@@ -87,6 +89,7 @@ impl<D: BlockDevice> FaultDevice<D> {
         ensures inner { inner_device result ≡ inner }
         ensures fault { planned_fault result ≡ record { which = which; nth = n; stops = stop; extent = FaultExtent.Nothing; bad_block = None } }
         ensures tears { can_tear result ≡ false }
+        ensures checks { passes_blanks result ≡ false }
         ensures no_call { fault_history result ≡ [] }
     {
         FaultDevice::with_fault(
@@ -107,6 +110,7 @@ impl<D: BlockDevice> FaultDevice<D> {
         ensures inner { inner_device result ≡ inner }
         ensures fault { planned_fault result ≡ record { which = CountedCalls.Any; nth = 0; stops = false; extent = FaultExtent.Nothing; bad_block = Some block } }
         ensures tears { can_tear result ≡ false }
+        ensures checks { passes_blanks result ≡ false }
         ensures no_call { fault_history result ≡ [] }
     {
         FaultDevice::with_fault(
@@ -127,6 +131,7 @@ impl<D: BlockDevice> FaultDevice<D> {
         ensures inner { inner_device result ≡ inner }
         ensures fault { planned_fault result ≡ fault }
         ensures tears { can_tear result ≡ false }
+        ensures checks { passes_blanks result ≡ false }
         ensures no_call { fault_history result ≡ [] }
     {
         let trace = Trace::with_ghost_history(&inner, &());
@@ -134,6 +139,7 @@ impl<D: BlockDevice> FaultDevice<D> {
             inner,
             fault,
             tears: false,
+            checks_blanks: false,
             buffer: None,
             read_calls: 0,
             program_calls: 0,
@@ -148,6 +154,7 @@ impl<D: BlockDevice> FaultDevice<D> {
         ensures inner { inner_device result ≡ inner_device self }
         ensures fault { planned_fault result ≡ record (planned_fault self) { extent = FaultExtent.FirstBytes k } }
         ensures tears { can_tear result ≡ true }
+        ensures checks { passes_blanks result ≡ passes_blanks self }
         ensures history { fault_history result ≡ fault_history self }
     {
         self.with_fault_extent(FaultExtent::FirstBytes(k))
@@ -160,6 +167,7 @@ impl<D: BlockDevice> FaultDevice<D> {
         ensures inner { inner_device result ≡ inner_device self }
         ensures fault { planned_fault result ≡ record (planned_fault self) { extent = FaultExtent.AllButFirst k } }
         ensures tears { can_tear result ≡ true }
+        ensures checks { passes_blanks result ≡ passes_blanks self }
         ensures history { fault_history result ≡ fault_history self }
     {
         self.buffer = Some(buffer);
@@ -171,15 +179,30 @@ impl<D: BlockDevice> FaultDevice<D> {
         ensures inner { inner_device result ≡ inner_device self }
         ensures fault { planned_fault result ≡ record (planned_fault self) { extent = FaultExtent.Whole } }
         ensures tears { can_tear result ≡ can_tear self }
+        ensures checks { passes_blanks result ≡ passes_blanks self }
         ensures history { fault_history result ≡ fault_history self }
     {
         self.with_fault_extent(FaultExtent::Whole)
+    }
+
+    /// Returns the same device, which passes on from now on what the device below says of blank bytes,
+    /// until it stops. Otherwise it never says that bytes are blank.
+    pub fn with_blank_checks(mut self) -> FaultDevice<D>
+        ensures inner { inner_device result ≡ inner_device self }
+        ensures fault { planned_fault result ≡ planned_fault self }
+        ensures tears { can_tear result ≡ can_tear self }
+        ensures checks { passes_blanks result ≡ true }
+        ensures history { fault_history result ≡ fault_history self }
+    {
+        self.checks_blanks = true;
+        self
     }
 
     fn with_fault_extent(mut self, extent: FaultExtent) -> FaultDevice<D>
         ensures inner { inner_device result ≡ inner_device self }
         ensures fault { planned_fault result ≡ record (planned_fault self) { extent = extent } }
         ensures tears { can_tear result ≡ (can_tear self || is_partial extent) }
+        ensures checks { passes_blanks result ≡ passes_blanks self }
         ensures history { fault_history result ≡ fault_history self }
     {
         self.tears = self.tears || is_part(extent);
@@ -195,6 +218,7 @@ impl<D: BlockDevice> FaultDevice<D> {
             inner,
             fault: _,
             tears: _,
+            checks_blanks: _,
             buffer: _,
             read_calls: _,
             program_calls: _,
@@ -271,6 +295,13 @@ impl<D: BlockDevice> FaultDevice<D> {
         }
     }
 
+    // Whether a question about blank bytes goes to the device below.
+    fn passes_questions(&self) -> bool
+        ensures { result ≡ (self.now.checks_blanks && is_none (numbered_extent self.now.fault false self.now.trace.events)) }
+    {
+        self.checks_blanks && self.numbered_extent(false).is_none()
+    }
+
     fn is_bad(&self, block: u32) -> bool
         ensures { result ≡ is_bad_block self.now.fault.bad_block block }
     {
@@ -292,7 +323,7 @@ fn is_part(extent: FaultExtent) -> bool
 }
 
 impl<D: BlockDevice> BlockDevice for FaultDevice<D> {
-    ghost use Rattle.lfs_device.specs.FaultDevice.{AddsCall, inner_device, planned_fault, inner_blocks, fault_history};
+    ghost use Rattle.lfs_device.specs.FaultDevice.{AddsCall, KeepsSettings, inner_device, planned_fault, passes_blanks, inner_blocks, fault_history};
 
     ghost geometry = { λ d. D.geometry d.inner };
 
@@ -367,13 +398,25 @@ impl<D: BlockDevice> BlockDevice for FaultDevice<D> {
         self.trace = Trace::with_ghost_history(&self.inner, &(begun, outcome.is_err()));
         outcome
     }
-    /// Answers no, without a call.
+
+    /// Answers as the device below, if the device was asked to and hasn't stopped. Otherwise answers
+    /// no, without a call.
     fn is_unprogrammed(&mut self, block: u32, off: u32, len: u32) -> Result<bool, Error>
         requires within { IsWithinBlock (D.geometry (inner_device self.old)) block off len }
-        ensures no { result ≡ Ok false }
-        ensures same { self.new ≡ self.old }
+        ensures unasked { passes_blanks self.old ≡ false → (result ≡ Ok false) × (self.new ≡ self.old) }
+        ensures passed { passes_blanks self.old ≡ true → extent_if_due (planned_fault self.old) (Blank block off len) (fault_history self.old) ≡ None
+            → AsksIfBlank block off len (inner_blocks self.old) (inner_blocks self.new) (D.history (inner_device self.old)) (D.history (inner_device self.new)) result }
+        ensures asks { AsksIfBlank block off len (inner_blocks self.old) (inner_blocks self.new) (fault_history self.old) (fault_history self.new) result }
+        ensures same { inner_blocks self.new ≡ inner_blocks self.old }
+        ensures settings { KeepsSettings self.old self.new }
+        ensures error { IfErr result (λ e. e ≡ Error.Io) }
     {
-        let _ = (block, off, len);
-        Ok(false)
+        if !self.passes_questions() {
+            return Ok(false);
+        }
+        let begun = Trace::with_ghost_history(self, &(block, off, len));
+        let answer = self.inner.is_unprogrammed(block, off, len);
+        self.trace = Trace::with_ghost_history(&self.inner, &(begun, answer));
+        answer
     }
 }

@@ -17,6 +17,7 @@ Devices:
                             pairs move when they wear, after N compactions;
                             without options version 2.0, the format's own
                             limits, and pairs that stay at their places
+  blank-checks              the devices from here on say which bytes are blank
   unmount                   ends the session
   mount [KIND N [stop] [torn K | kept K | whole]]
                             mounts the device; its N-th call of KIND (any, read,

@@ -45,6 +45,8 @@ pub struct Script<'a, R: Files> {
     device: ScriptDevice,
     // the profile of the devices that the script makes
     profile: Profile,
+    // whether the devices that the script makes say which bytes are blank
+    checks_blanks: bool,
 }
 
 impl<'a, R: Files + AllocGlobal> Script<'a, R> {
@@ -54,6 +56,17 @@ impl<'a, R: Files + AllocGlobal> Script<'a, R> {
             rt,
             device: ScriptDevice::Nothing,
             profile: Profile::new(),
+            checks_blanks: false,
+        }
+    }
+
+    // Returns a device that was made, as the script makes them.
+    fn prepared(&self, device: RamDevice, erased: Erased) -> RamDevice {
+        let device = device.with_erased(erased);
+        if self.checks_blanks {
+            device.with_blank_checks()
+        } else {
+            device
         }
     }
 
@@ -118,7 +131,10 @@ impl<'a, R: Files + AllocGlobal> Script<'a, R> {
             Err(error) => return Answer::Error(error),
         };
         match RamDevice::blank(self.rt.alloc(), geometry) {
-            Ok(device) => self.format(device.with_erased(erased), order, NO_FAULT),
+            Ok(device) => {
+                let device = self.prepared(device, erased);
+                self.format(device, order, NO_FAULT)
+            }
             Err(error) => Answer::Error(error),
         }
     }
@@ -128,7 +144,10 @@ impl<'a, R: Files + AllocGlobal> Script<'a, R> {
             return Answer::Input;
         };
         match device_of_bytes(bytes, block_size, page, self.profile) {
-            Ok(device) => self.mount(device.with_erased(erased), NO_FAULT),
+            Ok(device) => {
+                let device = self.prepared(device, erased);
+                self.mount(device, NO_FAULT)
+            }
             Err(error) => Answer::Error(error),
         }
     }
@@ -154,7 +173,7 @@ impl<'a, R: Files + AllocGlobal> Script<'a, R> {
         };
         match RamDevice::from_bytes(geometry, bytes) {
             Ok(device) => {
-                let device = device.with_erased(erased);
+                let device = self.prepared(device, erased);
                 self.device = ScriptDevice::Device(device_without_fault(device));
                 answer
             }
@@ -249,6 +268,10 @@ impl<'a, R: Files + AllocGlobal> Script<'a, R> {
         match command {
             Command::Profile(profile) => {
                 self.profile = *profile;
+                Answer::Reply(Reply::Done)
+            }
+            Command::BlankChecks => {
+                self.checks_blanks = true;
                 Answer::Reply(Reply::Done)
             }
             Command::Unmount => self.unmount(),

@@ -20,7 +20,8 @@ pub const NO_FAULT: PlannedFault = PlannedFault {
     bad_block: None,
 };
 
-/// Counts the calls of the device from now on. One of them may fail. Returns `NoMemory` if an erase
+/// Counts the calls of the device from now on. One of them may fail. It says that bytes are blank if
+/// the device below does. Returns `NoMemory` if an erase
 /// that is cut short has no memory for the bytes of a block.
 pub fn plan_fault(alloc: Global, device: RamDevice, fault: PlannedFault) -> Result<Device, Error> {
     let block_size = device.geometry().block_size as usize;
@@ -33,12 +34,13 @@ pub fn plan_fault(alloc: Global, device: RamDevice, fault: PlannedFault) -> Resu
         }
         FaultExtent::Whole => device.whole(),
     };
-    Ok(CountedDevice::new(device))
+    Ok(CountedDevice::new(device.with_blank_checks()))
 }
 
 /// Counts the calls of the device from now on. None fails.
 pub fn device_without_fault(device: RamDevice) -> Device {
-    CountedDevice::new(FaultDevice::new(device, CountedCalls::Any, 0, false))
+    let device = FaultDevice::new(device, CountedCalls::Any, 0, false);
+    CountedDevice::new(device.with_blank_checks())
 }
 
 /// A script's device, or a session over it.

@@ -40,6 +40,8 @@ pub enum Command {
     },
     /// What is accepted of the devices that are made from now on, and how these are written.
     Profile(Profile),
+    /// The devices that are made from now on say which bytes are blank.
+    BlankChecks,
     /// The end of the session.
     Unmount,
     /// A session over the device in hand, one of whose calls will fail.

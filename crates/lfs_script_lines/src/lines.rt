@@ -98,6 +98,7 @@ fn command_of_words(
         CommandName::Put => put_command(alloc, words),
         CommandName::Bytes => bytes_command(words),
         CommandName::Profile => Ok(Command::Profile(profile_of_words(words)?)),
+        CommandName::BlankChecks => Ok(Command::BlankChecks),
         CommandName::Unmount => Ok(Command::Unmount),
         CommandName::Mount => Ok(Command::Mount(fault_of_words(words)?)),
         CommandName::Format => Ok(Command::Format(fault_of_words(words)?)),

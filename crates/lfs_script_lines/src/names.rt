@@ -6,6 +6,7 @@ pub(crate) enum CommandName {
     Fresh,
     Image,
     Profile,
+    BlankChecks,
     Unmount,
     Mount,
     Format,
@@ -37,10 +38,11 @@ pub(crate) enum CommandName {
     Remount,
 }
 
-const NAMES: [CommandName; 32] = [
+const NAMES: [CommandName; 33] = [
     CommandName::Fresh,
     CommandName::Image,
     CommandName::Profile,
+    CommandName::BlankChecks,
     CommandName::Unmount,
     CommandName::Mount,
     CommandName::Format,
@@ -81,6 +83,7 @@ impl CommandName {
             CommandName::Profile => {
                 "profile [also-2.1] [name-max N] [file-max N] [attr-max N] [inline-max N] [pair-cycles N]"
             }
+            CommandName::BlankChecks => "blank-checks",
             CommandName::Unmount => "unmount",
             CommandName::Mount => "mount [KIND N [stop] [torn K | kept K | whole]]",
             CommandName::Format => "format [KIND N [stop] [torn K | kept K | whole]]",
@@ -119,7 +122,8 @@ impl CommandName {
             CommandName::Fresh => (3, 6),
             CommandName::Image | CommandName::Put => (3, 5),
             CommandName::Profile => (0, 11),
-            CommandName::Unmount
+            CommandName::BlankChecks
+            | CommandName::Unmount
             | CommandName::Calls
             | CommandName::Gstate
             | CommandName::UsedCount

@@ -1,4 +1,4 @@
--- A commit that is being built, and what its pages make of a block's log.
+-- A commit being built in a buffer, and the block's log once its pages are programmed.
 use Rattle.std.specs.Prelude.{◌≡◌, ◌<◌, ◌≤◌, ℕ, ◌+◌, ◌-◌, List, [], ◌∷◌, ◌++◌, length, drop, replicate, Option, Some, None, unwrap_or}
 use Rattle.lfs_model.specs.format.Tag.{tag_class, make_tag, tag_before_next}
 use Rattle.lfs_model.specs.format.Log.{LogEntry, chain_of, block_revision}
@@ -6,8 +6,8 @@ use Rattle.lfs_model.specs.layers.Commit.{encoded_size, aligned_end, four_bytes_
 use Rattle.lfs_model.specs.format.EntryTypes.{no_id}
 use Rattle.lfs_model.specs.format.Blocks.{overwritten_at}
 
--- The entries so far, for a buffer of `room` bytes. `previous` is what the commit's first tag is decoded with. A block's first
--- commit has the block's revision.
+-- The entries so far, for a buffer of `room` bytes. `previous` is the tag that the commit's first tag is stored with. Only a
+-- block's first commit has a revision.
 pub record PartialCommit : Type 0 where
   pub page : ℕ
   pub room : ℕ
@@ -15,16 +15,16 @@ pub record PartialCommit : Type 0 where
   pub revision : Option ℕ
   pub entries : List LogEntry
 
--- the commit with an entry more
+-- the commit with one more entry
 abbrev pub commit_adding_entry : LogEntry → PartialCommit → PartialCommit
 commit_adding_entry e b = record b { entries = b.entries ++ e ∷ [] }
 
--- the revision is before the first entry
+-- the buffer offset of the first entry, after the revision if there is one
 abbrev pub entries_start : Option ℕ → ℕ
 entries_start None = 0
 entries_start (Some revision) = 4
 
--- where the checksum's tag is
+-- the buffer offset of the checksum's tag
 abbrev pub checksum_start : PartialCommit → ℕ
 checksum_start b = entries_start b.revision + encoded_size b.entries
 
@@ -42,17 +42,17 @@ checksum_entry b next pages = record { tag = checksum_tag b next; bytes = drop (
 
 -- ---- the log
 
--- Where a commit is in a block: a first one at the block's beginning, another one at the end of the chain.
+-- The offset of a commit in its block: 0 for a block's first commit, otherwise the end of the log.
 abbrev pub IsCommitOffset : Option ℕ → ℕ → List ℕ → ℕ → Type 0
 IsCommitOffset None previous block at = (0 < length (chain_of block).commits) × (at ≡ (chain_of block).end) × (previous ≡ (chain_of block).last)
 IsCommitOffset (Some revision) previous block at = (at ≡ 0) × (previous ≡ 0xffffffff)
 
--- the commits before it
+-- the commits that stay in front of it: none if it is the block's first
 abbrev pub earlier_commits : Option ℕ → List ℕ → List (List LogEntry)
 earlier_commits None block = (chain_of block).commits
 earlier_commits (Some revision) block = []
 
--- Pages that are the commit. In the block they are before the bytes `next`. Then the log has the earlier commits and exactly this
+-- These pages are the commit, if the bytes `next` follow them in the block. The log then has the earlier commits and exactly this
 -- one.
 pub record AreCommitPages (b : PartialCommit) (next : Option (List ℕ)) (pages : List ℕ) : Type 0 where
   pub log : (block : List ℕ) (at : ℕ) → IsCommitOffset b.revision b.previous block at → at + length pages ≤ length block → four_bytes_at block (at + length pages) ≡ next

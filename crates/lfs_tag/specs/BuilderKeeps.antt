@@ -1,4 +1,4 @@
--- A commit's bytes before its checksum, and what a builder keeps of them.
+-- A commit's bytes before its checksum, and how the fields of a builder describe them.
 use Rattle.std.specs.Prelude.{◌≡◌, ◌<◌, ◌≤◌, ℕ, ◌^◌, ◌-◌, true, false, List, [], ◌∷◌, ◌++◌, length, take, min, bit_xor, Option, Some, None, IfSome}
 use Rattle.byteorder.specs.Endian.{little_bytes}
 use Rattle.lfs_model.specs.format.Tag.{IsValidTag, tag_data_size, tag_before_next}
@@ -7,7 +7,7 @@ use Rattle.lfs_model.specs.layers.Commit.{encoded_entries}
 use Rattle.lfs_model.specs.format.Geometry.{is_page}
 use Rattle.lfs_tag.specs.Builder.{PartialCommit, checksum_start}
 
--- what the last of the tags is carried as
+-- the last of these tags, as it is carried to the next one
 abbrev pub carried_tag : ℕ → List LogEntry → ℕ
 carried_tag before [] = before
 carried_tag before (e ∷ es) = carried_tag (tag_before_next e.tag) es
@@ -20,7 +20,7 @@ revision_bytes (Some revision) = little_bytes 4 revision
 abbrev pub checksummed_bytes : PartialCommit → List ℕ
 checksummed_bytes b = revision_bytes b.revision ++ encoded_entries b.previous b.entries
 
--- an entry that is no checksum, and is read as the same entry
+-- an entry that isn't a checksum, and is read back as the same entry
 pub record IsStorableEntry (before : ℕ) (e : LogEntry) : Type 0 where
   pub valid : IsValidTag e.tag
   pub other : is_checksum_entry e ≡ false
@@ -31,7 +31,7 @@ abbrev pub AreStorableEntries : ℕ → List LogEntry → Type 0
 AreStorableEntries before [] = Unit {0}
 AreStorableEntries before (e ∷ es) = IsStorableEntry before e × AreStorableEntries (tag_before_next e.tag) es
 
--- The fields of a builder: how many bytes there are, whether they fit or not, the last tag, and the bytes where they fit.
+-- The fields of a builder: the commit's length, whether or not it fits the buffer, its last tag, and the bytes if they fit.
 pub record BuildsCommit (page len last : ℕ) (buf : List ℕ) (b : PartialCommit) : Type 0 where
   pub page_is : page ≡ b.page
   pub power : is_page b.page ≡ true

@@ -1,4 +1,4 @@
--- What a builder's fields are.
+-- The partial commit that a builder's fields describe.
 use Rattle.lfs_tag.specs.declared.builder.CommitBuilder.TheInside.{Inside}
 use Rattle.lfs_tag.specs.Builder.{PartialCommit}
 use Rattle.lfs_tag.specs.BuilderKeeps.{BuildsCommit}

@@ -1,16 +1,16 @@
--- What a step of a content, or its reading, returns.
+-- The result of reading a content, or of one step of it.
 use Rattle.std.specs.Prelude.{◌≡◌, Result, Ok, Err, Option, Some, None}
 use Rattle.lfs_tag.specs.declared.content.ContentError.{ContentError}
 use Rattle.lfs_tag.specs.declared.content.ContentError.TheVariants as errors
 use Rattle.lfs_device.specs.declared.error.Error.{Error}
 use Rattle.lfs_device.specs.declared.error.Error.TheVariants.{Corrupt, NoMemory}
 
--- The error is that of a malformed log, or of memory that wasn't granted, which may come at any log.
+-- `Malformed` only for a malformed log; `NoMemory` may be returned for any log.
 abbrev pub IsContentError : {S : Type 0} → ContentError → Option S → Type 0
 IsContentError errors.NoMemory o = Unit {0}
 IsContentError errors.Malformed o = o ≡ None
 
--- the value that was computed is left, unless memory ran out
+-- the result is the computed value, or one of these errors
 abbrev pub GivesWithMemory : {X S : Type 0} → (X → S) → Result X ContentError → Option S → Type 0
 GivesWithMemory view (Ok x) o = o ≡ Some (view x)
 GivesWithMemory view (Err e) o = IsContentError e o

@@ -1,4 +1,4 @@
--- The content of the code, as the definitions have it: without where its bytes are in memory.
+-- The code's content as the definitions see it: its values, without where their bytes are in memory.
 use Rattle.std.specs.Prelude.{ℕ, suc, if◌then◌else◌, nat_le, List, [], ◌∷◌, map}
 use Rattle.std.specs.Option.{option_map}
 use Rattle.lfs_model.specs.format.Slots.{Attributes, address_view}
@@ -34,7 +34,7 @@ content_view c = record {
   move = move_view c.move_state;
 }
 
--- the place of the first attribute of a type or a greater one, or the length
+-- the list index of the first attribute of this type or a greater one, or the number of attributes
 abbrev pub index_for_attribute : ℕ → Attributes → ℕ
 index_for_attribute type [] = 0
 index_for_attribute type (a ∷ others) = if nat_le type a.0 then 0 else suc (index_for_attribute type others)

@@ -1,21 +1,21 @@
--- How a search from the newest entry back finds what a log's slots hold, while the id shifts.
+-- A search for a slot's part from the newest entry back, whose id shifts at each create and delete.
 use Rattle.std.specs.Prelude.{ℕ, ◌+◌, ◌-◌, ◌/◌, ◌^◌, ◌==◌, ◌&&◌, ◌||◌, not, nat_lt, nat_le, if◌then◌else◌, Bool, List, [], ◌∷◌, Option, None}
 use Rattle.lfs_model.specs.format.Tag.{tag_type, tag_id, tag_class}
 use Rattle.lfs_model.specs.format.Log.{LogEntry}
 use Rattle.lfs_model.specs.format.EntryTypes.{create_tag_type, is_attribute_removal}
 use Rattle.lfs_model.specs.format.Content.{entry_part}
 
--- What an entry means for an id after it: what the slot holds, its type and its bytes, or which id the slot had before the entry.
+-- What an entry says of the slot that has a given id after it: its part, as type and bytes, or its id before the entry.
 pub data SlotEffect : Type 0 where
   Holds : (part : Option (ℕ × List ℕ)) → SlotEffect
   Was : (id : ℕ) → SlotEffect
 
--- the entry is about this id, and about this type or the one that takes its place
+-- the entry sets or removes this id's part of this type, or replaces it by one of another type
 abbrev pub is_entry_about : LogEntry → ℕ → ℕ → Bool
 is_entry_about e type id =
     tag_id e.tag == id && (nat_lt (tag_class e.tag) 4 && (tag_class e.tag == type / 2 ^ 8 && (not (tag_class e.tag == 3) || tag_type e.tag == type)))
 
--- what a create or a delete means
+-- the effect of a create or a delete
 abbrev pub splice_effect_of : LogEntry → ℕ → SlotEffect
 splice_effect_of e id =
     if tag_type e.tag == create_tag_type
@@ -27,12 +27,12 @@ slot_effect e type id =
     if tag_class e.tag == 4 then splice_effect_of e id
     else (if is_entry_about e type id then Holds (if is_attribute_removal e.tag then None else entry_part e) else Was id)
 
--- what a verdict comes to, where `before` is what the earlier entries hold for an id
+-- what is found given an entry's effect; `before id` is what the earlier entries say of an id
 abbrev pub found_given_effect : SlotEffect → (ℕ → Option (ℕ × List ℕ)) → Option (ℕ × List ℕ)
 found_given_effect (Holds part) before = part
 found_given_effect (Was id) before = before id
 
--- what entries hold for a type and an id, the newest first; it may be of another type of that class
+-- what the entries, newest first, set for a type and an id; it may be of another type of the same class
 abbrev pub found_in_entries : List LogEntry → ℕ → ℕ → Option (ℕ × List ℕ)
 found_in_entries [] type id = None
 found_in_entries (e ∷ es) type id = found_given_effect (slot_effect e type id) (λ i. found_in_entries es type i)
@@ -41,7 +41,7 @@ abbrev pub count_given_effect : SlotEffect → (ℕ → ℕ) → ℕ
 count_given_effect (Holds part) before = 1
 count_given_effect (Was id) before = 1 + before id
 
--- how many entries are looked at for that, the newest first
+-- how many of the entries, newest first, that search looks at
 abbrev pub searched_count : List LogEntry → ℕ → ℕ → ℕ
 searched_count [] type id = 0
 searched_count (e ∷ es) type id = count_given_effect (slot_effect e type id) (λ i. searched_count es type i)

@@ -1,4 +1,4 @@
--- The entries that are left of a walk over a log.
+-- The entries that an iterator over a log hasn't returned yet.
 use Rattle.std.specs.Prelude.{List}
 use Rattle.lfs_tag.specs.declared.entries.Entries.TheInside.{Inside}
 use Rattle.lfs_model.specs.format.Log.{LogEntry, AreEntriesBetween, entries_between}

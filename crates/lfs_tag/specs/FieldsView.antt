@@ -1,4 +1,4 @@
--- The fields of the code, as the definitions have them.
+-- The code's superblocks and move states as the definitions see them.
 use Rattle.lfs_model.specs.format.Slots.{Gstate, address_view}
 use Rattle.lfs_model.specs.format.EntryTypes.{SuperblockFields}
 use Rattle.lfs_tag.specs.declared.fields.Superblock.{Superblock}

@@ -1,4 +1,4 @@
--- How each slot's name compares with a wanted one, made by applying a log's entries in order.
+-- The comparison of each slot's name with a wanted one, computed by applying a log's entries in order.
 use Rattle.std.specs.Prelude.{ℕ, ◌+◌, ◌-◌, ◌==◌, ◌&&◌, not, nat_lt, nat_le, if◌then◌else◌, Bool, false, List, [], ◌∷◌, ◌++◌, length, replicate, slice_set, Option}
 use Rattle.std.specs.Option.{option_map_or}
 use Rattle.std.specs.List.{insert, remove}
@@ -14,31 +14,31 @@ use Rattle.lfs_model.specs.layers.Lookup.{entry_name}
 use Rattle.lfs_tag.specs.declared.lookup.NameComparison.{NameComparison}
 use Rattle.lfs_tag.specs.declared.lookup.NameComparison.TheVariants as slot
 
--- how a slot's name compares, by the order of the wanted name and that one
+-- the comparison for the ordering of the wanted name and a slot's
 abbrev pub ordering_comparison : Ordering → NameComparison
 ordering_comparison Less = slot.Greater
 ordering_comparison Equal = slot.Same
 ordering_comparison Greater = slot.NoneOrLess
 
--- the same of a slot, which may have no name that is looked up
+-- the comparison of a slot's name; a slot without a file's or directory's name counts as less
 abbrev pub comparison_with_slot : NameOrder → Name → RawSlot → NameComparison
 comparison_with_slot order name s = option_map_or (λ other. ordering_comparison (name_cmp order name other)) (entry_name s) slot.NoneOrLess
 
--- the same of the name that an entry gives a slot
+-- the comparison of the name that an entry sets
 abbrev pub comparison_with_entry : NameOrder → Name → LogEntry → NameComparison
 comparison_with_entry order name e = if tag_type e.tag == superblock_name_type then slot.NoneOrLess else ordering_comparison (name_cmp order name e.bytes)
 
 abbrev pub padded_comparisons : List NameComparison → ℕ → List NameComparison
 padded_comparisons ranks id = ranks ++ replicate (id + 1 - length ranks) slot.NoneOrLess
 
--- the ranks after a create or a delete
+-- the comparisons after a create or a delete
 abbrev pub comparisons_after_splice : List NameComparison → LogEntry → List NameComparison
 comparisons_after_splice ranks e =
     if tag_type e.tag == create_tag_type
     then (if nat_le (tag_id e.tag) (length ranks) then insert ranks (tag_id e.tag) slot.NoneOrLess else ranks)
     else (if nat_lt (tag_id e.tag) (length ranks) then remove ranks (tag_id e.tag) else ranks)
 
--- the ranks after an entry, and after all of these
+-- the comparisons after an entry, and after all of these
 abbrev pub comparisons_after_entry : NameOrder → Name → List NameComparison → LogEntry → List NameComparison
 comparisons_after_entry order name ranks e =
     if tag_class e.tag == 0 then slice_set (padded_comparisons ranks (tag_id e.tag)) (tag_id e.tag) (comparison_with_entry order name e)
@@ -50,7 +50,7 @@ comparisons_after order name ranks (e ∷ es) = comparisons_after order name (co
 
 -- ---- the first slot
 
--- what is wanted: the name itself, or a greater one
+-- whether a slot is searched for: the name itself if `same`, otherwise a greater one
 abbrev pub is_wanted : Bool → NameComparison → Bool
 is_wanted same slot.NoneOrLess = false
 is_wanted same slot.Same = same
@@ -62,7 +62,7 @@ is_skipped skip id = option_map_or (λ k. k == id) skip false
 abbrev pub is_wanted_slot : Bool → Option ℕ → ℕ → NameComparison → Bool
 is_wanted_slot same skip id rank = is_wanted same rank && not (is_skipped skip id)
 
--- the first wanted one of the slots from an id on, or the number of slots
+-- the first slot searched for from an id on, or the number of slots
 abbrev pub first_wanted_slot : Bool → Option ℕ → ℕ → List NameComparison → ℕ
 first_wanted_slot same skip id [] = id
 first_wanted_slot same skip id (rank ∷ ranks) = if is_wanted_slot same skip id rank then id else first_wanted_slot same skip (id + 1) ranks

@@ -1,4 +1,4 @@
--- What a search for a name returns.
+-- The result of a search for a name.
 use Rattle.std.specs.Prelude.{ℕ, nat_lt, if◌then◌else◌, true, false, List, length, Option}
 use Rattle.lfs_model.specs.declared.order.NameOrder.{NameOrder}
 use Rattle.lfs_model.specs.format.Content.{RawSlot}
@@ -8,12 +8,12 @@ use Rattle.lfs_tag.specs.declared.lookup.Lookup.TheVariants.{Found, Place}
 use Rattle.lfs_tag.specs.declared.lookup.NameComparison.{NameComparison}
 use Rattle.lfs_tag.specs.Find.{first_wanted_slot}
 
--- the name is found there, or is absent and belongs there
+-- the name has this id, or is absent and belongs at this id
 abbrev pub IsNameLookup : NameOrder → List ℕ → Option ℕ → List RawSlot → Lookup → Type 0
 IsNameLookup order name skip slots (Found id) = IsNameId name skip slots id
 IsNameLookup order name skip slots (Place id) = IsInsertionId order name skip slots id
 
--- how it is computed from the slots' comparisons
+-- the result, computed from the slots' comparisons
 abbrev pub lookup_of_comparisons : Option ℕ → List NameComparison → Lookup
 lookup_of_comparisons skip ranks =
     if nat_lt (first_wanted_slot true skip 0 ranks) (length ranks)

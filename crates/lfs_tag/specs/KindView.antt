@@ -1,4 +1,4 @@
--- What the code makes of a name's type, in the words of the definitions.
+-- The code's kinds of slots as the definitions see them.
 use Rattle.std.specs.Prelude.{ℕ, Bool, false, List, Option, Some, None}
 use Rattle.lfs_model.specs.format.Content.{kind_of_type}
 use Rattle.lfs_model.specs.format.Slots.{is_superblock_kind}

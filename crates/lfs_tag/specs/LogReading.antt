@@ -1,4 +1,4 @@
--- The fields of a `Log` agree with its block.
+-- The fields of a `Log` agree with its block's bytes.
 use Rattle.std.specs.Prelude.{◌≡◌}
 use Rattle.lfs_tag.specs.declared.log.Log.TheInside.{Inside}
 use Rattle.lfs_model.specs.format.Log.{chain_of, block_revision}

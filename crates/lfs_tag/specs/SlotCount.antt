@@ -1,10 +1,10 @@
--- How many slots there are after a log's entries.
+-- The number of slots after a log's entries.
 use Rattle.std.specs.Prelude.{ℕ, ◌+◌, ◌-◌, ◌==◌, not, nat_lt, nat_le, max, if◌then◌else◌, List, [], ◌∷◌}
 use Rattle.lfs_model.specs.format.Tag.{tag_type, tag_id, tag_class}
 use Rattle.lfs_model.specs.format.Log.{LogEntry}
 use Rattle.lfs_model.specs.format.EntryTypes.{create_tag_type}
 
--- where there were so many before the entry, which is allowed there
+-- the number of slots after an entry that is allowed in a log with `count` slots
 abbrev pub slot_count_after_entry : ℕ → LogEntry → ℕ
 slot_count_after_entry count e =
     if tag_class e.tag == 0 then max count (tag_id e.tag + 1)

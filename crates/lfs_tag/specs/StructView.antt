@@ -1,4 +1,4 @@
--- What the code makes of a slot's struct, in the words of the definitions.
+-- The code's structs as the definitions see them.
 use Rattle.std.specs.Prelude.{ℕ, ◌==◌, ◌&&◌, ◌||◌, if◌then◌else◌, Bool, List, length, Option, Some, None}
 use Rattle.lfs_model.specs.format.Content.{decoded_struct}
 use Rattle.lfs_model.specs.format.EntryTypes.{ctz_type, directory_type, inline_type}
@@ -12,10 +12,10 @@ struct_view (variant.Inline bytes) = slots.Inline bytes.now
 struct_view (variant.Ctz head size) = slots.Ctz head size
 struct_view (variant.Branch to) = slots.Branch (address_view to)
 
--- whether a type and bytes are a struct's: bytes of a file, or 8 bytes that name a list or a pair
+-- whether a type and bytes are a struct's: a file's bytes, or 8 bytes that name a skip list or a pair
 abbrev pub is_struct_part : ℕ × List ℕ → Bool
 is_struct_part part = part.0 == inline_type || ((part.0 == ctz_type || part.0 == directory_type) && length part.1 == 8)
 
--- what they say, where they are
+-- the decoded struct, if they are one
 abbrev pub part_struct : ℕ × List ℕ → Option slots.Struct
 part_struct part = if is_struct_part part then Some (decoded_struct part.0 part.1) else None

@@ -1,4 +1,4 @@
--- The content of a log without its slots: how many there are, and whether each has a name and a struct.
+-- The content of a log without its slots: their number, and whether each has a name and a struct.
 use Rattle.std.specs.Prelude.{◌≡◌, ℕ, ◌+◌, ◌-◌, ◌==◌, ◌&&◌, not, nat_lt, nat_le, if◌then◌else◌, Bool, true, false, List, [], ◌∷◌, ◌++◌, length, map, replicate, slice_set, slice_index_or, Option, Some, None, is_some}
 use Rattle.std.specs.Option.{option_map, option_and_then}
 use Rattle.std.specs.List.{insert, remove}
@@ -14,7 +14,7 @@ use Rattle.lfs_tag.specs.declared.summary.SlotSummary.{SlotSummary}
 use Rattle.lfs_tag.specs.declared.summary.PartialSummary as code
 use Rattle.lfs_tag.specs.declared.summary.Summary.{Summary}
 
--- the summary is of that content, which is the log's
+-- the summary is that of the content `c`, which is the log's
 pub record IsLogSummary (block : List ℕ) (c : RawContent) (s : Summary) : Type 0 where
   pub content : content_after empty_raw_content (block_entries block) ≡ Some c
   pub slot_count : s.slot_count ≡ length c.slots
@@ -22,7 +22,7 @@ pub record IsLogSummary (block : List ℕ) (c : RawContent) (s : Summary) : Type
   pub move_state : move_view s.move_state ≡ c.move
   pub complete : s.is_complete ≡ is_some (complete_content c)
 
--- ---- how it is computed: of each slot only whether it has a name and a struct
+-- ---- the computation: of each slot only whether it has a name and a struct
 
 abbrev pub slot_mark : RawSlot → SlotSummary
 slot_mark s = record { has_name = is_some s.name; has_struct = is_some s.struct }
@@ -53,7 +53,7 @@ padded_marks marks id = marks ++ replicate (id + 1 - length marks) empty_mark
 abbrev pub is_complete_mark : SlotSummary → Bool
 is_complete_mark m = m.has_name && m.has_struct
 
--- the marks after an entry, or none where the entry isn't allowed there
+-- the marks after an entry, or None if the entry isn't allowed there
 abbrev pub marks_after_entry : List SlotSummary → LogEntry → Option (List SlotSummary)
 marks_after_entry marks e =
     if tag_class e.tag == 0 then Some (marks_with_change (λ m. record m { has_name = true }) (padded_marks marks (tag_id e.tag)) (tag_id e.tag))
@@ -63,7 +63,7 @@ marks_after_entry marks e =
     else (if tag_class e.tag == 2 then Some (marks_with_change (λ m. record m { has_struct = true }) marks (tag_id e.tag))
     else Some marks))))
 
--- the outline after an entry, or none where the log is malformed
+-- the summary after an entry, or None if the log is malformed
 abbrev pub outline_after_entry : LogOutline → LogEntry → Option LogOutline
 outline_after_entry o e =
     if tag_class e.tag == 5 then Some o

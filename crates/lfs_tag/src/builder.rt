@@ -19,16 +19,16 @@ use byteorder::{BigEndian, ByteOrder, LittleEndian};
 use lfs_device::Error;
 use std::marker::Model;
 
-/// A commit that is built in a buffer: entries, then the checksum and the padding to a page
-/// (SPEC.md of littlefs, "Metadata pairs" and "0x5xx LFS_TYPE_CRC").
+/// A commit being built in a caller's buffer: its entries, then the checksum, then padding up to a
+/// page (SPEC.md of littlefs, "Metadata pairs" and "0x5xx LFS_TYPE_CRC").
 ///
-/// The buffer is for the bytes of a block from its log's end on, or from its beginning for a first
-/// commit. It may be longer than the commit.
+/// The buffer starts at the block's offset where the commit will be programmed: the end of its log,
+/// or offset 0 for a block's first commit. The buffer may be longer than the commit.
 #[derive(Drop)]
 pub struct CommitBuilder<'a> {
     page: usize,
     buf: &'a mut [u8],
-    // How many bytes there are so far, also where they don't fit the buffer.
+    // The length of the commit so far, in bytes. It keeps growing after the buffer is full.
     len: usize,
     last: Tag,
     pushed: PushedCommitProof,
@@ -46,7 +46,7 @@ impl<'a> Model for CommitBuilder<'a> {
     ghost invariant = { IsBuilder };
 }
 
-// Writes the revision of a block where there is room. Returns how many bytes it takes.
+// Writes a block's revision if the buffer has room for it. Returns its size, 4 bytes.
 fn write_revision(buf: &mut [u8], revision: u32) -> usize
     ensures value { result ≡ 4 }
     ensures len { length buf.new ≡ length buf.old }
@@ -58,7 +58,7 @@ fn write_revision(buf: &mut [u8], revision: u32) -> usize
     4
 }
 
-// Writes a stored tag and the bytes after it.
+// Writes a stored tag and its data at an offset.
 fn store_entry(buf: &mut [u8], at: usize, stored: u32, bytes: &[u8])
     requires { at + 4 + length bytes.now ≤ length buf.old }
     ensures { buf.new ≡ overwritten_at buf.old at (big_bytes 4 stored ++ bytes.now) }
@@ -68,7 +68,8 @@ fn store_entry(buf: &mut [u8], at: usize, stored: u32, bytes: &[u8])
     buf[start..start + bytes.len()].copy_from_slice(bytes);
 }
 
-// Writes a stored tag and its bytes where there is room. Returns where they end, or would end.
+// Writes a stored tag and its data at an offset, if they fit the buffer. Returns the offset of
+// their end, whether or not they fit.
 fn write_entry(buf: &mut [u8], at: usize, stored: u32, bytes: &[u8]) -> usize
     ensures end { result ≡ min (at + 4 + length bytes.now) (2 ^ 64 - 1) }
     ensures exact { result ≤ length buf.old → result ≡ at + 4 + length bytes.now }
@@ -83,7 +84,8 @@ fn write_entry(buf: &mut [u8], at: usize, stored: u32, bytes: &[u8]) -> usize
     end
 }
 
-// Writes the checksum's stored tag, the checksum of all bytes before it, and the padding.
+// Writes the stored tag of the checksum, the checksum of all bytes before it, and the padding up to
+// offset `end`.
 fn write_checksum(buf: &mut [u8], at: usize, stored: u32, end: usize)
     requires room { at + 8 ≤ end }
     requires within { end ≤ length buf.old }
@@ -98,7 +100,7 @@ fn write_checksum(buf: &mut [u8], at: usize, stored: u32, end: usize)
     buf[at + 8..end].fill(0xff);
 }
 
-// Returns the checksum's tag for so many bytes.
+// Returns the tag of a checksum entry of `size` bytes, padding included.
 fn checksum_tag(next: Option<[u8; 4]>, size: usize) -> Tag
     requires { size < 2 ^ 10 }
     ensures tag { result ≡ make_tag (checksum_type next) no_id size }
@@ -113,11 +115,11 @@ fn checksum_tag(next: Option<[u8; 4]>, size: usize) -> Tag
 }
 
 impl<'a> CommitBuilder<'a> {
-    /// Makes an empty commit, for pages of 8 to 512 bytes. A page is a power of two.
+    /// Starts an empty commit for a device with this page size: a power of two from 8 to 512 bytes.
     ///
-    /// With a revision it is a block's first commit: the revision is before its entries, and
-    /// `previous` is 0xffffffff. Else `previous` is the last tag of the block's log, as the next
-    /// tag is decoded with it.
+    /// For a block's first commit, `revision` is written before the entries, and `previous` is
+    /// 0xffffffff. For an append, `revision` is None, and `previous` is the last tag of the block's
+    /// log, which the first entry's tag is stored with.
     pub fn new(
         page: u32,
         buf: &'a mut [u8],
@@ -149,9 +151,9 @@ impl<'a> CommitBuilder<'a> {
         }
     }
 
-    /// Adds an entry. The tag is valid and no checksum's, and `bytes` are as many as its length
-    /// says; the length 0x3ff says none. Bytes that don't fit the buffer are only counted, and then
-    /// [`finish`](CommitBuilder::finish) fails.
+    /// Adds an entry. The tag must be valid and not a checksum's. `bytes` must be as long as the
+    /// tag's length says; the length 0x3ff stands for no bytes. An entry that doesn't fit the
+    /// buffer is only counted, and [`finish`](CommitBuilder::finish) then fails.
     pub fn push(&mut self, tag: Tag, bytes: &[u8])
         requires valid { IsValidTag tag }
         requires other { tag_class tag ≢ 5 }
@@ -167,7 +169,7 @@ impl<'a> CommitBuilder<'a> {
         self.last = tag;
     }
 
-    // Returns where the padded commit ends, or the greatest number where the end is past that.
+    // Returns the buffer offset of the padded commit's end, at most `usize::MAX`.
     fn padded_end(&self) -> usize
         ensures { result ≡ min (padded_commit_end self.now) (2 ^ 64 - 1) }
     {
@@ -177,17 +179,17 @@ impl<'a> CommitBuilder<'a> {
             .unwrap_or(usize::MAX)
     }
 
-    /// Returns where the padded commit will end, in bytes from the buffer's start. The end may be
-    /// past the buffer's. Returns `u32::MAX` where the end is past that.
+    /// Returns the buffer offset of the padded commit's end. The offset may be past the buffer's
+    /// end. It is at most `u32::MAX`.
     pub fn end_on_page(&self) -> u32
         ensures { result ≡ min (padded_commit_end self.now) (2 ^ 32 - 1) }
     {
         u32::try_from(self.padded_end()).unwrap_or(u32::MAX)
     }
 
-    /// Returns the commit's last tag, as the next tag in the block is stored with it. `next` is the
-    /// argument that [`finish`](CommitBuilder::finish) will get. The caller's condition is that the
-    /// commit fits the buffer.
+    /// Returns the tag that the next commit in the block continues from, as its `previous`. `next`
+    /// is the argument that [`finish`](CommitBuilder::finish) will get. The commit must fit the
+    /// buffer.
     pub fn last_commit_tag(&self, next: Option<[u8; 4]>) -> Tag
         requires { padded_commit_end self.now ≤ self.now.room }
         ensures { result ≡ tag_before_next (checksum_entry_tag self.now next) }
@@ -196,12 +198,12 @@ impl<'a> CommitBuilder<'a> {
         checksum_tag(next, size).as_previous_tag()
     }
 
-    /// Returns the commit's pages, which the caller programs into the block. `next` is the four
-    /// bytes of the block after them, or None at the block's end. An erase may leave any bytes, so
-    /// the checksum's type is chosen such that `next` decodes as an invalid tag. The padding is
-    /// 0xff.
+    /// Ends the commit and returns its pages, which the caller programs into the block. `next` is
+    /// the four bytes that follow them in the block, or None if the block has fewer. An erase may
+    /// leave any bytes there, so the checksum's type is chosen to make `next` decode as an invalid
+    /// tag. The padding is 0xff.
     ///
-    /// Errors: `TooBig` exactly where the padded commit doesn't fit the buffer.
+    /// Errors: `TooBig` exactly if the padded commit doesn't fit the buffer.
     pub fn finish(self, next: Option<[u8; 4]>) -> Result<&'a [u8], Error>
         ensures fits { IsOk result ↔ (padded_commit_end self.entry ≤ self.entry.room) }
         ensures error { IfErr result (λ e. e ≡ Error.TooBig) }

@@ -5,15 +5,16 @@ ghost use Rattle.lfs_model.specs.format.Crc.{crc_of, IsCrcFrom};
 
 use crate::crc_table::{crc_after_bits, crc_after_eight};
 
-/// Returns the CRC-32 of bytes that follow those with the checksum `start`: polynomial 0x04c11db7,
-/// lowest bit first. Nothing is inverted. So the checksum of a commit begins at 0xffff_ffff and
-/// continues from part to part (SPEC.md of littlefs, "0x5xx LFS_TYPE_CRC").
+/// Continues a CRC-32 over more bytes: returns the checksum of all bytes so far, if `start` is that
+/// of the bytes before these. The polynomial is 0x04c11db7, lowest bit first, and nothing is
+/// inverted at the end. A commit's checksum starts at 0xffff_ffff (SPEC.md of littlefs, "0x5xx
+/// LFS_TYPE_CRC").
 pub fn crc(start: u32, bytes: &[u8]) -> u32
-    // The result is the computed form, for the checksum of parts.
+    // The result is the computed form, which callers continue from part to part.
     ensures value { result ≡ crc_of start bytes.now }
-    // The result is the remainder of the polynomials.
+    // The result is the remainder of the polynomial division.
     ensures remainder { IsCrcFrom start bytes.now result }
-    // No other number is.
+    // No other number is that remainder.
     ensures only { (other : ℕ) → other < 2 ^ 32 → IsCrcFrom start bytes.now other → other ≡ result }
 {
     let mut sum = start;
@@ -25,7 +26,7 @@ pub fn crc(start: u32, bytes: &[u8]) -> u32
     crc_after_bytes(sum, rest)
 }
 
-// Computes the checksum byte by byte.
+// Continues the checksum byte by byte, for the last bytes, which aren't a full eight.
 fn crc_after_bytes(start: u32, bytes: &[u8]) -> u32
     ensures { result ≡ crc_of start bytes.now }
 {

@@ -36,24 +36,24 @@ pub struct Attribute<'a> {
     pub bytes: &'a [u8],
 }
 
-/// A slot: what a log has for one id. In a foreign image a slot may lack its name or its struct.
+/// A slot: what a log says of one id. In a foreign image a slot may lack its name or its struct.
 #[derive(Drop)]
 pub struct Slot<'a> {
     pub name: Option<NameOrStruct<'a>>,
     pub structure: Option<NameOrStruct<'a>>,
-    /// The attributes by ascending type, each type once.
+    /// The attributes, in ascending order of their types. Each type occurs once.
     pub attributes: Vec<Attribute<'a>>,
 }
 
-/// The next pair of the thread. A hard tail continues the directory, a soft one begins another
-/// (SPEC.md of littlefs, "0x6xx LFS_TYPE_TAIL").
+/// A pair's tail, which names the next pair of the thread. A hard tail continues the same
+/// directory, a soft tail leads to another one (SPEC.md of littlefs, "0x6xx LFS_TYPE_TAIL").
 #[derive(Clone, Copy, Debug, PartialEq, Eq, Drop)]
 pub struct Tail {
     pub hard: bool,
     pub pair: [u32; 2],
 }
 
-/// Returns whether the directory continues after this pair: there is a tail, and it is hard.
+/// Returns whether the directory continues in the next pair: the tail exists and is hard.
 pub fn has_hard_tail(tail: Option<Tail>) -> bool
     ensures { result ≡ is_hard_tail (option_map tail_view tail) }
 {
@@ -63,8 +63,8 @@ pub fn has_hard_tail(tail: Option<Tail>) -> bool
     }
 }
 
-/// The content of a log: the slots by their ids, the last tail and the last move state. A tail to
-/// two null addresses is none.
+/// The content of a log: its slots by id, its last tail and its last move state. A tail that names
+/// two null addresses counts as None.
 #[derive(Drop)]
 pub struct Content<'a> {
     pub slots: Vec<Slot<'a>>,
@@ -72,11 +72,11 @@ pub struct Content<'a> {
     pub move_state: MoveState,
 }
 
-/// The cause for which a log's content wasn't read.
+/// Why the content of a log couldn't be read.
 #[derive(Clone, Copy, Debug, PartialEq, Eq, Drop)]
 pub enum ContentError {
-    /// An entry has a type that the format doesn't have, or a length that doesn't match its type.
-    /// Or its id isn't allowed there.
+    /// An entry's type isn't one of the format's, its length doesn't match its type, or its id
+    /// isn't allowed at that point of the log.
     Malformed,
     /// Memory wasn't granted.
     NoMemory,
@@ -92,7 +92,7 @@ impl From<AllocError> for ContentError {
     }
 }
 
-/// Converts to the file system's error: a malformed log is `Corrupt`.
+/// Converts to the file system's error. A malformed log is `Corrupt`.
 impl From<ContentError> for Error {
     ghost use Rattle.lfs_tag.specs.ContentGives.{content_error};
 
@@ -106,7 +106,7 @@ impl From<ContentError> for Error {
     }
 }
 
-// Returns whether the format has a tag's type, with its length.
+// Returns whether the tag's type is one of the format's, and its length matches that type.
 pub(crate) fn is_format_tag(tag: Tag) -> bool
     ensures { result ≡ is_known_tag tag }
 {
@@ -125,7 +125,7 @@ pub(crate) fn is_format_tag(tag: Tag) -> bool
     }
 }
 
-// Returns whether a tag that needs an id has one.
+// Returns whether the tag names a slot, if its type needs one.
 pub(crate) fn has_needed_slot(tag: Tag) -> bool
     ensures { result ≡ has_needed_id tag }
 {
@@ -142,7 +142,8 @@ fn empty_slot<'a>(alloc: Global) -> Slot<'a>
     }
 }
 
-// Returns the place of the first attribute of a type or a greater one, or the length.
+// Returns the list index of the first attribute whose type is `kind` or greater, or the number of
+// attributes.
 fn attribute_index(attributes: &[Attribute<'_>], kind: u8) -> usize
     ensures { result ≡ index_for_attribute kind (map attribute_view attributes.now) }
 {
@@ -154,7 +155,7 @@ fn attribute_index(attributes: &[Attribute<'_>], kind: u8) -> usize
     attributes.len()
 }
 
-// Sets the attribute of a type.
+// Sets an attribute, in place of one of the same type. The list stays in order.
 fn set_attribute<'a>(
     attributes: &mut Vec<Attribute<'a>>,
     attribute: Attribute<'a>,
@@ -170,14 +171,14 @@ fn set_attribute<'a>(
     Ok(())
 }
 
-// Removes the attribute of a type.
+// Removes the attribute of a type, if there is one.
 fn remove_attribute(attributes: &mut Vec<Attribute<'_>>, kind: u8)
     ensures { attributes.new.items ≡ filter (λ a. not (a.kind == kind)) attributes.old.items }
 {
     attributes.retain(|attribute| attribute.kind != kind);
 }
 
-// Adds empty slots up to an id.
+// Adds empty slots until the id exists.
 fn pad_slots(alloc: Global, slots: &mut Vec<Slot<'_>>, id: usize) -> Result<(), AllocError>
     requires { id < 1024 }
     ensures filled { OnOk result (map slot_view slots.new.items ≡ padded_slots (map slot_view slots.old.items) id) }
@@ -189,7 +190,7 @@ fn pad_slots(alloc: Global, slots: &mut Vec<Slot<'_>>, id: usize) -> Result<(), 
     Ok(())
 }
 
-// Names a slot, which may be past the end.
+// Sets a slot's name. If the id is past the last slot, empty slots are added up to it.
 fn set_slot_name<'a>(
     alloc: Global,
     slots: &mut Vec<Slot<'a>>,
@@ -205,7 +206,7 @@ fn set_slot_name<'a>(
     Ok(())
 }
 
-// Gives a slot its struct.
+// Sets a slot's struct.
 fn set_slot_struct<'a>(slots: &mut Vec<Slot<'a>>, id: usize, part: NameOrStruct<'a>)
     requires { id < vec_len slots.old }
     ensures { map slot_view slots.new.items ≡ slot_changed_at (λ s. record s { struct = Some (part_view part.entry) }) (map slot_view slots.old.items) id }
@@ -214,7 +215,7 @@ fn set_slot_struct<'a>(slots: &mut Vec<Slot<'a>>, id: usize, part: NameOrStruct<
     slot.structure = Some(part);
 }
 
-// Sets or removes a slot's attribute.
+// Sets or removes an attribute of a slot, as the entry says.
 fn change_attribute<'a>(
     slots: &mut Vec<Slot<'a>>,
     id: usize,
@@ -234,7 +235,7 @@ fn change_attribute<'a>(
     Ok(())
 }
 
-// Whether a slot is there and has a name.
+// Returns whether a slot exists and has a name.
 fn is_slot_named(slots: &[Slot<'_>], id: usize) -> bool
     ensures value { result ≡ is_some (slot_of_id (map slot_view slots.now) id).name }
     ensures there { IsTrue result → id < length slots.now }
@@ -263,7 +264,7 @@ fn remove_slot(slots: &mut Vec<Slot<'_>>, id: usize)
     slots.remove(id);
 }
 
-// Applies to the slots an entry that is no checksum, tail or move state.
+// Applies an entry to the slots. The entry isn't a checksum, a tail or a move state.
 fn apply_to_slots<'a>(
     alloc: Global,
     slots: &mut Vec<Slot<'a>>,
@@ -304,7 +305,7 @@ fn apply_to_slots<'a>(
     }
 }
 
-// Returns the tail that an entry sets.
+// Returns the tail that an entry sets. None if the entry names two null addresses.
 pub(crate) fn tail_set_by(entry: &Entry<'_>) -> Option<Tail>
     requires { 8 ≤ length entry.now.bytes.now }
     ensures { option_map tail_view result ≡ entry_tail (log_entry_view entry.now) }
@@ -349,11 +350,11 @@ fn apply_to_content<'a>(
 }
 
 impl<'a> Content<'a> {
-    /// Reads a log's content, by applying its entries in order (SPEC.md of littlefs, "Metadata
-    /// tags"). Names, structs and attributes aren't copied.
+    /// Returns the content of a log, by applying its entries in order (SPEC.md of littlefs,
+    /// "Metadata tags"). Names, structs and attributes are borrowed from the block, not copied.
     ///
-    /// Errors: `Malformed` exactly where the log is malformed. `NoMemory` where memory for slots
-    /// and attributes isn't granted.
+    /// Errors: `Malformed` only if the log is malformed; such a log never returns Ok. `NoMemory` if
+    /// memory for slots or attributes isn't granted.
     pub fn read(alloc: Global, log: &Log<'a>) -> Result<Content<'a>, ContentError>
         ensures content { IfOk result (λ c. content_after empty_raw_content (block_entries log.now) ≡ Some (content_view c)) }
         ensures malformed { result ≡ Err ContentError.Malformed → content_after empty_raw_content (block_entries log.now) ≡ None }
@@ -361,8 +362,8 @@ impl<'a> Content<'a> {
         Content::read_with_room(alloc, log, 0)
     }
 
-    /// Reads a log's content as [`read`](Content::read) does. Memory for so many slots is asked for first. For
-    /// slots no more is asked for, unless the log ever had more of them.
+    /// Does what [`read`](Content::read) does, with memory for `slot_count` slots reserved first.
+    /// The list of slots grows again only if the log had more slots at some point.
     ///
     /// Errors are those of [`read`](Content::read).
     pub fn read_with_room(
@@ -386,9 +387,9 @@ impl<'a> Content<'a> {
         Ok(content)
     }
 
-    /// Applies one more entry, as if the log had it at its end.
+    /// Applies one more entry, as if it were the last one of the log.
     ///
-    /// Errors are those of [`read`](Content::read). After an error nothing is known of the content.
+    /// Errors are those of [`read`](Content::read). After an error the content is unspecified.
     pub fn apply_next_entry(&mut self, alloc: Global, entry: &Entry<'a>) -> Result<(), ContentError>
         ensures { GivesWithMemory (λ _. content_view self.new) result (content_after_entry (content_view self.old) (log_entry_view entry.now)) }
     {

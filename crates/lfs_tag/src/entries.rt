@@ -13,7 +13,7 @@ use crate::tag::Tag;
 use byteorder::{BigEndian, ByteOrder};
 use std::marker::Model;
 
-/// The entries of a log that the walk hasn't returned yet, from both ends.
+/// An iterator over a log's entries, oldest first, which can be advanced from both ends.
 #[derive(Drop)]
 pub struct Entries<'a> {
     block: &'a [u8],
@@ -37,7 +37,7 @@ impl<'a> Model for Entries<'a> {
 }
 
 impl<'a> Entries<'a> {
-    // Returns the entries of a block's chain that ends at this place, with this last tag.
+    // Returns the entries of a block whose valid commits end at offset `end` with the tag `last`.
     pub(crate) fn log_entries(block: &'a [u8], end: usize, last: Tag) -> Entries<'a>
         requires end { end ≡ (chain_of block.now).end }
         requires last { last ≡ (chain_of block.now).last }
@@ -55,7 +55,7 @@ impl<'a> Entries<'a> {
 }
 
 impl<'a> Entries<'a> {
-    // Returns the same entries once more.
+    // Returns a copy of the iterator, for another walk over the same entries.
     pub(crate) fn copy_iterator(&self) -> Entries<'a>
         ensures { result ≡ self.now }
     {
@@ -89,8 +89,8 @@ impl<'a> Iterator for Entries<'a> {
     }
 }
 
-// Returns where the entry begins that ends at `end` and whose tag is carried as `last`. Returns
-// also what the tag before it is carried as.
+// Decodes the entry that ends at offset `end`, where `last` is its tag as carried to the next one.
+// Returns the entry's offset, the tag before it as carried to this one, and the entry.
 fn entry_before(block: &[u8], end: usize, last: Tag) -> (usize, Tag, Entry<'_>)
     requires room { 4 + tag_data_size (last % 2 ^ 31) ≤ end }
     requires within { end ≤ length block.now }

@@ -5,7 +5,7 @@ ghost use Rattle.lfs_model.specs.format.Tag.{tag_data_size};
 
 use crate::tag::Tag;
 
-/// A tag and the bytes that follow it, which are in the block that was read.
+/// A tag and its data, which is borrowed from the block.
 #[derive(Clone, Copy, Drop)]
 pub struct Entry<'a> {
     pub tag: Tag,

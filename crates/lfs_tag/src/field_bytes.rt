@@ -1,4 +1,4 @@
-// The bytes of structs, tails and move states: numbers of 32 bits, the lowest byte first.
+// The bytes of structs, tails and move states: little-endian numbers of 32 bits.
 
 ghost use Rattle.std.specs.Prelude.{◌≡◌, ◌^◌, ◌<◌, slice_index};
 ghost use Rattle.std.specs.List.{flat_map};
@@ -12,7 +12,7 @@ ghost use Rattle.lfs_tag.specs.FieldsView.{superblock_view, move_view};
 use crate::fields::{MoveState, Superblock};
 use byteorder::{ByteOrder, LittleEndian};
 
-/// Returns the bytes of a tail, or of a directory's struct, that names this pair.
+/// Encodes a pair's address, as a tail or a directory's struct stores it.
 pub fn pair_bytes(pair: [u32; 2]) -> [u8; 8]
     ensures bytes { result ≡ address_bytes (address_view pair) }
     ensures read { decoded_address result ≡ address_view pair }
@@ -22,8 +22,8 @@ pub fn pair_bytes(pair: [u32; 2]) -> [u8; 8]
     bytes
 }
 
-/// Returns the bytes of a file's struct that names a skip list: the address of its last block, and
-/// its size in bytes (SPEC.md of littlefs, "0x202 LFS_TYPE_CTZSTRUCT").
+/// Encodes a file's CTZ struct: `head`, the address of the skip list's last block, and the file's
+/// size in bytes (SPEC.md of littlefs, "0x202 LFS_TYPE_CTZSTRUCT").
 pub fn ctz_bytes(head: u32, size: u32) -> [u8; 8]
     ensures bytes { result ≡ address_bytes (head, size) }
     ensures read { decoded_struct ctz_type result ≡ Ctz head size }
@@ -31,7 +31,7 @@ pub fn ctz_bytes(head: u32, size: u32) -> [u8; 8]
     pair_bytes([head, size])
 }
 
-/// Returns the bytes of a superblock's struct (SPEC.md of littlefs, "0x0ff LFS_TYPE_SUPERBLOCK").
+/// Encodes the superblock's struct (SPEC.md of littlefs, "0x0ff LFS_TYPE_SUPERBLOCK").
 pub fn superblock_bytes(superblock: &Superblock) -> [u8; 24]
     ensures bytes { result ≡ fields_bytes (superblock_view superblock.now) }
     ensures read { superblock_fields result ≡ superblock_view superblock.now }
@@ -46,7 +46,7 @@ pub fn superblock_bytes(superblock: &Superblock) -> [u8; 24]
     ])
 }
 
-// Returns the bytes of a superblock's six numbers, in their order.
+// Encodes the superblock's six numbers, in order.
 fn six_word_bytes(words: [u32; 6]) -> [u8; 24]
     ensures bytes { result ≡ flat_map (little_bytes 4) words }
     ensures read { superblock_fields result ≡ record {
@@ -63,8 +63,8 @@ fn six_word_bytes(words: [u32; 6]) -> [u8; 24]
     bytes
 }
 
-/// Returns the bytes of a move state. The lowest ten bits of the first word have no meaning, and
-/// are 0.
+/// Encodes a move state. The lowest ten bits of the first word have no meaning and are 0. Requires
+/// a type below 2,048 and an id below 1,024.
 pub fn move_state_bytes(state: &MoveState) -> [u8; 12]
     requires kind { state.now.kind < 2 ^ 11 }
     requires id { state.now.id < 2 ^ 10 }

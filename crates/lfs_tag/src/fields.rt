@@ -1,4 +1,4 @@
-// The fields of structs, tails and move states: numbers of 32 bits, the lowest byte first.
+// The fields of structs, tails and move states: little-endian numbers of 32 bits.
 
 ghost use Rattle.std.specs.Prelude.{◌≡◌, ◌+◌, ◌≤◌, ◌↔◌, IsTrue, length};
 ghost use Rattle.lfs_model.specs.format.Disk.{profile_attr_max, profile_file_max, profile_name_max};
@@ -37,13 +37,13 @@ pub struct Superblock {
 /// deltas (DESIGN.md of littlefs, "The move problem").
 #[derive(Clone, Copy, Debug, PartialEq, Eq, Drop)]
 pub struct MoveState {
-    /// Whether a pair of the thread may be an orphan: no directory leads to it.
+    /// Whether the thread may hold an orphan: a pair that no directory leads to.
     pub sync: bool,
-    /// 0, or the type of a delete where a slot counts as deleted.
+    /// The type of a delete if the state names a slot that counts as deleted, otherwise 0.
     pub kind: u16,
     /// The id of that slot.
     pub id: u16,
-    /// The pair of that slot.
+    /// The address of that slot's pair.
     pub pair: [u32; 2],
 }
 
@@ -51,14 +51,14 @@ impl Superblock {
     /// The name of the superblock's slot.
     pub const NAME: &'static [u8] = b"littlefs";
 
-    /// Version 2.0, which is written.
+    /// Version 2.0, in which fresh images are written.
     pub const VERSION: u32 = 0x0002_0000;
 
-    /// Version 2.1. It is read and changed where a profile accepts it, and isn't made.
+    /// Version 2.1. Images of it are read and changed if a profile accepts it. None is made.
     pub const LATER_VERSION: u32 = 0x0002_0001;
 
-    /// Returns the superblock's fields for a fresh image: the on-disk version, the device's
-    /// geometry and the limits of its profile.
+    /// Returns the superblock of a fresh image: version 2.0, the device's geometry, and the limits
+    /// of its profile.
     pub fn fresh_superblock(geometry: &Geometry) -> Superblock
         ensures fields { superblock_view result ≡ record {
           version = 0x00020000;
@@ -80,7 +80,7 @@ impl Superblock {
         }
     }
 
-    /// Returns whether the limits are those that are written on a device of this geometry.
+    /// Returns whether the limits are those of the geometry's profile.
     pub fn has_geometry_limits(&self, geometry: &Geometry) -> bool
         ensures { IsTrue result ↔ ((self.now.name_max ≡ profile_name_max geometry.now.profile) × (self.now.file_max ≡ profile_file_max geometry.now.profile) × (self.now.attr_max ≡ profile_attr_max geometry.now.profile)) }
     {
@@ -89,7 +89,7 @@ impl Superblock {
             && self.attr_max == geometry.attr_max()
     }
 
-    /// Returns whether no limit is 0, or above what an image may have.
+    /// Returns whether each limit is above 0 and at most what the format allows.
     fn has_usable_limits(&self) -> bool
         ensures { result ≡ limits_usable (superblock_view self.now) }
     {
@@ -98,8 +98,8 @@ impl Superblock {
             && (1..=1022).contains(&self.attr_max)
     }
 
-    /// Returns the profile with the superblock's limits. Where one is 0 or above the format's own,
-    /// the profile stays as it is.
+    /// Returns the profile with the superblock's limits in place of its own. If a limit is 0 or
+    /// above the format's, returns the profile unchanged.
     pub fn limit_profile(&self, profile: Profile) -> Profile
         ensures { result ≡ profile_with_limits (superblock_view self.now) profile }
     {
@@ -117,7 +117,7 @@ impl Superblock {
         }
     }
 
-    /// Returns whether the version is one of these.
+    /// Returns whether the on-disk version is one of the accepted ones.
     pub fn has_accepted_version(&self, versions: AcceptedVersions) -> bool
         ensures { result ≡ accepts_version versions self.now.version }
     {
@@ -131,7 +131,7 @@ impl Superblock {
 }
 
 impl MoveState {
-    /// Returns the delta that changes nothing of the global state.
+    /// Returns the delta that leaves the global state as it is: all zeros.
     pub fn none() -> MoveState
         ensures { move_view result ≡ zero_gstate }
     {
@@ -143,7 +143,7 @@ impl MoveState {
         }
     }
 
-    /// Returns whether the delta is zero. Then a pair that is written anew has no entry for it.
+    /// Returns whether the delta is zero. A compaction writes no entry for a zero delta.
     pub fn is_none(&self) -> bool
         ensures { result ≡ is_zero (move_view self.now) }
     {
@@ -151,7 +151,7 @@ impl MoveState {
     }
 }
 
-// Returns the two addresses with which these bytes begin.
+// Decodes the two addresses at the start of these bytes.
 pub(crate) fn address_from_bytes(bytes: &[u8]) -> [u32; 2]
     requires { 8 ≤ length bytes.now }
     ensures { address_view result ≡ decoded_address bytes.now }
@@ -161,7 +161,7 @@ pub(crate) fn address_from_bytes(bytes: &[u8]) -> [u32; 2]
     [first, second]
 }
 
-// Returns the move state with which these bytes begin.
+// Decodes the move state at the start of these bytes.
 pub(crate) fn move_from_bytes(bytes: &[u8]) -> MoveState
     requires { 12 ≤ length bytes.now }
     ensures { move_view result ≡ decoded_gstate bytes.now }
@@ -175,15 +175,15 @@ pub(crate) fn move_from_bytes(bytes: &[u8]) -> MoveState
     }
 }
 
-/// Returns the pair that a tail or a directory's struct names.
+/// Decodes the pair's address in a tail or in a directory's struct.
 pub fn pair_of(bytes: &[u8; 8]) -> [u32; 2]
     ensures { address_view result ≡ decoded_address bytes.now }
 {
     address_from_bytes(bytes)
 }
 
-/// Returns the head and the size of a skip list, from a file's struct. The head is the address of
-/// its last block, and the size is in bytes (SPEC.md of littlefs, "0x202 LFS_TYPE_CTZSTRUCT").
+/// Decodes a file's CTZ struct: returns the head, which is the address of the skip list's last
+/// block, and the file's size in bytes (SPEC.md of littlefs, "0x202 LFS_TYPE_CTZSTRUCT").
 pub fn ctz_of(bytes: &[u8; 8]) -> (u32, u32)
     ensures { decoded_struct ctz_type bytes.now ≡ Ctz result.0 result.1 }
 {
@@ -191,7 +191,7 @@ pub fn ctz_of(bytes: &[u8; 8]) -> (u32, u32)
     (words[0], words[1])
 }
 
-/// Returns the fields of a superblock's struct.
+/// Decodes the superblock's struct.
 pub fn superblock_of(bytes: &[u8; 24]) -> Superblock
     ensures { superblock_view result ≡ superblock_fields bytes.now }
 {
@@ -205,8 +205,7 @@ pub fn superblock_of(bytes: &[u8; 24]) -> Superblock
     }
 }
 
-/// Returns the move state in an entry's bytes. The lowest ten bits of the first word have no
-/// meaning.
+/// Decodes the move state in an entry's data. The lowest ten bits of the first word are ignored.
 pub fn move_of(bytes: &[u8; 12]) -> MoveState
     ensures { move_view result ≡ decoded_gstate bytes.now }
 {

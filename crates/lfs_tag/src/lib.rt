@@ -1,5 +1,6 @@
 // SPDX-License-Identifier: BSD-3-Clause
-//! The log of a metadata block: tags, checksums, commits, and what a block holds for a name or an id.
+//! The log of a metadata block: tags, checksums and commits, and what a log says of an id or a
+//! name.
 #![tactic(auto)]
 
 mod builder;

@@ -13,7 +13,8 @@ use crate::tag::Tag;
 use byteorder::{BigEndian, ByteOrder, LittleEndian};
 use std::marker::Model;
 
-// Returns the entry at an offset, where the tag before it is carried as `before`.
+// Decodes the entry at an offset, if there is a valid one. `before` is the tag before it, as it is
+// carried to this one.
 #[tactic(auto, unfolding(lfs_model::specs::format::Log::entry_at))]
 pub(crate) fn entry_at(block: &[u8], at: usize, before: Tag) -> Option<Entry<'_>>
     ensures value { option_map log_entry_view result ≡ entry_at block.now at before }
@@ -34,7 +35,7 @@ pub(crate) fn entry_at(block: &[u8], at: usize, before: Tag) -> Option<Entry<'_>
     })
 }
 
-// Returns whether the checksum entry at an offset ends the commit that begins at `start`.
+// Returns whether the checksum entry at an offset ends the commit that begins at offset `start`.
 #[tactic(auto, unfolding(lfs_model::specs::format::Log::closes))]
 fn is_valid_checksum(block: &[u8], start: usize, at: usize, entry: &Entry<'_>) -> bool
     requires start { start ≤ at }
@@ -49,8 +50,8 @@ fn is_valid_checksum(block: &[u8], start: usize, at: usize, entry: &Entry<'_>) -
                 && LittleEndian::read_u32(entry.bytes) == crc(0xffff_ffff, &block[start..at + 4])))
 }
 
-// Returns where the commit ends that begins at `start` and whose next entry is at `at`. Returns
-// also what its last tag is carried as.
+// Returns the end of the commit that begins at offset `start` and whose next entry is at offset
+// `at`, and its last tag as it is carried to the next one. None if no valid checksum ends it.
 fn commit_end(block: &[u8], start: usize, mut at: usize, mut before: Tag) -> Option<(usize, Tag)>
     requires { start ≤ at }
     ensures value { result ≡ option_map (λ c. (c.end, c.last)) (commit_at block.now start at before) }
@@ -72,7 +73,7 @@ fn commit_end(block: &[u8], start: usize, mut at: usize, mut before: Tag) -> Opt
     None
 }
 
-// Returns the revision, or 0 in a block that is too short for one.
+// Returns a block's revision, or 0 if the block is shorter than 4 bytes.
 fn revision(block: &[u8]) -> u32
     ensures { result ≡ block_revision block.now }
 {
@@ -83,8 +84,8 @@ fn revision(block: &[u8]) -> u32
     }
 }
 
-/// The valid commits of a block: the longest chain of commits from offset 4, each with the right
-/// checksum (SPEC.md of littlefs, "Metadata pairs"). A contract sees a log as its block's bytes.
+/// The log of a block: the longest chain of valid commits from offset 4 on, each with the right
+/// checksum (SPEC.md of littlefs, "Metadata pairs"). In contracts a log is the bytes of its block.
 #[derive(Drop)]
 pub struct Log<'a> {
     block: &'a [u8],
@@ -106,11 +107,13 @@ impl<'a> Model for Log<'a> {
 }
 
 impl<'a> Log<'a> {
-    /// Reads a block of any length and any bytes. The chain ends before the first commit that has a
-    /// bad entry. A bad entry has an invalid tag, bytes past the end of the block, or a type of
-    /// class 5 that is no checksum's. A checksum is bad with less than 4 or more than 1,022 bytes,
-    /// or with the wrong number. A forward checksum of version 2.1 (type 0x5ff, at most 1,022
-    /// bytes) is an entry like any other, without a meaning. The log may have no commit.
+    /// Reads the log of a block of any length and any bytes. It ends before the first commit with a
+    /// bad entry, and may have no commit at all.
+    ///
+    /// An entry is bad if its tag is invalid, if its data goes past the end of the block, or if its
+    /// type is of class 5 and isn't a checksum's. A checksum is bad if it has less than 4 or more
+    /// than 1,022 bytes, or the wrong value. A forward checksum of version 2.1 (type 0x5ff, at most
+    /// 1,022 bytes) is an entry like any other, without a meaning.
     pub fn read(block: &'a [u8]) -> Log<'a>
         ensures { result ≡ block.now }
     {
@@ -125,9 +128,9 @@ impl<'a> Log<'a> {
         Log::with_known_end(block, end, last)
     }
 
-    /// Makes the log of a block whose chain is known to end at `end` with the tag `last`. The block
-    /// isn't read again. The caller's condition is that [`end`](Log::end) and [`last_log_tag`](Log::last_log_tag)
-    /// would return these for the bytes.
+    /// Makes the log of a block from its known end and last tag, without a pass over the bytes.
+    /// Requires that [`end`](Log::end) and [`last_log_tag`](Log::last_log_tag) would return these
+    /// after a [`read`](Log::read) of the block.
     pub fn with_known_end(block: &'a [u8], end: usize, last: Tag) -> Log<'a>
         requires end { end ≡ (chain_of block.now).end }
         requires last { last ≡ (chain_of block.now).last }
@@ -148,15 +151,15 @@ impl<'a> Log<'a> {
         4 < self.end
     }
 
-    /// Returns where the last commit ends, in bytes from the block's beginning. Returns 4 where
-    /// there is no commit.
+    /// Returns the offset in the block where the last commit ends, in bytes. It is 4 if there is no
+    /// commit.
     pub fn end(&self) -> usize
         ensures { result ≡ (chain_of self.now).end }
     {
         self.end
     }
 
-    /// Returns what the tag after the last commit is decoded with. Returns all bits set where there
+    /// Returns the tag that the next commit's first tag is stored with. All bits are set if there
     /// is no commit.
     pub fn last_log_tag(&self) -> Tag
         ensures { result ≡ (chain_of self.now).last }
@@ -164,7 +167,7 @@ impl<'a> Log<'a> {
         self.last
     }
 
-    /// Returns the block's revision count, or 0 in a block of less than 4 bytes.
+    /// Returns the block's revision count, or 0 if the block is shorter than 4 bytes.
     pub fn revision(&self) -> u32
         ensures { result ≡ block_revision self.now }
     {
@@ -178,8 +181,8 @@ impl<'a> Log<'a> {
         self.block
     }
 
-    /// Returns the entries of all commits, oldest first. They can be taken from both ends, and
-    /// nothing is copied.
+    /// Returns the entries of all commits, oldest first. The iterator can be advanced from both
+    /// ends. Nothing is copied.
     pub fn entries(&self) -> Entries<'a>
         ensures value { result ≡ block_entries self.now }
         ensures small { length (block_entries self.now) < 2 ^ 62 }

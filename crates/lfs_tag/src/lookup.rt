@@ -1,4 +1,4 @@
-// The slot of a name, or the place where it belongs.
+// A slot by its name, or the id at which that name belongs.
 
 ghost use Rattle.std.specs.Prelude.{◌≡◌, ℕ, ◌+◌, ◌≤◌, ◌<◌, ◌^◌, [], length, map, max, slice_set, IsTrue, Some, None};
 ghost use Rattle.std.specs.List.{insert, remove};
@@ -20,24 +20,25 @@ use arrayvec::ArrayVec;
 use lfs_model::NameOrder;
 use std::cmp::Ordering;
 
-/// Where a name is among a log's slots.
+/// The id of a name, or the id at which it belongs.
 #[derive(Clone, Copy, Debug, PartialEq, Eq, Drop)]
 pub enum Lookup {
-    /// The least id that has the name.
+    /// The least id whose slot has the name.
     Found(u16),
-    /// No slot has the name. The place is the least id of a greater name, or the number of slots.
+    /// No slot has the name. It belongs at this id: the least one of a greater name, or the number
+    /// of slots.
     Place(u16),
 }
 
 const BLOCK_MAX: usize = 65536;
 
-// For so many slots a search has room. A log that never has more is read once.
+// The most slots of a log for which one pass over its entries is enough.
 const ROOM: usize = 1024;
 
-// How a slot's own name compares with the wanted one.
+// The comparison of a slot's own name with the wanted one.
 #[derive(Clone, Copy, Default, Drop)]
 enum NameComparison {
-    // The slot has no name, the superblock's, or a lesser one.
+    // The slot has no name, the superblock's name, or a lesser one.
     #[default]
     NoneOrLess,
     Same,
@@ -46,13 +47,13 @@ enum NameComparison {
 
 type Ranks = ArrayVec<NameComparison, ROOM>;
 
-/// Finds where a name is among a log's slots, or where it belongs. It belongs before the first slot
-/// with a name that is greater in that order. A superblock's slot and the slot `skip` are passed
-/// over, though they keep their ids.
+/// Finds a name among a log's slots. Returns its id, or the id at which the name belongs: before
+/// the first slot whose name is greater in this order. A superblock's slot and the slot `skip`
+/// count in the ids, but are never found.
 ///
-/// The result counts where the log isn't malformed and its block has at most 65,536 bytes. No memory
-/// is taken. The log's entries are taken once, and each name is compared once, where there are never
-/// more than 1,024 slots. A log that ever has more is searched back for each slot.
+/// Requires a log that isn't malformed, of a block of at most 65,536 bytes; otherwise the result is
+/// unspecified. Nothing is allocated. If the log never has more than 1,024 slots, its entries are
+/// read once and each name is compared once. Otherwise the log is searched for each slot.
 pub fn find(log: &Log<'_>, order: NameOrder, name: &[u8], skip: Option<u16>) -> Lookup
     ensures { (c : RawContent) → content_after empty_raw_content (block_entries log.now) ≡ Some c → length log.now ≤ 2 ^ 16 → IsNameLookup order name.now skip c.slots result }
 {
@@ -67,7 +68,7 @@ pub fn find(log: &Log<'_>, order: NameOrder, name: &[u8], skip: Option<u16>) -> 
     }
 }
 
-// Returns where the wanted name is, or belongs, by the ranks of all slots.
+// Returns the wanted name's id, or the id at which it belongs, from the comparisons of all slots.
 fn find_by_comparisons(ranks: &[NameComparison], skip: Option<u16>) -> Lookup
     requires { length ranks.now < 2 ^ 16 }
     ensures { result ≡ lookup_of_comparisons skip ranks.now }
@@ -80,7 +81,7 @@ fn find_by_comparisons(ranks: &[NameComparison], skip: Option<u16>) -> Lookup
     }
 }
 
-// Returns the same of a log with any number of slots. Its entries are searched for each slot's name.
+// Does the same for a log with any number of slots, by searching its entries for each slot's name.
 fn find_by_ids(log: &Log<'_>, order: NameOrder, name: &[u8], skip: Option<u16>) -> Lookup
     requires { length log.now ≤ 2 ^ 16 }
     ensures { (c : RawContent) → content_after empty_raw_content (block_entries log.now) ≡ Some c → result ≡ lookup_of_comparisons skip (map (comparison_with_slot order name.now) c.slots) }
@@ -94,8 +95,8 @@ fn find_by_ids(log: &Log<'_>, order: NameOrder, name: &[u8], skip: Option<u16>) 
     }
 }
 
-// Returns the first of so many slots whose name is the wanted one, or a greater one. Returns their
-// number where there is none.
+// Returns the first id below `count` whose slot has the wanted name if `same` is set, otherwise the
+// first with a greater name. Returns `count` if there is none.
 fn first_wanted_id(
     log: &Log<'_>,
     order: NameOrder,
@@ -129,7 +130,7 @@ fn compare_slot_name(log: &Log<'_>, order: NameOrder, name: &[u8], id: u16) -> N
     }
 }
 
-// Notes the ranks of a log's slots. Returns false where there is no room for them.
+// Compares the names of all slots of a log. Returns false if there is no room for all of them.
 #[tactic(auto, using(crate::proofs::Ranks::few_entries))]
 fn comparisons_of_slots(ranks: &mut Ranks, log: &Log<'_>, order: NameOrder, name: &[u8]) -> bool
     requires { ranks.old.items ≡ [] }
@@ -143,7 +144,7 @@ fn comparisons_of_slots(ranks: &mut Ranks, log: &Log<'_>, order: NameOrder, name
     true
 }
 
-// Applies an entry to the ranks. Returns false where there is no room for another slot.
+// Applies an entry to the comparisons. Returns false if there is no room for another slot.
 fn apply_to_comparisons(ranks: &mut Ranks, order: NameOrder, name: &[u8], entry: &Entry<'_>) -> bool
     ensures { IsTrue result → ranks.new.items ≡ comparisons_after_entry order name.now ranks.old.items (log_entry_view entry.now) }
 {
@@ -159,7 +160,7 @@ fn apply_to_comparisons(ranks: &mut Ranks, order: NameOrder, name: &[u8], entry:
     }
 }
 
-// Returns how the name that an entry gives a slot compares with the wanted one.
+// Returns how the name that an entry sets compares with the wanted one.
 fn compare_with_entry(order: NameOrder, name: &[u8], entry: &Entry<'_>) -> NameComparison
     ensures { result ≡ comparison_with_entry order name.now (log_entry_view entry.now) }
 {
@@ -170,7 +171,7 @@ fn compare_with_entry(order: NameOrder, name: &[u8], entry: &Entry<'_>) -> NameC
     }
 }
 
-// Returns how a slot's name compares, by the order of the wanted name and that one.
+// Returns the comparison for the ordering of the wanted name and a slot's.
 fn comparison_by_ordering(ordering: Ordering) -> NameComparison
     ensures { result ≡ ordering_comparison ordering }
 {
@@ -181,7 +182,8 @@ fn comparison_by_ordering(ordering: Ordering) -> NameComparison
     }
 }
 
-// Ranks a slot, which may be past the end.
+// Sets the comparison of a slot. If the id is past the last slot, slots without a name are added up
+// to it.
 fn set_comparison(ranks: &mut Ranks, id: usize, rank: NameComparison)
     requires { id < 1024 }
     ensures { ranks.new.items ≡ slice_set (padded_comparisons ranks.old.items id) id rank }
@@ -190,7 +192,7 @@ fn set_comparison(ranks: &mut Ranks, id: usize, rank: NameComparison)
     ranks[id] = rank;
 }
 
-// Adds slots without a name up to an id.
+// Adds slots without a name until the id exists.
 fn pad_comparisons(ranks: &mut Ranks, id: usize)
     requires { id < 1024 }
     ensures ranks { ranks.new.items ≡ padded_comparisons ranks.old.items id }
@@ -201,7 +203,7 @@ fn pad_comparisons(ranks: &mut Ranks, id: usize)
     }
 }
 
-// Applies a create or a delete. Returns false where there is no room for another slot.
+// Applies a create or a delete. Returns false if there is no room for another slot.
 fn splice_comparisons(ranks: &mut Ranks, entry: &Entry<'_>) -> bool
     ensures { IsTrue result → ranks.new.items ≡ comparisons_after_splice ranks.old.items (log_entry_view entry.now) }
 {
@@ -219,8 +221,8 @@ fn splice_comparisons(ranks: &mut Ranks, entry: &Entry<'_>) -> bool
     true
 }
 
-// Returns the first slot whose name is the wanted one, or a greater one. Returns the number of
-// slots where there is none.
+// Returns the first id whose slot has the wanted name if `same` is set, otherwise the first with a
+// greater name. Returns the number of slots if there is none.
 fn first_wanted(ranks: &[NameComparison], same: bool, skip: Option<u16>) -> usize
     ensures first { result ≡ first_wanted_slot same skip 0 ranks.now }
     ensures within { result ≤ length ranks.now }

@@ -7,8 +7,8 @@ ghost use Rattle.lfs_model.specs.format.Names.{is_component, is_valid_name, cmp_
 use lfs_model::NameOrder;
 use std::cmp::Ordering;
 
-/// Returns whether a path may have such a component, of any length. It isn't empty, has neither a
-/// byte 0 nor a slash, and is neither `.` nor `..`.
+/// Returns whether the bytes can be one component of a path. A component may have any length but 0,
+/// contains neither a byte 0 nor a slash, and is neither `.` nor `..`.
 pub fn is_valid_component(name: &[u8]) -> bool
     ensures { result ≡ is_component name.now }
 {
@@ -18,7 +18,8 @@ pub fn is_valid_component(name: &[u8]) -> bool
         && !are_names_equal(name, b"..")
 }
 
-/// Returns whether a directory may have such a name: a component of at most 255 bytes.
+/// Returns whether the bytes can be the name of a file or a directory: a component of at most 255
+/// bytes.
 pub fn is_name(name: &[u8]) -> bool
     ensures { result ≡ is_valid_name name.now }
 {
@@ -31,15 +32,15 @@ fn are_names_equal(name: &[u8], other: &[u8]) -> bool
     name == other
 }
 
-// Returns whether neither 0 nor '/' is among the bytes.
+// Returns whether neither a byte 0 nor a slash is among the bytes.
 fn has_allowed_bytes(name: &[u8]) -> bool
     ensures { result ≡ list_all (λ b. not (b == 0 || b == slash_byte)) name.now }
 {
     name.iter().all(|byte| !(*byte == 0 || *byte == b'/'))
 }
 
-/// Compares two names by their bytes. The order decides where one name is the beginning of the
-/// other.
+/// Compares two names byte by byte. If one name is a prefix of the other, `order` decides which
+/// comes first.
 pub fn name_cmp(order: NameOrder, name: &[u8], other: &[u8]) -> Ordering
     ensures { result ≡ name_cmp order name.now other.now }
 {

@@ -1,4 +1,4 @@
-// A search for what a log holds of a type for an id, from its newest entry back.
+// The newest entry of a type for an id, searched from the log's end back.
 
 ghost use Rattle.std.specs.Prelude.{◌≡◌, ℕ, ◌+◌, ◌-◌, ◌≤◌, ◌<◌, ◌^◌, ◌/◌, length, reverse, min, Some};
 ghost use Rattle.std.specs.Option.{option_copied, option_map};
@@ -17,15 +17,15 @@ use crate::kinds::{ATTRIBUTE_CLASS, CREATE, NAME_CLASS, SPLICE_CLASS, STRUCT_CLA
 use crate::log::Log;
 use crate::steps::Steps;
 
-// What an entry means for an id after it.
+// What an entry says of the slot that has a given id after it.
 enum EntryEffect<'a> {
-    // What the slot holds, if anything.
+    // The slot's name or struct after the entry, or None if it has none.
     Holds(Option<NameOrStruct<'a>>),
-    // The id that the slot had before the entry.
+    // The entry says nothing of the slot, whose id was this one before it.
     Was(u64),
 }
 
-// Returns what a create or a delete means for an id after it.
+// Returns what a create or a delete says of the slot that has this id after it.
 fn splice_effect<'a>(entry: &Entry<'a>, id: u64) -> EntryEffect<'a>
     requires { id < 2 ^ 64 - 1 }
     ensures { entry_effect_view result ≡ splice_effect_of (log_entry_view entry.now) id }
@@ -42,7 +42,7 @@ fn splice_effect<'a>(entry: &Entry<'a>, id: u64) -> EntryEffect<'a>
     }
 }
 
-// Returns what an entry means for a type and an id after it.
+// Returns what an entry says of the slot that has this id after it, and of this type.
 fn effect_on_id<'a>(entry: &Entry<'a>, kind: u16, id: u64) -> EntryEffect<'a>
     requires { id < 2 ^ 64 - 1 }
     ensures { entry_effect_view result ≡ slot_effect (log_entry_view entry.now) kind id }
@@ -69,7 +69,7 @@ fn effect_on_id<'a>(entry: &Entry<'a>, kind: u16, id: u64) -> EntryEffect<'a>
     }
 }
 
-// Searches from the newest entry back. Returns also how many entries the search looked at.
+// Searches from the newest entry back. Returns what it found, and how many entries it looked at.
 fn search_newest<'a>(
     mut entries: Entries<'a>,
     kind: u16,
@@ -90,8 +90,8 @@ fn search_newest<'a>(
     (None, looks)
 }
 
-// Returns what the log holds for an id, of a type or of another one in its place. Counts each entry
-// that it looks at.
+// Returns what the newest entry for a slot sets, of type `kind` or of another type that replaces
+// it. Adds the number of entries that it looked at to `steps`.
 fn newest_of_slot<'a>(
     log: &Log<'a>,
     kind: u16,
@@ -107,7 +107,7 @@ fn newest_of_slot<'a>(
     found.0
 }
 
-// Returns the bytes of a part, where the part has that type.
+// Returns the bytes of a name or a struct, if it has that type.
 fn matching_bytes<'a>(part: Option<NameOrStruct<'a>>, kind: u16) -> Option<&'a [u8]>
     ensures { option_copied result ≡ part_bytes kind (option_map part_view part.entry) }
 {
@@ -117,10 +117,11 @@ fn matching_bytes<'a>(part: Option<NameOrStruct<'a>>, kind: u16) -> Option<&'a [
     }
 }
 
-/// Returns the bytes that a log holds for an id under the type of a name, a struct or an attribute.
-/// Returns None exactly where it holds none. A slot has one name and one struct, so it has no bytes
-/// under their other types. The log isn't malformed. Each entry that the search looks at is counted
-/// in `steps`; these are at most the entries of the log.
+/// Returns the bytes of a slot's name, struct or attribute of type `kind`. Returns None exactly if
+/// the slot has none of that type; a slot has only one name and one struct, each of one type.
+///
+/// Requires a log that isn't malformed. Adds the number of entries that the search looked at to
+/// `steps`, at most the number of entries in the log.
 pub fn get<'a>(log: &Log<'a>, kind: u16, id: u16, steps: &mut Steps) -> Option<&'a [u8]>
     ensures held { (c : RawContent) → content_after empty_raw_content (block_entries log.now) ≡ Some c → option_copied result ≡ bytes_at c.slots kind id }
     ensures steps { steps.new ≡ min (steps.old + searched_count (reverse (block_entries log.now)) kind id) (2 ^ 64 - 1) }
@@ -129,8 +130,8 @@ pub fn get<'a>(log: &Log<'a>, kind: u16, id: u16, steps: &mut Steps) -> Option<&
     matching_bytes(newest_of_slot(log, kind, id, steps), kind)
 }
 
-/// Returns the name of a slot, its type and bytes. Returns None where the slot has none or isn't
-/// there. The log isn't malformed. `steps` counts as in [`get`].
+/// Returns a slot's name with its type. Returns None if the slot has none or doesn't exist.
+/// Requires a log that isn't malformed. `steps` counts as in [`get`].
 pub fn name_of_slot<'a>(log: &Log<'a>, id: u16, steps: &mut Steps) -> Option<NameOrStruct<'a>>
     ensures held { (c : RawContent) → content_after empty_raw_content (block_entries log.now) ≡ Some c → option_map part_view result ≡ (slot_of_id c.slots id).name }
     ensures steps { steps.new ≡ min (steps.old + searched_count (reverse (block_entries log.now)) 0 id) (2 ^ 64 - 1) }
@@ -139,8 +140,8 @@ pub fn name_of_slot<'a>(log: &Log<'a>, id: u16, steps: &mut Steps) -> Option<Nam
     newest_of_slot(log, NAME_CLASS << 8, id, steps)
 }
 
-/// Returns the struct of a slot, its type and bytes. Returns None where the slot has none or isn't
-/// there. The log isn't malformed. `steps` counts as in [`get`].
+/// Returns a slot's struct with its type. Returns None if the slot has none or doesn't exist.
+/// Requires a log that isn't malformed. `steps` counts as in [`get`].
 pub fn struct_of_slot<'a>(log: &Log<'a>, id: u16, steps: &mut Steps) -> Option<NameOrStruct<'a>>
     ensures held { (c : RawContent) → content_after empty_raw_content (block_entries log.now) ≡ Some c → option_map part_view result ≡ (slot_of_id c.slots id).struct }
     ensures steps { steps.new ≡ min (steps.old + searched_count (reverse (block_entries log.now)) 0x200 id) (2 ^ 64 - 1) }

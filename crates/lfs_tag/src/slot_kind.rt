@@ -1,4 +1,4 @@
-// What a slot is, by the type of its name.
+// A slot's kind, by the type of its name.
 
 ghost use Rattle.std.specs.Prelude.{◌≡◌, Some};
 ghost use Rattle.lfs_model.specs.format.Content.{complete_slot, kind_of_type};
@@ -9,7 +9,7 @@ ghost use Rattle.lfs_tag.specs.KindView.{name_kind_view, is_superblock_name};
 use crate::content::{NameOrStruct, Slot};
 use crate::kinds::{DIRECTORY_NAME, FILE_NAME};
 
-/// What a slot is, by the type of its name (SPEC.md of littlefs, "0x0xx LFS_TYPE_NAME").
+/// A slot's kind, by the type of its name (SPEC.md of littlefs, "0x0xx LFS_TYPE_NAME").
 #[derive(Clone, Copy, Debug, PartialEq, Eq, Drop)]
 pub enum SlotNameKind {
     File,
@@ -19,7 +19,7 @@ pub enum SlotNameKind {
 }
 
 impl SlotNameKind {
-    /// The kind of the slots that have a name of this type.
+    /// Returns the kind of a slot that has this name.
     pub fn of(name: &NameOrStruct<'_>) -> SlotNameKind
         ensures { name_kind_view result ≡ kind_of_type name.now.kind }
     {
@@ -30,7 +30,7 @@ impl SlotNameKind {
         }
     }
 
-    /// Whether it is a superblock's.
+    /// Returns whether the kind is the superblock's.
     pub fn is_superblock(self) -> bool
         ensures { result ≡ is_superblock_kind (name_kind_view self) }
     {
@@ -43,7 +43,8 @@ impl SlotNameKind {
 }
 
 impl Slot<'_> {
-    /// Whether it is a superblock's: it has a name, which is neither a file's nor a directory's.
+    /// Returns whether the slot is the superblock's: it has a name that is neither a file's nor a
+    /// directory's.
     pub fn is_superblock(&self) -> bool
         ensures named { result ≡ is_superblock_name (slot_view self.now).name }
         ensures complete { (s : ModelSlot) → complete_slot (slot_view self.now) ≡ Some s → result ≡ is_superblock s }

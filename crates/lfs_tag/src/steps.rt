@@ -1,10 +1,10 @@
-// A count of the entries that searches look at.
+// A count of the entries that searches looked at.
 
 ghost use Rattle.std.specs.Prelude.{◌≡◌, ◌+◌, ◌-◌, ◌^◌, min};
 
 use std::marker::Model;
 
-/// How many entries searches have looked at. The count stays at the greatest number.
+/// The number of entries that searches have looked at. It stops growing at `u64::MAX`.
 #[derive(Clone, Copy, Debug, PartialEq, Eq, Drop)]
 pub struct Steps {
     count: u64,
@@ -35,7 +35,7 @@ impl Steps {
         self.count
     }
 
-    // Adds to the count.
+    // Adds to the count, up to `u64::MAX`.
     pub(crate) fn add(&mut self, entries: u64)
         ensures { self.new ≡ min (self.old + entries) (2 ^ 64 - 1) }
     {

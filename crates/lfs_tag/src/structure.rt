@@ -1,4 +1,4 @@
-// What a slot's struct says.
+// The struct of a slot, decoded.
 
 ghost use Rattle.std.specs.Prelude.{◌≡◌, Some};
 ghost use Rattle.std.specs.Option.{option_map};
@@ -10,13 +10,13 @@ use crate::content::NameOrStruct;
 use crate::fields::{ctz_of, pair_of};
 use crate::kinds::{CTZ_STRUCT, DIRECTORY_STRUCT, INLINE_STRUCT};
 
-/// What a slot's struct says (SPEC.md of littlefs, "0x2xx LFS_TYPE_STRUCT"). A file's bytes aren't
-/// copied.
+/// The struct of a slot, decoded (SPEC.md of littlefs, "0x2xx LFS_TYPE_STRUCT"). A file's bytes are
+/// borrowed.
 #[derive(Clone, Copy, Drop)]
 pub enum Struct<'a> {
-    /// A file's bytes, in the block.
+    /// An inline file: its bytes, in the block.
     Inline(&'a [u8]),
-    /// A file's skip list: the address of its last block, and its size in bytes.
+    /// A file's CTZ skip list: the address of its last block, and the file's size in bytes.
     Ctz { head: u32, size: u32 },
     /// A directory, by the address of its first pair.
     Branch([u32; 2]),
@@ -25,8 +25,8 @@ pub enum Struct<'a> {
 impl<'a> Struct<'a> {
     ghost use Rattle.lfs_tag.specs.StructView.{part_struct, struct_view};
 
-    /// What a part says as a slot's struct. `None` exactly where its type is no struct's, or where
-    /// a list or a pair isn't named in 8 bytes. No log that has a content holds such a struct.
+    /// Decodes a slot's struct. Returns None exactly if the type isn't a struct's, or if a CTZ or
+    /// directory struct doesn't have 8 bytes. A log that isn't malformed holds no such struct.
     pub fn of(part: &NameOrStruct<'a>) -> Option<Struct<'a>>
         ensures says { IsAllowedPart 2 (part_view part.now) → option_map struct_view result ≡ Some (decoded_struct part.now.kind part.now.bytes.now) }
         ensures only { option_map struct_view result ≡ part_struct (part_view part.now) }

@@ -17,8 +17,7 @@ use crate::kinds::{
 use crate::log::Log;
 use std::alloc::{AllocError, Global};
 
-/// The fields that a [`Content`](crate::Content) of the log has, without the slots, and the number
-/// of slots.
+/// The [`Content`](crate::Content) of a log with the number of slots in place of the slots.
 #[derive(Clone, Copy, Debug, PartialEq, Eq, Drop)]
 pub struct Summary {
     pub slot_count: usize,
@@ -28,14 +27,14 @@ pub struct Summary {
     pub is_complete: bool,
 }
 
-// What a summary notes of a slot.
+// The parts that a slot has.
 #[derive(Clone, Copy, Drop)]
 struct SlotSummary {
     has_name: bool,
     has_struct: bool,
 }
 
-// The summary of the entries so far.
+// The summary of the entries read so far.
 #[derive(Drop)]
 struct PartialSummary {
     marks: Vec<SlotSummary>,
@@ -44,11 +43,11 @@ struct PartialSummary {
 }
 
 impl Summary {
-    /// Reads a log as [`Content::read`](crate::Content::read) does, without its slots. The call
-    /// takes two bytes of memory a slot.
+    /// Returns what [`Content::read`](crate::Content::read) would, without the slots. Allocates two
+    /// bytes for each slot.
     ///
-    /// Errors: `Malformed` exactly where the log is malformed. `NoMemory` where that memory isn't
-    /// granted.
+    /// Errors: `Malformed` only if the log is malformed; such a log never returns Ok. `NoMemory` if
+    /// that memory isn't granted.
     #[tactic(auto, using(crate::proofs::Summaries::no_content_where_none))]
     pub fn read(alloc: Global, log: &Log<'_>) -> Result<Summary, ContentError>
         ensures summary { IfOk result (λ s. (c : RawContent) × IsLogSummary log.now c s) }
@@ -90,7 +89,7 @@ fn are_marks_complete(marks: &[SlotSummary]) -> bool
     marks.iter().all(|mark| mark.has_name && mark.has_struct)
 }
 
-// Applies an entry to the outline.
+// Applies an entry to the summary.
 fn apply_to_outline(outline: &mut PartialSummary, entry: &Entry<'_>) -> Result<(), ContentError>
     ensures { GivesWithMemory (λ _. outline_view outline.new) result (outline_after_entry (outline_view outline.old) (log_entry_view entry.now)) }
 {
@@ -114,7 +113,7 @@ fn apply_to_outline(outline: &mut PartialSummary, entry: &Entry<'_>) -> Result<(
     }
 }
 
-// Applies to the slots' marks an entry that is no checksum, tail or move state.
+// Applies an entry to the slots' marks. The entry isn't a checksum, a tail or a move state.
 fn apply_to_marks(marks: &mut Vec<SlotSummary>, entry: &Entry<'_>) -> Result<(), ContentError>
     ensures { GivesWithMemory (λ _. marks.new.items) result (marks_after_entry marks.old.items (log_entry_view entry.now)) }
 {
@@ -149,7 +148,7 @@ fn apply_to_marks(marks: &mut Vec<SlotSummary>, entry: &Entry<'_>) -> Result<(),
     }
 }
 
-// Returns whether a slot is there and has a name.
+// Returns whether a slot exists and has a name.
 fn is_named_mark(marks: &[SlotSummary], id: usize) -> bool
     ensures value { result ≡ (id_mark marks.now id).has_name }
     ensures there { IsTrue result → id < length marks.now }
@@ -161,7 +160,7 @@ fn is_named_mark(marks: &[SlotSummary], id: usize) -> bool
     }
 }
 
-// Marks the name of a slot, which may be past the end.
+// Marks a slot as named. If the id is past the last slot, marks of empty slots are added up to it.
 fn mark_named(marks: &mut Vec<SlotSummary>, id: usize) -> Result<(), AllocError>
     requires { id < 1024 }
     ensures { OnOk result (marks.new.items ≡ marks_with_change (λ m. record m { has_name = true }) (padded_marks marks.old.items id) id) }
@@ -171,7 +170,7 @@ fn mark_named(marks: &mut Vec<SlotSummary>, id: usize) -> Result<(), AllocError>
     Ok(())
 }
 
-// Adds marks of empty slots up to an id.
+// Adds marks of empty slots until the id exists.
 fn pad_marks(marks: &mut Vec<SlotSummary>, id: usize) -> Result<(), AllocError>
     requires { id < 1024 }
     ensures filled { OnOk result (marks.new.items ≡ padded_marks marks.old.items id) }

@@ -7,8 +7,8 @@ ghost use Rattle.lfs_model.specs.format.EntryTypes.{is_attribute_removal};
 use crate::kinds::{CHECKSUM_CLASS, FORWARD_CHECKSUM};
 use std::marker::Model;
 
-/// A tag of 32 bits (SPEC.md of littlefs, "Metadata tags"). From the top these are a bit that is 0
-/// where the tag is valid, 11 bits of type, ten of id and ten of length.
+/// A tag of 32 bits (SPEC.md of littlefs, "Metadata tags"). From the top: a bit that is 0 in a
+/// valid tag, 11 bits of type, 10 of id and 10 of length.
 #[derive(Clone, Copy, Debug, PartialEq, Eq, Drop)]
 pub struct Tag {
     bits: u32,
@@ -28,10 +28,10 @@ impl Tag {
     /// The id of a tag that isn't about a slot.
     pub const NO_ID: u16 = 0x3ff;
 
-    /// The length of a tag without bytes. It removes an attribute.
+    /// The length of a tag without data that removes an attribute.
     pub const REMOVED: u16 = 0x3ff;
 
-    /// Makes the tag with these bits.
+    /// Makes a tag from its 32 bits.
     pub fn from_bits(bits: u32) -> Tag
         ensures { result ≡ bits }
     {
@@ -45,7 +45,7 @@ impl Tag {
         self.bits
     }
 
-    /// Makes the valid tag with these fields: a type below 2,048, an id and a length below 1,024.
+    /// Makes a valid tag. Requires a type below 2,048, and an id and a length below 1,024.
     pub fn new(kind: u16, id: u16, len: u16) -> Tag
         requires kind { kind < 2 ^ 11 }
         requires id { id < 2 ^ 10 }
@@ -61,8 +61,8 @@ impl Tag {
         }
     }
 
-    /// Decodes the stored tag after the tag `previous`. For a block's first tag `previous` has all
-    /// bits set.
+    /// Decodes a stored tag: its exclusive or with the tag before it. `previous` has all bits set
+    /// for a block's first tag.
     pub fn decode(stored: u32, previous: Tag) -> Tag
         ensures { result ≡ bit_xor stored previous }
     {
@@ -71,7 +71,7 @@ impl Tag {
         }
     }
 
-    /// Returns how the tag is stored after the tag `previous`.
+    /// Returns the tag as it is stored: its exclusive or with the tag before it.
     pub fn encode(self, previous: Tag) -> u32
         ensures stored { result ≡ bit_xor self previous }
         ensures again { bit_xor result previous ≡ self }
@@ -79,15 +79,15 @@ impl Tag {
         self.bits ^ previous.bits
     }
 
-    /// Returns whether the top bit is 0, as in each entry of a log.
+    /// Returns whether the tag is valid: its top bit is 0, as in each entry of a log.
     pub fn is_valid(self) -> bool
         ensures { IsTrue result ↔ IsValidTag self }
     {
         self.bits >> 31 == 0
     }
 
-    /// Returns the type, below 2,048: one of [`crate::kinds`], or that of a user attribute, 0x300
-    /// and its own type.
+    /// Returns the type, below 2,048: one of [`crate::kinds`], or 0x300 plus a user attribute's own
+    /// type.
     pub fn kind(self) -> u16
         ensures { result ≡ tag_type self }
     {
@@ -101,7 +101,7 @@ impl Tag {
         (self.bits >> 10 & 0x3ff) as u16
     }
 
-    /// Returns the length, below 1,024.
+    /// Returns the length field, below 1,024.
     pub fn len(self) -> u16
         ensures { result ≡ tag_length self }
     {
@@ -115,22 +115,22 @@ impl Tag {
         self.kind() >> 8
     }
 
-    /// Returns the chunk: the lower eight bits of the type. In an attribute's tag these are the
-    /// attribute's own type.
+    /// Returns the chunk: the lower eight bits of the type. For an attribute it is the attribute's
+    /// own type.
     pub fn chunk(self) -> u8
         ensures { result ≡ tag_chunk self }
     {
         (self.kind() & 0xff) as u8
     }
 
-    /// Returns whether the length is the one that removes an attribute.
+    /// Returns whether the length is 0x3ff, which removes an attribute.
     pub fn has_removal_length(self) -> bool
         ensures { result ≡ is_attribute_removal self }
     {
         self.len() == Tag::REMOVED
     }
 
-    /// Returns how many bytes follow the tag.
+    /// Returns how many bytes of data follow the tag.
     pub fn size(self) -> usize
         ensures { result ≡ tag_data_size self }
     {
@@ -141,7 +141,7 @@ impl Tag {
         }
     }
 
-    // Returns whether the tag ends a commit, or spoils it. These are all tags of class 5 but a
+    // Returns whether the tag ends a commit or makes it invalid: all tags of class 5 do, except a
     // forward checksum's, which littlefs writes from version 2.1 on and which has no meaning here.
     pub(crate) fn ends_commit(self) -> bool
         ensures { result ≡ is_commit_end self }
@@ -149,8 +149,9 @@ impl Tag {
         self.class() == CHECKSUM_CLASS && !(self.kind() == FORWARD_CHECKSUM && self.len() <= 1022)
     }
 
-    // Returns the tag as the next one is decoded with it. A checksum's lowest chunk bit is added to
-    // the top bit. So the bytes after a commit can be made to decode as no tag.
+    // Returns the tag as it is carried to the next one, which is stored with it. A checksum's
+    // lowest chunk bit flips the top bit, so that a commit can make the bytes after it decode as an
+    // invalid tag.
     pub(crate) fn as_previous_tag(self) -> Tag
         ensures { result ≡ tag_before_next self }
     {
@@ -163,7 +164,7 @@ impl Tag {
         }
     }
 
-    // Returns the valid tag that is carried as this one.
+    // Returns the valid tag of which this is the carried form.
     pub(crate) fn without_top_bit(self) -> Tag
         ensures { result ≡ self % 2 ^ 31 }
     {

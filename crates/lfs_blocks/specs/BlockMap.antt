@@ -1,4 +1,4 @@
--- What marks mean for the blocks of a device.
+-- The states of a device's blocks, by the marks of a map.
 use Rattle.std.specs.Prelude.{◌≡◌, ℕ, ◌*◌, ◌/◌, ◌%◌, ◌≤◌, List, map, length, slice_index_or}
 use Rattle.std.specs.List.{range_with_len}
 use Rattle.lfs_model.specs.layers.BlockSets.{BlockState, BlockStates, used_count as used_count_of}
@@ -12,11 +12,11 @@ free_marks = record { used = 0; in_flight = 0 }
 abbrev pub state_in_marks : List Marks → ℕ → BlockState
 state_in_marks marks b = state_at_bit (slice_index_or marks (b / 64) free_marks) (b % 64)
 
--- the states of so many blocks
+-- the states of the blocks below `block_count`
 abbrev pub marks_states : List Marks → ℕ → BlockStates
 marks_states marks block_count = map (state_in_marks marks) (range_with_len 0 block_count)
 
--- there are marks for each block, and the used ones are counted
+-- each block has its marks, and `used_count` counts the used ones
 pub record MarksCountUsed (marks : List Marks) (block_count used_count : ℕ) : Type 0 where
   pub covered : block_count ≤ 64 * length marks
   pub no_more : length marks ≤ block_count

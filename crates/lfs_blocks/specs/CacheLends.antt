@@ -1,4 +1,4 @@
--- What a cache ends as, once the bytes of a block that it lent are given back.
+-- A cache after the borrow of a block's bytes has ended.
 use Rattle.std.specs.Prelude.{ℕ, nat_eq, Option, Vec}
 use Rattle.std.specs.Borrow.{Fml, MutBor, LendsIf, u8}
 use Rattle.std.specs.Map.{set_value}
@@ -9,6 +9,6 @@ use Rattle.std.specs.declared.alloc.Global.{Global}
 use Rattle.lfs_model.specs.layers.Cache.{CachedBlocks}
 use Rattle.lfs_blocks.specs.contracts.cache.Cache.{the_row}
 
--- the block has the bytes that were written last, and without the block the cache stays
+-- the block has the bytes that were written last; if it wasn't cached, nothing changes
 abbrev pub lends_block : MutBor CachedBlocks → ℕ → Option (MutBor (Vec ℕ Global)) → Fml
 lends_block c b r = LendsIf the_row (vec.the_row u8 global.the_row ghosts) c r (λ w. set_value (nat_eq b) c.now w.items) c.now

@@ -1,4 +1,4 @@
--- What contracts see of a cache.
+-- A cache as contracts see it.
 use Rattle.std.specs.Prelude.{◌≡◌, ◌≤◌, ℕ, nat_eq, List, map, length, Vec}
 use Rattle.std.specs.List.{IsDistinct}
 use Rattle.std.specs.Map.{keys_of}
@@ -10,7 +10,7 @@ use Rattle.lfs_model.specs.layers.Cache.{CachedBlocks, cache_limit}
 abbrev pub cached_view : List (ℕ × Vec ℕ Global) → CachedBlocks
 cached_view entries = map (λ e. (e.0, e.1.items)) entries
 
--- A cache has no block twice, and at most eight blocks.
+-- No block is cached twice, and at most eight are.
 pub record CachesAtMostEight (recent : LruCache ℕ (Vec ℕ Global)) : Type 0 where
   pub capacity : recent.cap ≡ cache_limit
   pub few : length recent.entries ≤ cache_limit

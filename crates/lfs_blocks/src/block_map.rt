@@ -10,17 +10,17 @@ use lfs_device::Error;
 use std::alloc::Global;
 use std::marker::Model;
 
-/// A map of the blocks of a device: each is free, used, or in flight. A block in flight was taken,
-/// and isn't settled yet. littlefs's lookahead buffer has the same purpose (DESIGN.md of littlefs,
+/// The state of each block of a device: free, used or in flight. A block in flight is allocated,
+/// but no commit names it yet. The map replaces littlefs's lookahead buffer (DESIGN.md of littlefs,
 /// "The block allocator").
 ///
-/// A contract sees the state of each block, by its number.
+/// In contracts the map is the list of the blocks' states, by block number.
 #[derive(Drop)]
 pub struct BlockMap {
     marks: Vec<Marks>,
     block_count: u32,
     used_count: u32,
-    // where the search for a free block continues
+    // where the next search for a free block begins
     next: u32,
 }
 
@@ -37,12 +37,10 @@ impl Model for BlockMap {
 }
 
 impl BlockMap {
-    /// Makes a map of the blocks below `block_count`, all of them free. It takes 16 bytes for each
-    /// 64 blocks. No other call takes memory.
+    /// Makes a map of the blocks below `block_count`, all of them free. Allocates 16 bytes for
+    /// every 64 blocks; no other call allocates memory.
     ///
-    /// Errors: `NoMemory` where that memory isn't granted.
-    ///
-    /// `NoMemory` where its memory isn't granted, 16 bytes for each 64 blocks.
+    /// Errors: `NoMemory` if that memory isn't granted.
     pub fn new(alloc: Global, block_count: u32) -> Result<BlockMap, Error>
         ensures free { IfOk result (λ map. map ≡ replicate block_count Free) }
         ensures error { IfErr result (λ e. e ≡ Error.NoMemory) }
@@ -56,14 +54,15 @@ impl BlockMap {
         })
     }
 
-    /// Returns how many blocks the map has.
+    /// Returns the number of blocks of the map.
     pub fn block_count(&self) -> u32
         ensures { result ≡ length self.now }
     {
         self.block_count
     }
 
-    /// Returns whether a block is used. A block in flight isn't.
+    /// Returns whether a block is used. A block in flight isn't. Requires a block below
+    /// [`block_count`](BlockMap::block_count).
     pub fn is_used(&self, block: u32) -> bool
         requires { block < length self.now }
         ensures { IsTrue result ↔ IsUsedBlock self.now block }
@@ -71,7 +70,8 @@ impl BlockMap {
         self.state(block).is_used()
     }
 
-    /// Returns whether a block is in flight.
+    /// Returns whether a block is in flight. Requires a block below
+    /// [`block_count`](BlockMap::block_count).
     pub fn is_in_flight(&self, block: u32) -> bool
         requires { block < length self.now }
         ensures { IsTrue result ↔ IsInFlight self.now block }
@@ -79,7 +79,8 @@ impl BlockMap {
         self.state(block).is_in_flight()
     }
 
-    /// Returns whether a block is free.
+    /// Returns whether a block is free. Requires a block below
+    /// [`block_count`](BlockMap::block_count).
     pub fn is_free(&self, block: u32) -> bool
         requires { block < length self.now }
         ensures { IsTrue result ↔ IsFree self.now block }
@@ -87,15 +88,14 @@ impl BlockMap {
         self.state(block) == BlockUse::Free
     }
 
-    /// Returns how many blocks are used.
+    /// Returns the number of used blocks. Blocks in flight don't count.
     pub fn used_count(&self) -> u32
         ensures { result ≡ used_count self.now }
     {
         self.used_count
     }
 
-    /// Makes a free block used. Returns whether the block was free; where it wasn't, nothing
-    /// changes.
+    /// Marks a free block as used. Returns false, and changes nothing, if the block wasn't free.
     pub fn mark(&mut self, block: u32) -> bool
         requires { block < length self.old }
         ensures free { IsTrue result ↔ IsFree self.old block }
@@ -109,11 +109,12 @@ impl BlockMap {
         is_free
     }
 
-    /// Takes a free block, which is then in flight until it is settled or released. Returns None
-    /// exactly where no block is free.
+    /// Allocates a free block, which is in flight until it is settled or released. Returns None
+    /// exactly if no block is free.
     ///
-    /// The search begins after the block that was taken last, or where
-    /// [`start_search_at`](BlockMap::start_search_at) left it. So the blocks are taken in a circle.
+    /// The search begins behind the block that was allocated last, or where
+    /// [`start_search_at`](BlockMap::start_search_at) set it, and wraps around at the end of the
+    /// device.
     pub fn take(&mut self) -> Option<u32>
         ensures was_free { IfSome result (IsFree self.old) }
         ensures taken { IfSome result (λ block. self.new ≡ slice_set self.old block InFlight) }
@@ -124,8 +125,8 @@ impl BlockMap {
         self.take_from(number)
     }
 
-    /// Takes the first free block from `number` on, modulo the number of blocks. The first block
-    /// follows the last one. Returns None exactly where no block is free.
+    /// Allocates the first free block from `number` on, modulo the number of blocks. The search
+    /// wraps around at the end of the device. Returns None exactly if no block is free.
     pub fn take_from(&mut self, number: u32) -> Option<u32>
         ensures next { IfSome result (IsNextFree self.old (number % length self.old)) }
         ensures taken { IfSome result (λ block. self.new ≡ slice_set self.old block InFlight) }
@@ -139,9 +140,8 @@ impl BlockMap {
     }
 
     /// Sets where the search of [`take`](BlockMap::take) begins: at the first free block from
-    /// `number` on. Returns that block, which [`take_from`](BlockMap::take_from) would take. The
-    /// states of the blocks stay. Returns None exactly if no block is free; the search then begins at
-    /// `number`.
+    /// `number` on, which it returns and doesn't allocate. No block changes its state. Returns None
+    /// exactly if no block is free; the search then begins at `number`.
     pub fn start_search_at(&mut self, number: u32) -> Option<u32>
         ensures next { IfSome result (IsNextFree self.old (number % length self.old)) }
         ensures none { IfNone result ((block : ℕ) → ¬ (IsFree self.old block)) }
@@ -152,14 +152,14 @@ impl BlockMap {
         block
     }
 
-    /// Returns where the search of [`take`](BlockMap::take) goes on: after the block that was taken
-    /// last.
+    /// Returns the number at which the search of [`take`](BlockMap::take) begins, modulo the number
+    /// of blocks.
     pub fn next_start(&self) -> u32 {
         self.next
     }
 
-    /// Takes a given block, which is free. It is in flight then. The search of
-    /// [`take`](BlockMap::take) goes on where it was.
+    /// Allocates this free block, which is then in flight. The search of [`take`](BlockMap::take)
+    /// still begins where it did.
     pub fn take_at(&mut self, block: u32)
         requires { IsFree self.old block }
         ensures { self.new ≡ slice_set self.old block InFlight }
@@ -167,7 +167,7 @@ impl BlockMap {
         self.set_block_state(block, BlockUse::InFlight);
     }
 
-    /// Makes a block free, whether it was used or in flight.
+    /// Makes a block free, whether it was used, in flight or free.
     pub fn release(&mut self, block: u32)
         requires { block < length self.old }
         ensures { self.new ≡ slice_set self.old block Free }
@@ -175,7 +175,7 @@ impl BlockMap {
         self.set_block_state(block, BlockUse::Free);
     }
 
-    /// Makes a block in flight used, after a commit that names it.
+    /// Makes a block in flight used, once a commit names it.
     pub fn settle(&mut self, block: u32)
         requires { IsInFlight self.old block }
         ensures { self.new ≡ slice_set self.old block Used }
@@ -201,7 +201,7 @@ impl BlockMap {
         self.used_count += u32::from(state.is_used());
     }
 
-    // Returns the first free block from a number on, in a circle.
+    // Returns the first free block from a number on, wrapping around at the end of the device.
     fn next_free(&self, number: u32) -> Option<u32>
         ensures next { IfSome result (IsNextFree self.now (number % length self.now)) }
         ensures not_last { IfSome result (λ block. block < u32.MAX) }
@@ -216,7 +216,7 @@ impl BlockMap {
         }
     }
 
-    // Returns the first free block from a block on.
+    // Returns the first free block from a block on, without wrapping around.
     fn first_free_from(&self, start: u32) -> Option<u32>
         requires { start ≤ length self.now }
         ensures found { IfSome result (IsFree self.now) }

@@ -17,12 +17,11 @@ use std::alloc::Global;
 use std::marker::Model;
 use std::num::NonZeroUsize;
 
-/// A cache of at most eight blocks of a device, each with its bytes as they were when it was read.
+/// A cache of at most eight blocks of a device, each with the bytes that it had when it was read.
 ///
-/// A contract sees the cache as a list of block numbers with their bytes. The block that was filled
-/// last comes first. The cache doesn't notice that the device changes a block. So a caller that
-/// programs or erases a block calls [`Cache::forget`] before, or writes the same bytes by
-/// [`Cache::lend_mut`].
+/// In contracts the cache is a list of block numbers with their bytes, the most recent block first.
+/// The cache doesn't notice changes of the device: a caller that programs or erases a block first
+/// calls [`Cache::forget`], or writes the same bytes through [`Cache::lend_mut`].
 #[derive(Drop)]
 pub struct Cache {
     alloc: Global,
@@ -43,9 +42,9 @@ impl Model for Cache {
 impl Cache {
     ghost use Rattle.lfs_blocks.specs.CacheLends.{lends_block};
 
-    /// Makes an empty cache.
+    /// Makes an empty cache with room for eight entries.
     ///
-    /// Errors: `NoMemory` where the room for eight entries isn't granted.
+    /// Errors: `NoMemory` if that room isn't granted.
     pub fn new(alloc: Global) -> Result<Cache, Error>
         ensures empty { IfOk result (λ cache. cache ≡ []) }
         ensures error { IfErr result (λ e. e ≡ Error.NoMemory) }
@@ -55,13 +54,12 @@ impl Cache {
         Ok(Cache { alloc, recent })
     }
 
-    /// Makes `block` the most recent block of the cache. A block that isn't cached is read whole,
-    /// by one read of the device. The least recent block is dropped then, where there were eight. A
-    /// cached block takes no call of the device and no memory. `block` is below the number of
-    /// blocks.
+    /// Makes `block` the most recent block of the cache. If it isn't cached, it is read whole, by
+    /// one read of the device; the least recent of eight blocks then leaves the cache. If it is
+    /// cached, nothing is read or allocated. Requires a block below the device's number of blocks.
     ///
-    /// Errors: `Io` where the read fails, and `NoMemory` where memory for the block isn't granted.
-    /// The cache is as it was after either.
+    /// Errors: `Io` if the read fails, `NoMemory` if memory for the block isn't granted. After
+    /// either the cache is as before.
     pub fn fill<D: BlockDevice>(&mut self, device: &mut D, block: u32) -> Result<(), Error>
         requires { block < (D.geometry device.old).block_count }
         ensures filled { OnOk result (self.new
@@ -79,13 +77,15 @@ impl Cache {
         Ok(())
     }
 
-    /// Reads bytes of a block into the buffer, from an offset on. A cached block takes no call of
-    /// the device, and the cache stays as it is. Another block is read whole, by one read, and
-    /// becomes the most recent block of the cache. Where memory for that isn't granted, the cache
-    /// stays as it is. `block` is below the number of blocks, and the bytes are within the block.
-    /// The caller's condition is that a cached block has the device's bytes.
+    /// Fills the buffer with the bytes of a block from `offset` on. If the block is cached, the
+    /// device isn't called, and the cache stays as it is. Otherwise the block is read whole, by one
+    /// read, and becomes the most recent block of the cache. If memory for that isn't granted, only
+    /// these bytes are read, and the cache stays as it is.
     ///
-    /// Errors: `Io` where the read fails.
+    /// Requires a block below the device's number of blocks, and bytes within the block. If the
+    /// block is cached, its bytes must be those that the device has.
+    ///
+    /// Errors: `Io` if the read fails.
     pub fn read<D: BlockDevice>(
         &mut self,
         device: &mut D,
@@ -115,8 +115,8 @@ impl Cache {
         }
     }
 
-    /// Returns the bytes of a block, without a copy. Returns None where the block isn't cached.
-    /// The order of the blocks stays as it is.
+    /// Borrows the bytes of a cached block. Returns None if the block isn't cached. The block
+    /// doesn't become more recent.
     pub fn lend(&self, block: u32) -> Option<&[u8]>
         ensures { option_copied result ≡ cached_bytes self.now block }
     {
@@ -126,8 +126,8 @@ impl Cache {
         }
     }
 
-    /// Borrows the bytes of a block to write to. Returns None where the block isn't cached. The order
-    /// of the blocks stays as it is.
+    /// Borrows the bytes of a cached block to change them. Returns None if the block isn't cached.
+    /// The block doesn't become more recent.
     pub fn lend_mut(&mut self, block: u32) -> Option<&mut Vec<u8>>
         ensures* lends { sem 𝓛 (lends_block self.entry block result) }
         ensures bytes { option_map (λ v. v.items) (option_copied_mut result) ≡ cached_bytes self.old block }
@@ -135,24 +135,22 @@ impl Cache {
         self.recent.peek_mut(&block)
     }
 
-    /// Takes a block out of the cache and drops its bytes. Nothing changes where the block isn't at
-    /// hand. The call takes no memory and makes no call of the device.
+    /// Removes a block from the cache, if it is cached. Doesn't call the device or allocate memory.
     pub fn forget(&mut self, block: u32)
         ensures { self.new ≡ cache_without self.old block }
     {
         self.recent.pop(&block);
     }
 
-    /// Takes all blocks out of the cache and drops their bytes. The call takes no memory and makes
-    /// no call of the device.
+    /// Removes all blocks from the cache. Doesn't call the device or allocate memory.
     pub fn clear(&mut self)
         ensures { self.new ≡ [] }
     {
         self.recent.clear();
     }
 
-    /// Takes the blocks out of the cache that aren't used by the map, and drops their bytes. The
-    /// call takes no memory and makes no call of the device.
+    /// Removes the blocks that aren't used in the map from the cache. Doesn't call the device or
+    /// allocate memory.
     pub fn forget_unused(&mut self, map: &BlockMap)
         ensures { KeepsUsed map.now self.old self.new }
     {
@@ -165,7 +163,7 @@ impl Cache {
         self.clear();
     }
 
-    // Returns a cached block that isn't used by the map, if there is one.
+    // Returns a cached block that isn't used in the map, if there is one.
     fn find_unused(&self, map: &BlockMap) -> Option<u32>
         ensures { IfNone result (AreCachedUsed map.now self.now) }
     {
@@ -177,9 +175,8 @@ impl Cache {
         None
     }
 
-    // Adds a block with these bytes as the most recent one, where memory for that is granted. The
-    // least recent block is dropped where there were eight. The caller's condition is that the
-    // block isn't cached.
+    // Caches a block with these bytes as the most recent one, if memory for its entry is granted.
+    // The least recent of eight blocks then leaves the cache. Requires that the block isn't cached.
     fn keep(&mut self, block: u32, bytes: Vec<u8>)
         requires { cached_bytes self.old block ≡ None }
         ensures { (self.new ≡ self.old) ⊎ (self.new ≡ cache_with self.old block bytes.items) }
@@ -200,8 +197,8 @@ impl Cache {
         self.recent.promote(&block)
     }
 
-    // Adds a block that isn't cached as the most recent one. The least recent block is dropped
-    // where there were eight.
+    // Caches a block as the most recent one. The least recent of eight blocks then leaves the
+    // cache. Requires that the block isn't cached.
     fn add_uncached_block(&mut self, block: u32, bytes: Vec<u8>) -> Result<(), Error>
         requires { cached_bytes self.old block ≡ None }
         ensures first { OnOk result (self.new ≡ cache_with self.old block bytes.items) }
@@ -214,14 +211,14 @@ impl Cache {
     }
 }
 
-// Returns whether a block is used. The map may have no such block.
+// Returns whether the map has this block, and has it as used.
 fn is_used_among(map: &BlockMap, block: u32) -> bool
     ensures { result ≡ true → IsUsedBlock map.now block }
 {
     block < map.block_count() && map.is_used(block)
 }
 
-// Copies bytes from an offset on into the buffer.
+// Fills the buffer with the bytes from an offset on.
 fn copy_range(bytes: &[u8], offset: u32, buf: &mut [u8])
     requires { offset + length buf.old ≤ length bytes.now }
     ensures { buf.new ≡ slice_range bytes.now offset (offset + length buf.old) }
@@ -231,7 +228,7 @@ fn copy_range(bytes: &[u8], offset: u32, buf: &mut [u8])
     buf.copy_from_slice(&bytes[start..end]);
 }
 
-// Reads bytes of a block into the buffer, from an offset on.
+// Fills the buffer with the bytes of a block on the device, from an offset on.
 fn read_range<D: BlockDevice>(
     device: &mut D,
     block: u32,

@@ -1,5 +1,6 @@
 // SPDX-License-Identifier: BSD-3-Clause
-//! Blocks of a device: which are used, free or in flight, and the ones that were read last.
+//! The blocks of a device: the state of each, free, used or in flight, and a cache of those read
+//! last.
 #![tactic(auto)]
 
 mod block_map;

@@ -27,7 +27,8 @@ impl BlockUse {
     }
 }
 
-/// The states of 64 consecutive blocks. Bit `k` of each word is for the block at place `k`.
+/// The states of 64 consecutive blocks. Bit `k` of each word belongs to the block `k` behind the
+/// first.
 #[derive(Clone, Copy)]
 pub struct Marks {
     used: u64,
@@ -59,7 +60,7 @@ impl Marks {
         }
     }
 
-    /// Returns the same marks with one block in another state.
+    /// Returns the marks with the block of bit `place` in this state.
     pub fn with_state(self, place: u32, state: BlockUse) -> Marks
         requires { place < 64 }
         ensures here { state_at_bit result place ≡ use_view state }
@@ -81,7 +82,7 @@ impl Marks {
         }
     }
 
-    /// Returns the place of the first free block from a place on.
+    /// Returns the bit of the first free block from the bit `start` on.
     pub fn first_free(self, start: u32) -> Option<u32>
         requires { start < 64 }
         ensures found { IfSome result (λ place. state_at_bit self place ≡ Free) }

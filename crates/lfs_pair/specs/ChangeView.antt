@@ -1,4 +1,4 @@
--- The changes of the code as those of the definitions.
+-- The code's changes as the definitions see them.
 use Rattle.std.specs.Prelude.{List, map}
 use Rattle.std.specs.Option.{option_map}
 use Rattle.lfs_model.specs.format.Slots.{address_view}
@@ -7,7 +7,7 @@ use Rattle.lfs_tag.specs.FieldsView.{move_view}
 use Rattle.lfs_pair.specs.declared.change.Change.{Change}
 use Rattle.lfs_pair.specs.declared.change.Change.TheVariants as changes
 
--- a change
+-- one change
 abbrev pub change_view : Change → model.ContentChange
 change_view (changes.Create id kind name) = model.Create id kind name.now
 change_view (changes.Delete id) = model.Delete id

@@ -1,4 +1,4 @@
--- What a copy of a pair in two other blocks is.
+-- The effect of copying a pair to two other blocks.
 use Rattle.std.specs.Prelude.{ℕ, ◌≡◌, ◌⊎◌, ◌+◌, ◌%◌, ◌^◌, List, Some}
 use Rattle.lfs_device.specs.declared.device.BlockDevice.{Ghosts}
 use Rattle.lfs_device.specs.declared.error.Error.{Error}
@@ -14,13 +14,13 @@ use Rattle.lfs_pair.specs.FreshPair.{ErasedOneMore, HasFreshContent}
 use Rattle.lfs_pair.specs.Pair.{header_address}
 use Rattle.lfs_pair.specs.declared.pair.Pair.{Pair}
 
--- The premises of a copy: those of a commit of the changes, what they make fits a pair, and the two blocks are of the disk.
+-- What a copy requires: what a commit does, a changed content that fits a pair, and two different blocks of the disk.
 pub record CanCopyPair (disk : Disk) (history : List CallEvent) (pair : Pair) (fresh : ℕ × ℕ) (changes : List ContentChange) : Type 0 where
   pub commit : CanCommit disk history pair changes
   pub fits : RawContentFits disk.block_size disk.page commit.new
   pub fresh_is : IsPairAddress disk fresh
 
--- The fresh pair has what the changes make of the pair, and the next revision.
+-- The new pair has the changed content, with the next revision.
 pub record IsPairCopied (old : Disk) (before : List CallEvent) (changes : List ContentChange) (pair : Pair) (disk : Disk) (history : List CallEvent) (fresh : ℕ × ℕ) (copy : Pair) : Type 0 where
   pub new : RawContent
   pub made : changed_pair_content old (header_address pair) changes ≡ Some new

@@ -1,4 +1,4 @@
--- What a fetch of a pair's header takes, and how it fails.
+-- The cost of fetching a pair's header, and its errors.
 use Rattle.std.specs.Prelude.{◌≡◌, ◌≤◌, ◌⊎◌, ◌+◌, ℕ, List, Result, Err, None, IfErr, OnOk}
 use Rattle.lfs_device.specs.declared.device.BlockDevice.{Ghosts}
 use Rattle.lfs_device.specs.declared.error.Error.{Error}
@@ -24,18 +24,18 @@ pub record HeaderFails (block : List ℕ) (result : Result Pair Error) : Type 0 
   pub corrupt : result ≡ Err Corrupt → content_after empty_raw_content (block_entries block) ≡ None
   pub errors : IfErr result (λ e. (e ≡ Corrupt) ⊎ (e ≡ NoMemory))
 
--- two reads where each succeeds, and else at most two
+-- two reads if both succeed, otherwise at most two
 pub record ReadsTwice {X : Type 0} (before after : List CallEvent) (result : Result X Error) : Type 0 where
   pub reads : read_count after ≤ read_count before + 2
   pub both : OnOk result (read_count after ≡ read_count before + 2)
 
--- A fetch fails: at `Corrupt` the address has no content, and `Io` comes with a fault of the device.
+-- A fetch fails: at `Corrupt` no content is at the address, and `Io` comes with a fault of the device.
 pub record FetchFails {D : Type 0} (g : Ghosts D) (at : ℕ × ℕ) (old new : D) (result : Result Pair Error) : Type 0 where
   pub corrupt : result ≡ Err Corrupt → raw_content (disk_of_blocks (g.geometry old) (g.blocks old)) at ≡ None
   pub errors : IfErr result (λ e. (e ≡ Corrupt) ⊎ ((e ≡ NoMemory) ⊎ (e ≡ Io)))
   pub faults : ReportsFaults g old new result
 
--- the reads of a fetch are known at Ok, and at most four
+-- the number of reads: exact at Ok, and at most four
 pub record FetchReads (disk : Disk) (at : ℕ × ℕ) (before after : List CallEvent) (result : Result Pair Error) : Type 0 where
   pub reads : OnOk result (read_count after ≡ read_count before + fetch_reads disk at)
   pub few : read_count after ≤ read_count before + 4

@@ -1,4 +1,4 @@
--- What a fresh pair makes of its two blocks.
+-- A new pair in two blocks.
 use Rattle.std.specs.Prelude.{ℕ, ◌≡◌, ◌⊎◌, ◌+◌, ◌≤◌, Bool, true, false, List, Some}
 use Rattle.lfs_device.specs.declared.error.Error.{Error}
 use Rattle.lfs_device.specs.declared.error.Error.TheVariants.{Io, NoMemory}
@@ -13,7 +13,7 @@ use Rattle.lfs_pair.specs.declared.pair.Pair.{Pair}
 use Rattle.lfs_pair.specs.Writing.{HasOneCommit}
 use Rattle.lfs_pair.specs.Commits.{IsPairAddress, HasWrittenContent}
 
--- the premises: two blocks of the disk, and changes whose content fits a pair
+-- what making a new pair requires: two different blocks of the disk, and changes whose content fits a pair
 pub record CanMakeFresh (disk : Disk) (at : ℕ × ℕ) (changes : List ContentChange) : Type 0 where
   pub address : IsPairAddress disk at
   pub new : RawContent
@@ -21,7 +21,8 @@ pub record CanMakeFresh (disk : Disk) (at : ℕ × ℕ) (changes : List ContentC
   pub names : AreNamed new.slots
   pub fits : RawContentFits disk.block_size disk.page new
 
--- The premises for a content: two blocks of the disk, a content that can be written anew, and a buffer as long as a block.
+-- What writing a new pair requires: two different blocks of the disk, a content that can be written and fits, and a buffer as
+-- long as a block.
 pub record CanWriteFreshPair (disk : Disk) (at : ℕ × ℕ) (c : RawContent) (len : ℕ) : Type 0 where
   pub address : IsPairAddress disk at
   pub buf : len ≡ disk.block_size
@@ -40,21 +41,21 @@ EraseClearsLog (Blank block off len) failed after = Unit {0}
 abbrev pub EventClearsLog : CallEvent → Type 0
 EventClearsLog e = EraseClearsLog e.call e.failed e.after
 
--- `count` blocks were erased and programmed, and one more was erased. That one was programmed, too, only where it still had a log
+-- `count` blocks were erased and programmed, and one more was erased. That one was programmed as well only if it still had a log
 -- after its erase.
 pub record ErasedOneMore (count : ℕ) (before history : List CallEvent) : Type 0 where
   pub erases : erase_count history ≡ erase_count before + (count + 1)
   pub at_most : program_count history ≤ program_count before + (count + 1)
   pub programs : AllCallsSince EventClearsLog before history → program_count history ≡ program_count before + count
 
--- The first block has that content with that revision, the second has no log, and the header says so.
+-- The first block has this content with this revision, the second has no log, and the header says so.
 pub record HasFreshContent (revision : ℕ) (c : RawContent) (disk : Disk) (at : ℕ × ℕ) (pair : Pair) : Type 0 where
   pub active : pair.active ≡ at.0
   pub revision_is : pair.revision ≡ revision
   pub anew : HasOneCommit revision c (disk_block disk at.0)
   pub cleared : has_commit (disk_block disk at.1) ≡ false
 
--- the pair's first block has what the changes make of an empty log
+-- the pair's first block has the content after these changes to an empty log
 pub record IsFreshPair (before : List CallEvent) (changes : List ContentChange) (disk : Disk) (history : List CallEvent) (at : ℕ × ℕ) (pair : Pair) : Type 0 where
   pub new : RawContent
   pub made : content_with_changes empty_raw_content changes ≡ Some new
@@ -62,7 +63,7 @@ pub record IsFreshPair (before : List CallEvent) (changes : List ContentChange) 
   pub fresh : HasFreshContent 1 new disk at pair
   pub clears : ErasedOneMore 1 before history
 
--- an error; at `NoMemory` the device is untouched
+-- an error; at `NoMemory` the device wasn't called
 pub record IsWriteError {D : Type 0} (old new : D) (e : Error) : Type 0 where
   pub errors : (e ≡ Io) ⊎ (e ≡ NoMemory)
   pub no_memory : e ≡ NoMemory → new ≡ old

@@ -1,12 +1,11 @@
--- Where slots are cut into two parts, each for a pair of its own.
+-- The cut of slots into two parts, each for a pair of its own.
 use Rattle.std.specs.Prelude.{ℕ, ◌*◌, ◌<◌, ◌≤◌, List, take, sum_by}
 use Rattle.lfs_model.specs.format.Content.{RawSlot}
 use Rattle.lfs_model.specs.layers.WrittenContent.{slot_size_raw}
 use Rattle.lfs_model.specs.layers.Cut.{IsFittingSplit}
 pub use Rattle.lfs_model.specs.layers.Cut.{SlotsFitPair, IsFittingSplit, AreSplittable}
 
--- The cut is the last possible one with at most half of the bytes before it. Where no possible cut is such, it is the first
--- possible one.
+-- The cut is the last possible one with at most half of the bytes before it, or the first possible one if there is none such.
 pub record IsHalfCut (block_size page : ℕ) (slots : List RawSlot) (cut : ℕ) : Type 0 where
   pub is_cut : IsFittingSplit block_size page slots cut
   pub later : (k : ℕ) → cut < k → IsFittingSplit block_size page slots k → sum_by slot_size_raw slots < 2 * sum_by slot_size_raw (take k slots)

@@ -1,4 +1,4 @@
--- The header of a pair, and what it says of the disk.
+-- The header of a pair, and when it is true of the disk.
 use Rattle.std.specs.Prelude.{ℕ, ◌≡◌, ◌≢◌, ◌<◌, ◌==◌, ◌%◌, ◌&&◌, ◌||◌, not, Bool, true, false, if◌then◌else◌, List, length, Some, is_some}
 use Rattle.std.specs.Option.{option_map}
 use Rattle.lfs_model.specs.format.Disk.{Disk, disk_block}
@@ -15,7 +15,7 @@ use Rattle.lfs_pair.specs.declared.pair.Pair.{Pair}
 abbrev pub header_address : Pair → ℕ × ℕ
 header_address pair = address_view pair.blocks
 
--- two different blocks of a device with so many
+-- two different blocks of a device with `count` blocks
 pub record AreTwoBlocks (count : ℕ) (at : ℕ × ℕ) : Type 0 where
   pub apart : at.0 ≢ at.1
   pub first : at.0 < count
@@ -28,27 +28,26 @@ opposite_block at active = if active == at.0 then at.1 else at.0
 abbrev pub header_inactive_block : Pair → ℕ
 header_inactive_block pair = opposite_block (header_address pair) pair.active
 
--- The header counts the content's slots, says whether each is complete, and has the content's tail and its delta of the global
--- state.
+-- The header has the content's number of slots, tail and delta of the global state, and says whether each slot is complete.
 pub record IsContentHeader (c : RawContent) (pair : Pair) : Type 0 where
   pub slot_count : pair.slot_count ≡ length c.slots
   pub tail : option_map tail_view pair.tail ≡ c.tail
   pub move : move_view pair.move_state ≡ c.move
   pub complete : pair.is_complete ≡ is_some (complete_content c)
 
--- the header has what is kept of the content, and is otherwise the one from before
+-- the header describes this content, with the blocks and the revision of the old header
 pub record IsHeaderWith (c : RawContent) (was now : Pair) : Type 0 where
   pub sums : IsContentHeader c now
   pub blocks : header_address now ≡ header_address was
   pub active : now.active ≡ was.active
   pub revision : now.revision ≡ was.revision
 
--- the header has this end of the log, and this last tag
+-- the header has this log's end and last tag
 pub record HeaderHasEnd (end last : ℕ) (pair : Pair) : Type 0 where
   pub end_is : pair.end ≡ end
   pub last_is : pair.last ≡ last
 
--- The header of a pair whose active block was just written, so that its log ends there and comes to that content.
+-- The header of a pair whose active block was just written: its log ends here, and its content is this one.
 pub record IsWrittenHeader (at : ℕ × ℕ) (block number end last : ℕ) (c : RawContent) (pair : Pair) : Type 0 where
   pub blocks : header_address pair ≡ at
   pub active : pair.active ≡ block
@@ -57,7 +56,7 @@ pub record IsWrittenHeader (at : ℕ × ℕ) (block number end last : ℕ) (c : 
   pub sums : IsContentHeader c pair
   pub fetched : pair.is_fetched ≡ false
 
--- a block's log comes to that content, and the header describes it
+-- the content of a block's log is this one, and the header describes both
 pub record HeaderDescribesLog (block : List ℕ) (pair : Pair) (held : RawContent) : Type 0 where
   pub content : content_after empty_raw_content (block_entries block) ≡ Some held
   pub end : pair.end ≡ (chain_of block).end
@@ -70,20 +69,20 @@ pub record HeaderDescribesLog (block : List ℕ) (pair : Pair) (held : RawConten
 abbrev pub is_second_active : List ℕ → List ℕ → Bool
 is_second_active a b = has_commit b && (not (has_commit a) || is_later (block_revision a) (block_revision b))
 
--- a pair's blocks, the one with the later revision first; as they are named where neither is later
+-- a pair's blocks, the one with the later revision first, or in their own order if neither is later
 abbrev pub later_block_first : Disk → ℕ × ℕ → ℕ × ℕ
 later_block_first disk at = if is_later (block_revision (disk_block disk at.0)) (block_revision (disk_block disk at.1)) then (at.1, at.0) else at
 
--- the reads of a fetch: both revisions, the block with the later one, and the other block where that one has no commit
+-- the reads of a fetch: both revisions, the block with the later one, and the other block if that one has no commit
 abbrev pub fetch_reads : Disk → ℕ × ℕ → ℕ
 fetch_reads disk at = if has_commit (disk_block disk (later_block_first disk at).0) then 3 else 4
 
--- the active block of two; the first one where neither has a commit
+-- the active block of two; the first one if neither has a commit
 abbrev pub active_block_at : Disk → ℕ × ℕ → ℕ
 active_block_at disk at = if is_second_active (disk_block disk at.0) (disk_block disk at.1) then at.1 else at.0
 
--- The disk has the pair with that content, as the header says. Unless the header was only fetched, nothing is programmed after
--- the end of the log.
+-- The disk has the pair with this content, as the header says. If it was written to since it was fetched, nothing is programmed
+-- behind its log.
 pub record IsTrueHeader (disk : Disk) (history : List CallEvent) (pair : Pair) (held : RawContent) : Type 0 where
   pub active : pair.active ≡ active_block_at disk (header_address pair)
   pub holds : current_block disk (header_address pair) ≡ Some (disk_block disk pair.active)
@@ -91,7 +90,7 @@ pub record IsTrueHeader (disk : Disk) (history : List CallEvent) (pair : Pair) (
   pub whole_pages : pair.is_fetched ≡ false → pair.end % disk.page ≡ 0
   pub unprogrammed : pair.is_fetched ≡ false → AreUnprogrammed history pair.active pair.end disk.block_size
 
--- what a fetch finds at a pair's address
+-- the header that a fetch returns for a pair's address
 pub record FetchFinds (disk : Disk) (history : List CallEvent) (address : ℕ × ℕ) (pair : Pair) : Type 0 where
   pub held : RawContent
   pub is_pair : IsTrueHeader disk history pair held

@@ -1,4 +1,4 @@
--- What a split does to a pair.
+-- The effect of a split on a pair.
 use Rattle.std.specs.Prelude.{ℕ, ◌≡◌, ◌≢◌, ◌⊎◌, ◌+◌, ◌<◌, ◌%◌, ◌^◌, true, List, length, take, drop, Some}
 use Rattle.lfs_model.specs.format.Blocks.{Blocks, SameExceptBlocks, block_bytes}
 use Rattle.lfs_model.specs.format.Disk.{Disk, disk_block}
@@ -23,15 +23,15 @@ pub record AreApart (at fresh : ℕ × ℕ) : Type 0 where
   pub second_first : at.1 ≢ fresh.0
   pub second_second : at.1 ≢ fresh.1
 
--- The premises of a split: those of a commit, two blocks of the disk that aren't the pair's, and a content that can be cut into
--- two parts that fit a pair each.
+-- What a split requires: what a commit does, two blocks of the disk that aren't the pair's, and a content that can be cut into
+-- two parts that each fit a pair.
 pub record CanSplitPair (disk : Disk) (history : List CallEvent) (pair : Pair) (fresh : ℕ × ℕ) (changes : List ContentChange) : Type 0 where
   pub commit : CanCommit disk history pair changes
   pub fresh_is : IsPairAddress disk fresh
   pub apart : AreApart (header_address pair) fresh
   pub cut : AreSplittable disk.block_size disk.page commit.new.slots
 
--- The premises of a split of a pair whose active block has these bytes.
+-- What a split requires of a pair whose active block has these bytes.
 pub record CanSplitWithBlock (disk : Disk) (history : List CallEvent) (pair : Pair) (fresh : ℕ × ℕ) (changes : List ContentChange) (block : List ℕ) : Type 0 where
   pub can : CanSplitPair disk history pair fresh changes
   pub holds : block ≡ block_bytes disk.blocks pair.active
@@ -44,18 +44,18 @@ split_front c cut fresh = record { slots = take cut c.slots; tail = Some (record
 abbrev pub split_back : RawContent → ℕ → RawContent
 split_back c cut = record { slots = drop cut c.slots; tail = c.tail; move = zero_gstate }
 
--- where the whole doesn't fit one pair, both parts have slots, and so the first slot stays in the old pair
+-- if the whole doesn't fit one pair, both parts have slots; so the first slot stays in the old pair
 abbrev pub BothHaveSlots : ℕ → ℕ → RawContent → ℕ → Type 0
 BothHaveSlots block_size page whole cut = (RawContentFits block_size page whole → ⊥) → (0 < cut) × (cut < length whole.slots)
 
--- a content is cut into these two parts
+-- these are the two parts into which a content is cut
 pub record IsContentCut (block_size page : ℕ) (whole : RawContent) (fresh : ℕ × ℕ) (front back : RawContent) : Type 0 where
   pub cut : ℕ
   pub is_cut : IsFittingSplit block_size page whole.slots cut
   pub front_is : front ≡ split_front whole cut fresh
   pub back_is : back ≡ split_back whole cut
 
--- A split that is done: each pair has its part of what the changes make, and each part fits.
+-- A split that is done: each pair has its part of the changed content, and each part fits.
 pub record SplitsPair (old : Disk) (before : List CallEvent) (changes : List ContentChange) (was : Pair) (fresh : ℕ × ℕ) (disk : Disk) (history : List CallEvent) (pair fresh_pair : Pair) : Type 0 where
   pub new : RawContent
   pub made : changed_pair_content old (header_address was) changes ≡ Some new
@@ -85,7 +85,7 @@ pub record PairsHaveParts (old : Disk) (at fresh : ℕ × ℕ) (changes : List C
   pub front : HasNewContent old at (split_front new cut fresh) disk
   pub back : raw_content disk fresh ≡ Some (split_back new cut)
 
--- no block changes but those of the two pairs
+-- only the blocks of the two pairs change
 abbrev pub KeepsOutsideBoth : ℕ × ℕ → ℕ × ℕ → Blocks → Blocks → Type 0
 KeepsOutsideBoth at fresh old new = SameExceptBlocks (addresses_blocks at fresh) old new
 

@@ -1,4 +1,4 @@
-// What decides which block of a pair is active.
+// The part of a block's log that decides which block of a pair is active.
 
 ghost use Rattle.std.specs.Prelude.{◌≡◌};
 ghost use Rattle.lfs_model.specs.format.Log.{chain_of, block_revision};
@@ -11,13 +11,13 @@ use lfs_tag::{Log, Tag};
 pub(crate) struct ActiveBlockCandidate {
     pub has_commit: bool,
     pub revision: u32,
-    // Where the log ends in bytes, and its last tag.
+    // The offset of the log's end, in bytes, and the log's last tag.
     pub end: usize,
     pub last: Tag,
 }
 
 impl ActiveBlockCandidate {
-    // Reads the head of a block with these bytes.
+    // Reads the log of a block with these bytes.
     pub(crate) fn of(bytes: &[u8]) -> ActiveBlockCandidate
         ensures has_commit { result.has_commit ≡ has_commit bytes.now }
         ensures revision { result.revision ≡ block_revision bytes.now }

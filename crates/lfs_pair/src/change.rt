@@ -1,4 +1,4 @@
-// Changes to what a pair holds.
+// Changes to the content of a pair.
 
 ghost use Rattle.std.specs.Prelude.{◌≡◌, ◌<◌, ◌≤◌, ◌^◌, ◌++◌, true, [], ◌∷◌, length, Some};
 ghost use Rattle.std.specs.List.{list_all};
@@ -16,27 +16,28 @@ use lfs_tag::kinds::{ATTRIBUTE, CREATE, DELETE};
 use lfs_tag::{Content, ContentError, Entry, MoveState, NULL_ADDRESS, Tag, Tail};
 use std::alloc::Global;
 
-/// A change to what a pair holds. Changes are applied in order: an id counts the slots that are
-/// there after the changes before it.
+/// A change to the content of a pair. Changes are applied in order, so an id counts the slots as
+/// they are after the changes before it.
 #[derive(Clone, Copy, Drop)]
 pub enum Change<'a> {
-    /// A new slot is put in at the id, from 0 to the number of slots. Its name has that type.
+    /// Inserts a slot at the id, from 0 to the number of slots. `kind` is the type of its name.
     Create { id: u16, kind: u16, name: &'a [u8] },
-    /// The slot at the id is removed, and later ids are one less.
+    /// Removes the slot at the id. Each greater id decreases by one.
     Delete { id: u16 },
-    /// The slot at the id gets another struct, of that type.
+    /// Sets the struct of the slot at the id. `kind` is the struct's type.
     Struct { id: u16, kind: u16, bytes: &'a [u8] },
-    /// The slot at the id gets an attribute of 0 to 1,022 bytes, in place of one of the same type.
+    /// Sets an attribute of the slot at the id, in place of one of the same type. Its value has 0
+    /// to 1,022 bytes.
     Attr { id: u16, attr: u8, bytes: &'a [u8] },
-    /// The slot at the id loses the attribute of that type, if it has one.
+    /// Removes the attribute of that type from the slot at the id, if it has one.
     NoAttr { id: u16, attr: u8 },
-    /// The pair gets another tail, or none.
+    /// Sets the pair's tail, or removes it if `pair` is None.
     Tail { hard: bool, pair: Option<[u32; 2]> },
-    /// The pair gets another delta of the global state.
+    /// Sets the pair's delta of the global state.
     Move { state: MoveState },
 }
 
-// Adds an entry with these fields to the content.
+// Applies an entry with these fields to the content.
 fn apply_entry_fields<'a>(
     alloc: Global,
     content: &mut Content<'a>,
@@ -54,7 +55,7 @@ fn apply_entry_fields<'a>(
     Ok(())
 }
 
-// Adds an entry that removes an attribute to the content.
+// Applies an entry that removes an attribute to the content.
 fn apply_attribute_removal(
     alloc: Global,
     content: &mut Content<'_>,
@@ -69,7 +70,7 @@ fn apply_attribute_removal(
     Ok(())
 }
 
-// Returns the tail that a change sets. Two null addresses are no tail.
+// Returns the tail that a change sets. An address of two null addresses is no tail.
 fn tail_unless_null(hard: bool, pair: Option<[u32; 2]>) -> Option<Tail>
     ensures { option_map tail_view result ≡ tail_with_pair hard (tail_or_null (option_map address_view pair)) }
 {
@@ -85,7 +86,7 @@ fn tail_unless_null(hard: bool, pair: Option<[u32; 2]>) -> Option<Tail>
     }
 }
 
-// Applies a change to the content.
+// Applies one change to the content. Errors are those of [`apply_all_changes`].
 pub(crate) fn apply_change<'a>(
     alloc: Global,
     content: &mut Content<'a>,
@@ -127,14 +128,14 @@ pub(crate) fn apply_change<'a>(
     }
 }
 
-/// Applies the changes to a content, in order. The caller's condition is that a tag can store each
-/// change: an id below 0x3ff, a name's or a struct's type, at most 1,022 bytes.
+/// Applies changes to a content, in order. Requires that a tag can store each change: an id below
+/// 0x3ff, the type of a name or a struct, at most 1,022 bytes.
 ///
-/// Errors: `NoMemory` where memory isn't granted. `Malformed` exactly where the format doesn't
-/// allow a change there (SPEC.md of littlefs, "Metadata types"). These are a create with an id
-/// above the number of slots, and a delete, struct or attribute for an id that isn't there. They
-/// are also a struct or attribute for a slot without a name, and a type or a length that the format
-/// doesn't have. After an error nothing is known of the content.
+/// Errors: `NoMemory` if memory isn't granted. `Malformed` only if the format doesn't allow a
+/// change at its point; such changes never return Ok (SPEC.md of littlefs, "Metadata types"). Not
+/// allowed are a create with an id above the number of slots, a delete, struct or attribute for an
+/// id that doesn't exist, a struct or attribute for a slot without a name, and a type or length
+/// that the format doesn't have. After an error the content is unspecified.
 pub fn apply_all_changes<'a>(
     alloc: Global,
     content: &mut Content<'a>,

@@ -25,37 +25,40 @@ use lfs_device::{BlockDevice, Error};
 use lfs_tag::{CommitBuilder, Content};
 use std::alloc::Global;
 
-/// What a commit did.
+/// The outcome of a commit.
 #[derive(Clone, Copy, Debug, PartialEq, Eq, Drop)]
 pub enum Outcome {
-    /// The pair now holds what the changes make of it.
+    /// The pair has the changed content.
     Done,
-    /// What the changes make doesn't fit the pair. Nothing was written.
+    /// The changed content doesn't fit the pair. Nothing was written.
     Full,
 }
 
 /// Commits changes to a pair (DESIGN.md of littlefs, "Metadata pairs"). The commit is atomic: a
 /// loss of power during the call leaves the pair with all of the changes or with none.
 ///
-/// `block` has the bytes of the active block. At Ok it has the bytes that this block then has on the
-/// device. The changes are appended to its log where the padded commit ends within the block. Else the
-/// other block is erased, and all that the pair is to hold is written into it. After a
-/// [`fetch`](crate::fetch) the bytes after the log aren't known. So the first commit asks the device
-/// whether they are blank, and appends only then. The call takes at most one read.
+/// The changes are appended to the log of the active block if the padded commit fits behind it and
+/// the bytes there are unprogrammed. Otherwise the pair is compacted: the other block is erased and
+/// gets the changed content. After a [`fetch`](crate::fetch) it isn't known what is behind the log,
+/// so the first commit asks the device whether these bytes are blank. The call costs at most one
+/// read.
 ///
-/// Returns [`Outcome::Full`] exactly where what the changes make doesn't fit a pair ([`content_fits`]).
-/// Then nothing is written, and the pair stays as it was.
+/// `block` must be the bytes of the active block. At Ok it is the bytes that this block then has on
+/// the device.
 ///
-/// Errors: `NoMemory` where memory for the slots and for a block isn't granted. Nothing is written
-/// then. `Io` where a call of the device failed. After an error `pair` is as it was, but the device
-/// may hold something else. So the caller fetches its blocks again, and `block` is of no use.
+/// Returns [`Outcome::Full`] exactly if the changed content doesn't fit a pair ([`content_fits`]).
+/// Then nothing is written, and the pair is unchanged.
 ///
-/// The promise about a loss of power has two premises. An erase leaves a block without a log, or
-/// with the log that it had. A program that is cut short leaves the log from before it, or the one
-/// from after it.
+/// Errors: `NoMemory` if memory for the slots and for a block isn't granted; then nothing is
+/// written. `Io` if a call of the device failed; the device may then hold something else. After
+/// either `pair` is unchanged and `block` is unspecified, so the caller fetches the pair again.
 ///
-/// The caller's conditions: the device has the pair as its last call left it. The changes are allowed
-/// in the pair's log. Each slot has a name afterwards.
+/// The promise about a loss of power rests on the device. An erase must leave a block without a
+/// log, or with a log of the revision that it had. A program that is cut short must leave the log
+/// from before it or the one from after it; at offset 0 it may leave no log.
+///
+/// Requires that the device has the pair as `pair` says, that the format allows the changes, and
+/// that each slot has a name afterwards.
 pub fn commit<D: BlockDevice>(
     alloc: Global,
     dev: &mut D,
@@ -84,14 +87,14 @@ pub fn commit<D: BlockDevice>(
         *pair = header.with_end(written);
         return Ok(Outcome::Done);
     }
-    // The append was lent the bytes that the content was made of, so it is made once more.
+    // The append borrowed the block that the content borrows from, so the content is made again.
     let content = changed_content(alloc, pair, block, changes)?;
     compact(dev, pair, &content, &mut buf)?;
     Ok(Outcome::Done)
 }
 
-// Tells whether the bytes after a pair's log are unprogrammed. Where the pair was fetched and not
-// written to since then, the device is asked.
+// Returns whether the bytes behind a pair's log are unprogrammed. Asks the device if nothing was
+// written to the pair since it was fetched.
 fn is_end_blank<D: BlockDevice>(dev: &mut D, pair: &Pair) -> Result<bool, Error>
     requires address { IsPairAddress (disk_of_blocks (D.geometry dev.old) (D.blocks dev.old)) (header_address pair.now) }
     requires pair { (held : RawContent) × IsTrueHeader (disk_of_blocks (D.geometry dev.old) (D.blocks dev.old)) (D.history dev.old) pair.now held }
@@ -113,8 +116,9 @@ fn is_end_blank<D: BlockDevice>(dev: &mut D, pair: &Pair) -> Result<bool, Error>
     Ok(is_blank)
 }
 
-// Appends the changes to the log of the active block, if they fit there and nothing is programmed
-// there. `block` has that block's bytes before and afterwards. Returns where the log ends then.
+// Appends the changes to the log of the active block, if they fit and the bytes there are
+// unprogrammed. `block` is that block's bytes, before and after the call. Returns the new end of
+// the log, or None if the changes weren't appended.
 fn append_changes<D: BlockDevice>(
     dev: &mut D,
     pair: &Pair,
@@ -147,7 +151,7 @@ fn append_changes<D: BlockDevice>(
     Ok(Some(written))
 }
 
-// Writes the content into the pair's other block, which becomes active.
+// Writes the content into the pair's other block, which becomes the active one.
 pub(crate) fn compact<D: BlockDevice>(
     dev: &mut D,
     pair: &mut Pair,

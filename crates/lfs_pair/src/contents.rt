@@ -1,4 +1,4 @@
-// What changes make of a pair's content.
+// The content of a pair after changes.
 
 ghost use Rattle.std.specs.Prelude.{◌≡◌, true, is_some, IfOk, IfErr, Some, None};
 ghost use Rattle.lfs_model.specs.format.Content.{empty_raw_content};
@@ -15,7 +15,7 @@ use lfs_device::Error;
 use lfs_tag::{Content, ContentError, Log, MoveState};
 use std::alloc::Global;
 
-// Makes the content of an empty log.
+// Returns the content of an empty log.
 fn empty_content<'a>(alloc: Global) -> Content<'a>
     ensures { content_view result ≡ empty_raw_content }
 {
@@ -26,7 +26,7 @@ fn empty_content<'a>(alloc: Global) -> Content<'a>
     }
 }
 
-// Makes the content that the changes make of an empty log.
+// Returns the content after these changes to an empty log.
 pub(crate) fn content_from_empty<'a>(
     alloc: Global,
     changes: &[Change<'a>],
@@ -44,8 +44,8 @@ pub(crate) fn content_from_empty<'a>(
     }
 }
 
-// Makes the content that the changes make of what the pair's active block holds. The block has
-// these bytes; its checksums aren't computed again.
+// Returns the content of a pair after these changes. `block` is the bytes of its active block,
+// whose checksums aren't computed again.
 pub(crate) fn changed_content<'a, 'b: 'a>(
     alloc: Global,
     pair: &Pair,
@@ -59,7 +59,7 @@ pub(crate) fn changed_content<'a, 'b: 'a>(
     ensures errors { IfErr result (λ e. e ≡ Error.NoMemory) }
 {
     let log = Log::with_known_end(block, pair.end, pair.last);
-    // Most changes add one slot at most.
+    // Most changes add at most one slot.
     let slot_count = pair.slot_count.saturating_add(1);
     let mut content = match Content::read_with_room(alloc, &log, slot_count) {
         Ok(content) => content,

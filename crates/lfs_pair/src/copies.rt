@@ -1,4 +1,4 @@
-// Copies of pairs in two other blocks.
+// Copies of pairs to two other blocks.
 
 ghost use Rattle.std.specs.Prelude.{◌≡◌, IfErr, IfOk};
 ghost use Rattle.lfs_device.specs.DeviceCalls.{ReportsFaults};
@@ -16,20 +16,19 @@ use crate::pair::Pair;
 use lfs_device::{BlockDevice, Error, read_block};
 use std::alloc::Global;
 
-/// Copies a pair into the two blocks `fresh`, whatever bytes they have, and returns the header of
-/// the fresh pair. That pair has what the changes make of `pair`; without changes it has the same
-/// slots, tail and delta of the global state. The revision goes on: it is the next one. Both blocks
-/// are erased, and the first one becomes active, as in [`Pair::fresh`]. The call takes at most three
-/// reads.
+/// Copies a pair, with changes, to the two blocks `fresh`, and returns the header of the new pair.
+/// Without changes the new pair has the same slots, tail and delta of the global state. Its
+/// revision is the one after `pair`'s. Both blocks are erased, whatever bytes they have, and the
+/// first becomes active, as in [`Pair::fresh`]. The call costs at most three reads.
 ///
-/// No other block changes. A loss of power during the call leaves any bytes in these two.
+/// No other block changes. A loss of power during the call may leave any bytes in these two.
 ///
-/// Errors: `NoMemory` where memory for two blocks and the slots isn't granted; nothing is written
-/// then. `Io` where a call of the device failed.
+/// Errors: `NoMemory` if memory for two blocks and the slots isn't granted; then nothing is
+/// written. `Io` if a call of the device failed.
 ///
-/// The caller's conditions are those of [`commit`](crate::commit), and two more. What the changes
-/// make [`fits`](crate::content_fits) a pair. The two blocks differ and are below the number of
-/// blocks.
+/// Requires what [`commit`](crate::commit) does, that the changed content
+/// [`fits`](crate::content_fits) a pair, and that the two blocks differ and are below the device's
+/// number of blocks.
 pub fn copy<D: BlockDevice>(
     alloc: Global,
     dev: &mut D,

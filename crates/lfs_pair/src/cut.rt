@@ -1,4 +1,4 @@
-// Where a full pair's slots are cut into two parts.
+// The cut of a full pair's slots into two parts.
 
 ghost use Rattle.std.specs.Prelude.{map};
 ghost use Rattle.lfs_tag.specs.ContentView.{slot_view};
@@ -8,9 +8,9 @@ use crate::size::{fits_pair, slot_size, slots_size};
 use lfs_device::Geometry;
 use lfs_tag::Slot;
 
-// Returns how many slots come before the cut. The cut is the last one that has at most half of the
-// bytes before it. So what is written later finds room in both parts. Where no cut is such, it is
-// the first that is possible.
+// Returns how many slots stay in the first part. The cut is the last one with at most half of the
+// bytes before it, so that both parts have room for later commits. If no such cut leaves parts that
+// fit, it is the first one that does.
 pub(crate) fn middle_cut(slots: &[Slot<'_>], geometry: Geometry) -> usize
     requires { AreSplittable geometry.block_size geometry.page (map slot_view slots.now) }
     ensures { IsHalfCut geometry.block_size geometry.page (map slot_view slots.now) result }

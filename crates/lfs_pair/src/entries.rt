@@ -1,4 +1,4 @@
-// The entries of changes and of contents, put into a commit.
+// The entries of changes and contents, pushed into a commit.
 
 ghost use Rattle.std.specs.Prelude.{◌≡◌, ◌≢◌, ◌+◌, ◌/◌, ◌<◌, ◌≤◌, ◌^◌, true, [], ◌∷◌, length, map};
 ghost use Rattle.std.specs.List.{list_all};
@@ -19,7 +19,7 @@ use lfs_tag::{
     move_state_bytes, pair_bytes,
 };
 
-// Adds an entry with these fields.
+// Pushes an entry with these fields.
 fn push_log_entry(builder: &mut CommitBuilder<'_>, kind: u16, id: u16, bytes: &[u8])
     requires kind { kind < 2 ^ 11 }
     requires other { kind / 2 ^ 8 ≢ 5 }
@@ -30,7 +30,7 @@ fn push_log_entry(builder: &mut CommitBuilder<'_>, kind: u16, id: u16, bytes: &[
     builder.push(Tag::new(kind, id, bytes.len() as u16), bytes);
 }
 
-// Adds an entry that removes an attribute.
+// Pushes an entry that removes an attribute.
 fn push_attribute_removal(builder: &mut CommitBuilder<'_>, id: u16, attr: u8)
     requires { id < 2 ^ 10 }
     ensures { builder.new ≡ commit_with_entries (change_entries (RemoveAttribute id attr)) builder.old }
@@ -38,7 +38,7 @@ fn push_attribute_removal(builder: &mut CommitBuilder<'_>, id: u16, attr: u8)
     builder.push(Tag::new(ATTRIBUTE + u16::from(attr), id, Tag::REMOVED), &[]);
 }
 
-// Adds a tail; without a pair it is two null addresses.
+// Pushes a tail. Without a pair it names two null addresses.
 fn push_tail(builder: &mut CommitBuilder<'_>, hard: bool, pair: Option<[u32; 2]>)
     ensures { builder.new ≡ commit_with_entries (tail_entry hard (option_map address_view pair) ∷ []) builder.old }
 {
@@ -47,7 +47,7 @@ fn push_tail(builder: &mut CommitBuilder<'_>, hard: bool, pair: Option<[u32; 2]>
     push_log_entry(builder, kind, Tag::NO_ID, &pair_bytes(pair));
 }
 
-// Adds a move state.
+// Pushes a move state.
 fn push_move(builder: &mut CommitBuilder<'_>, state: &MoveState)
     requires { MoveStateFits (move_view state.now) }
     ensures { builder.new ≡ commit_with_entries (move_entry (move_view state.now) ∷ []) builder.old }
@@ -57,7 +57,7 @@ fn push_move(builder: &mut CommitBuilder<'_>, state: &MoveState)
 
 // ---- changes
 
-// Adds the entries of a change.
+// Pushes the entries of a change.
 fn push_change(builder: &mut CommitBuilder<'_>, change: &Change<'_>)
     requires { is_storable (change_view change.now) ≡ true }
     ensures { builder.new ≡ commit_with_entries (change_entries (change_view change.now)) builder.old }
@@ -78,7 +78,7 @@ fn push_change(builder: &mut CommitBuilder<'_>, change: &Change<'_>)
     }
 }
 
-// Adds the entries of all changes, in order.
+// Pushes the entries of all changes, in order.
 pub(crate) fn push_changes(builder: &mut CommitBuilder<'_>, changes: &[Change<'_>])
     requires { list_all is_storable (changes_view changes.now) ≡ true }
     ensures { builder.new ≡ commit_with_entries (entries_of_changes (changes_view changes.now)) builder.old }
@@ -90,7 +90,7 @@ pub(crate) fn push_changes(builder: &mut CommitBuilder<'_>, changes: &[Change<'_
 
 // ---- contents
 
-// Adds a name or a struct, if there is one.
+// Pushes a name or a struct, if there is one.
 fn push_part(builder: &mut CommitBuilder<'_>, id: u16, part: &Option<NameOrStruct<'_>>, class: u16)
     requires id { id < 2 ^ 10 }
     requires class { class < 5 }
@@ -102,7 +102,7 @@ fn push_part(builder: &mut CommitBuilder<'_>, id: u16, part: &Option<NameOrStruc
     }
 }
 
-// Adds attributes.
+// Pushes attributes.
 fn push_attributes(builder: &mut CommitBuilder<'_>, id: u16, attributes: &[Attribute<'_>])
     requires id { id < 2 ^ 10 }
     requires attributes { AttributesInOrder 0 (map attribute_view attributes.now) }
@@ -118,7 +118,7 @@ fn push_attributes(builder: &mut CommitBuilder<'_>, id: u16, attributes: &[Attri
     }
 }
 
-// Adds a slot.
+// Pushes a slot: its name, its struct and its attributes.
 fn push_slot(builder: &mut CommitBuilder<'_>, id: u16, slot: &Slot<'_>)
     requires id { id < 2 ^ 10 }
     requires parts { IsFormedSlot (slot_view slot.now) }
@@ -129,7 +129,7 @@ fn push_slot(builder: &mut CommitBuilder<'_>, id: u16, slot: &Slot<'_>)
     push_attributes(builder, id, &slot.attributes);
 }
 
-// Adds slots, from id 0 on.
+// Pushes slots, from id 0 on.
 fn push_slots(builder: &mut CommitBuilder<'_>, slots: &[Slot<'_>])
     requires few { length slots.now < 0x3ff }
     requires parts { AreWellFormed (map slot_view slots.now) }
@@ -142,7 +142,7 @@ fn push_slots(builder: &mut CommitBuilder<'_>, slots: &[Slot<'_>])
     }
 }
 
-// Adds a tail, if there is one.
+// Pushes a tail, if there is one.
 fn push_optional_tail(builder: &mut CommitBuilder<'_>, tail: &Option<Tail>)
     ensures { builder.new ≡ commit_with_entries (tail_entries (option_map tail_view tail.now)) builder.old }
 {
@@ -151,7 +151,7 @@ fn push_optional_tail(builder: &mut CommitBuilder<'_>, tail: &Option<Tail>)
     }
 }
 
-// Adds a move state, unless it is zero.
+// Pushes a move state, unless it is zero.
 fn push_optional_move(builder: &mut CommitBuilder<'_>, state: &MoveState)
     requires { MoveStateFits (move_view state.now) }
     ensures { builder.new ≡ commit_with_entries (move_state_entries (move_view state.now)) builder.old }
@@ -161,8 +161,9 @@ fn push_optional_move(builder: &mut CommitBuilder<'_>, state: &MoveState)
     }
 }
 
-// Adds the entries that write a content into an empty log: each slot's name, struct and attributes
-// by ascending type, then the tail and the move state where there are such.
+// Pushes the entries that write a content into an empty log: each slot's name, struct and
+// attributes by ascending type, then the tail if there is one, then the move state unless it is
+// zero.
 pub(crate) fn push_content(builder: &mut CommitBuilder<'_>, content: &Content<'_>)
     requires logged { IsWellFormed (content_view content.now) }
     requires few { length (content_view content.now).slots < 0x3ff }

@@ -18,7 +18,8 @@ use lfs_device::{BlockDevice, Error, read_block};
 use lfs_tag::{Log, Summary, is_later_than};
 use std::alloc::Global;
 
-// Makes the header of a pair whose active block has these bytes and that head.
+// Makes the header of a pair. `bytes` is its active block, and `head` what was read of that block's
+// log.
 fn fetched_header(
     alloc: Global,
     blocks: [u32; 2],
@@ -63,8 +64,8 @@ fn read_revision<D: BlockDevice>(dev: &mut D, block: u32) -> Result<u32, Error>
     Ok(LittleEndian::read_u32(&bytes))
 }
 
-// Returns a pair's two blocks, the one with the later revision first. Where neither is later they
-// come as they are named.
+// Returns a pair's two blocks, the one with the later revision first. If neither is later, they
+// keep their order.
 fn later_revision_first<D: BlockDevice>(dev: &mut D, blocks: [u32; 2]) -> Result<[u32; 2], Error>
     requires first { (address_view blocks).0 < (D.geometry dev.old).block_count }
     requires second { (address_view blocks).1 < (D.geometry dev.old).block_count }
@@ -83,16 +84,17 @@ fn later_revision_first<D: BlockDevice>(dev: &mut D, blocks: [u32; 2]) -> Result
     }
 }
 
-/// Reads the header of the metadata pair at two blocks (SPEC.md of littlefs, "Metadata pairs"). The
-/// header says which block is active, where its log ends, and what the log comes to without the
-/// slots. The caller's condition is that the two blocks differ and are below the number of blocks.
-/// Both revisions are read first, then the block with the later one. The other block is read where
-/// that one has no commit. The call takes memory for the blocks that it reads and two bytes a slot.
-/// Nothing is written.
+/// Returns the header of the metadata pair at two blocks (SPEC.md of littlefs, "Metadata pairs"):
+/// which block is active, where its log ends, and the log's content without its slots. Reads both
+/// revisions, then the block with the later one, and the other block only if that one has no
+/// commit: three or four reads. Allocates memory for the blocks that it reads and two bytes for
+/// each slot. Writes nothing.
 ///
-/// Errors: `Corrupt` exactly where neither block has a commit, or the log of the active block is
-/// malformed. `Io` where a read failed. `NoMemory` where memory for the blocks and the slots isn't
-/// granted.
+/// Errors: `Corrupt` only if neither block has a commit, or if the log of the active block is
+/// malformed; such a pair never returns Ok. `Io` if a read failed. `NoMemory` if memory for the
+/// blocks and the slots isn't granted.
+///
+/// Requires that the two blocks differ and are below the device's number of blocks.
 pub fn fetch<D: BlockDevice>(alloc: Global, dev: &mut D, blocks: [u32; 2]) -> Result<Pair, Error>
     requires { AreTwoBlocks (D.geometry dev.old).block_count (address_view blocks) }
     ensures ok { IfOk result (λ pair. FetchFinds (disk_of_blocks (D.geometry dev.old) (D.blocks dev.old)) (D.history dev.new) (address_view blocks) pair) }

@@ -1,4 +1,4 @@
-// Pairs that are made of two blocks.
+// New pairs, made of two blocks.
 
 ghost use Rattle.std.specs.Prelude.{◌≡◌, ◌<◌, false, length, IfErr, IfOk, OnOk};
 ghost use Rattle.lfs_device.specs.DeviceDisk.{disk_of_blocks};
@@ -21,14 +21,14 @@ use lfs_device::{BlockDevice, Error};
 use lfs_tag::{Content, Log};
 use std::alloc::Global;
 
-// The revision of a pair's first log.
+// The revision of a new pair's log.
 pub(crate) const FIRST_REVISION: u32 = 1;
 
-// As many zeros as the longest page has bytes.
+// A page of zeros, of the longest size.
 const ZEROS: [u8; 512] = [0; 512];
 
-// Erases a block, and leaves no log in it. An erase may leave any bytes, so an old log may still be
-// there after it. The first page is then programmed with zeros. The buffer is as long as a block.
+// Erases a block and makes sure that it has no log. An erase may leave any bytes, even the old log;
+// if it does, the first page is programmed with zeros. The buffer is as long as a block.
 fn erase_cleanly<D: BlockDevice>(dev: &mut D, block: u32, buf: &mut [u8]) -> Result<(), Error>
     requires in_device { block < (D.geometry dev.old).block_count }
     requires buf { length buf.old ≡ (D.geometry dev.old).block_size }
@@ -46,7 +46,7 @@ fn erase_cleanly<D: BlockDevice>(dev: &mut D, block: u32, buf: &mut [u8]) -> Res
     Ok(())
 }
 
-// Makes a pair of two blocks. The first block is active and holds the content, with that revision.
+// Makes a pair of two blocks. The first block is active, with this content and this revision.
 pub(crate) fn write_fresh_pair<D: BlockDevice>(
     dev: &mut D,
     blocks: [u32; 2],
@@ -69,20 +69,18 @@ pub(crate) fn write_fresh_pair<D: BlockDevice>(
 }
 
 impl Pair {
-    /// Makes a new pair of two blocks, whatever bytes they have, and commits the changes to it.
-    /// Both blocks are erased. The first one becomes active, with revision 1. An erase may leave
-    /// any bytes. So where the second block still has a log after its erase, its first page is
-    /// programmed with zeros before the first block is written. Then no old log is taken for the
-    /// pair's. The call takes at most two reads.
+    /// Makes a new pair of two blocks, whatever bytes they have, and commits changes to it. Both
+    /// blocks are erased. The first becomes active, with revision 1. An erase may leave any bytes,
+    /// even an old log. So if the second block still has a log after its erase, its first page is
+    /// programmed with zeros before the first block is written. The call costs at most two reads.
     ///
-    /// Errors: `NoMemory` where memory for a block and the slots isn't granted; the device is
-    /// untouched then. `Io` where a call of the device failed. After `Io`, and after a loss of
-    /// power during the call, the two blocks may have any bytes. Each other block has the bytes
-    /// that it had.
+    /// Errors: `NoMemory` if memory for a block and the slots isn't granted; then the device isn't
+    /// called. `Io` if a call of the device failed. After `Io`, and after a loss of power during
+    /// the call, the two blocks may have any bytes. No other block changes.
     ///
-    /// The caller's conditions: the two blocks differ and are below the number of blocks. The
-    /// changes are allowed in an empty log. Afterwards each slot has a name, and the slots
-    /// [`fit`](crate::fits) a pair.
+    /// Requires that the two blocks differ and are below the device's number of blocks, that the
+    /// format allows the changes in an empty log, that each slot has a name afterwards, and that
+    /// the content [`fits`](crate::content_fits) a pair.
     pub fn fresh<D: BlockDevice>(
         alloc: Global,
         dev: &mut D,

@@ -1,5 +1,6 @@
 // SPDX-License-Identifier: BSD-3-Clause
-//! Metadata pairs: fetched from two blocks, made of two blocks, changed by commits, split and copied.
+//! Metadata pairs: fetched from two blocks, made of two blocks, committed to, compacted, split and
+//! copied.
 #![tactic(auto)]
 
 mod block_logs;

@@ -1,4 +1,4 @@
-// The header that is kept of a metadata pair.
+// The header of a metadata pair, which is kept in memory.
 
 ghost use Rattle.std.specs.Prelude.{◌≡◌, is_some, map};
 ghost use Rattle.lfs_model.specs.format.Content.{RawContent, complete_slots};
@@ -21,39 +21,39 @@ pub(crate) fn are_slots_complete(slots: &[Slot<'_>]) -> bool
     true
 }
 
-/// Returns whether two addresses name the same pair. The two blocks of an address may come in
-/// either order.
+/// Returns whether two addresses name the same pair. The two blocks of an address may be in either
+/// order.
 pub fn is_same_pair(a: [u32; 2], b: [u32; 2]) -> bool
     ensures { result ≡ same_pair (address_view a) (address_view b) }
 {
     a[0] == b[0] && a[1] == b[1] || a[0] == b[1] && a[1] == b[0]
 }
 
-/// The header of a metadata pair: what is kept of it without its slots. It is enough to append a
-/// commit to the active block (SPEC.md of littlefs, "Metadata pairs").
+/// The header of a metadata pair, which is kept in memory without the pair's slots. It is enough to
+/// append a commit to the active block (SPEC.md of littlefs, "Metadata pairs").
 #[derive(Clone, Copy, Debug, PartialEq, Eq, Drop)]
 pub struct Pair {
-    /// The pair's two blocks, in the order in which the thread names them.
+    /// The pair's two blocks, in the order of the tail that names them.
     pub blocks: [u32; 2],
     /// The active block: the one of the two whose log counts.
     pub active: u32,
-    /// Where the active block's last commit ends, in bytes from the block's beginning.
+    /// The offset in the active block where its last commit ends, in bytes.
     pub end: usize,
     /// The last tag of the active block's log. The next tag is stored as its exclusive or with this
     /// one.
     pub last: Tag,
     /// The revision of the active block.
     pub revision: u32,
-    /// How many slots the pair has.
+    /// The number of slots of the pair.
     pub slot_count: usize,
-    /// What the pair's tail names: the next pair of the thread. None in the thread's last pair.
+    /// The pair's tail, which names the next pair of the thread. None in the thread's last pair.
     pub tail: Option<Tail>,
     /// The pair's delta of the global state.
     pub move_state: MoveState,
     /// Whether each slot of the pair has a name and a struct.
     pub is_complete: bool,
     /// Whether nothing was written since the pair was fetched. Then it isn't known which bytes
-    /// after the log's end are unprogrammed.
+    /// behind the log are unprogrammed.
     pub is_fetched: bool,
 }
 
@@ -69,7 +69,7 @@ impl Pair {
         }
     }
 
-    // Returns the header with what is kept of this content.
+    // Returns the header with the slot count, tail and delta of this content.
     pub(crate) fn with_content(&self, content: &Content<'_>) -> Pair
         ensures { IsHeaderWith (content_view content.now) self.now result }
     {

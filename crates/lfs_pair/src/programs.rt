@@ -1,4 +1,4 @@
-// Commits that are written to a block of the device.
+// Commits, programmed into a block of the device.
 
 ghost use Rattle.std.specs.Prelude.{◌≡◌, ◌<◌, ◌≤◌, ◌+◌, length, IfOk, OnOk};
 ghost use Rattle.lfs_device.specs.DeviceDisk.{disk_of_blocks};
@@ -15,16 +15,16 @@ use crate::entries::push_content;
 use lfs_device::{BlockDevice, Error};
 use lfs_tag::{CommitBuilder, Content, Tag};
 
-// What a caller keeps of a commit that was written.
+// The end of a commit that was written.
 #[derive(Clone, Copy, Drop)]
 pub(crate) struct WrittenCommit {
-    // Where the commit ends, in bytes from the block's beginning.
+    // The commit's end, in bytes from the block's start.
     pub end: usize,
     // The commit's last tag. The next tag is stored as its exclusive or with this one.
     pub last: Tag,
 }
 
-// Reads the four bytes of a block at an offset. Returns None where the block has fewer.
+// Reads the four bytes of a block at an offset. Returns None if the block has fewer.
 fn read_four_bytes<D: BlockDevice>(
     dev: &mut D,
     block: u32,
@@ -45,8 +45,8 @@ fn read_four_bytes<D: BlockDevice>(
     Ok(Some(next))
 }
 
-// Appends a commit to a block at an offset. The block has these bytes, and is unprogrammed from
-// there on. The bytes then are those that the block has.
+// Appends a commit to a block at an offset, from which on the block is unprogrammed. `bytes` is the
+// block's bytes, before and after the call.
 pub(crate) fn append_commit<D: BlockDevice>(
     dev: &mut D,
     block: u32,
@@ -74,7 +74,7 @@ pub(crate) fn append_commit<D: BlockDevice>(
     })
 }
 
-// Writes bytes over those from an offset on.
+// Overwrites the bytes at an offset.
 fn overwrite_bytes(all: &mut [u8], at: usize, bytes: &[u8])
     requires { at + length bytes.now ≤ length all.old }
     ensures { all.new ≡ overwritten_at all.old at bytes.now }
@@ -82,7 +82,7 @@ fn overwrite_bytes(all: &mut [u8], at: usize, bytes: &[u8])
     all[at..at + bytes.len()].copy_from_slice(bytes);
 }
 
-// Returns four of these bytes, from an offset on. Returns None where there are fewer.
+// Returns the four bytes at an offset, or None if there are fewer.
 fn four_bytes(bytes: &[u8], at: u32) -> Option<[u8; 4]>
     requires { at ≤ length bytes.now }
     ensures { result ≡ four_bytes_at bytes.now at }
@@ -93,7 +93,7 @@ fn four_bytes(bytes: &[u8], at: u32) -> Option<[u8; 4]>
     }
 }
 
-// Programs a block's first commit. The block is unprogrammed.
+// Programs the first commit of a block, which is unprogrammed.
 fn program_first_commit<D: BlockDevice>(
     dev: &mut D,
     block: u32,
@@ -118,7 +118,7 @@ fn program_first_commit<D: BlockDevice>(
     })
 }
 
-// Erases a block, and writes a content into it as its first commit. The buffer is as long as a
+// Erases a block and writes a content into it, as its first commit. The buffer is as long as a
 // block.
 pub(crate) fn write_block_anew<D: BlockDevice>(
     dev: &mut D,

@@ -1,4 +1,4 @@
-// How many bytes the slots of a pair take.
+// The size of a pair's slots.
 
 ghost use Rattle.std.specs.Prelude.{◌≡◌, ℕ, ◌+◌, ◌-◌, ◌^◌, ◌<◌, ◌≤◌, ◌↔◌, IsTrue, min, map, sum_by};
 ghost use Rattle.std.specs.Option.{option_map};
@@ -10,8 +10,8 @@ ghost use Rattle.lfs_tag.specs.ContentView.{part_view, attribute_view, slot_view
 use lfs_device::Geometry;
 use lfs_tag::{Attribute, Content, NameOrStruct, Slot};
 
-// Returns how many bytes a name or a struct takes with its tag, or the greatest number where there
-// are more. None takes no bytes.
+// Returns the size of a name or a struct with its tag, in bytes, at most `u64::MAX`. It is 0 for
+// None.
 fn optional_part_size(part: &Option<NameOrStruct<'_>>) -> u64
     ensures { result ≡ min (part_size (option_map part_view part.now)) (2 ^ 64 - 1) }
 {
@@ -21,7 +21,7 @@ fn optional_part_size(part: &Option<NameOrStruct<'_>>) -> u64
     }
 }
 
-/// Returns how many bytes the attributes take with their tags, or 2^64 - 1 where there are more.
+/// Returns the size of the attributes with their tags, in bytes, at most `u64::MAX`.
 pub fn attributes_size(attributes: &[Attribute<'_>]) -> u64
     ensures { result ≡ min (attributes_size (map attribute_view attributes.now)) (2 ^ 64 - 1) }
 {
@@ -34,7 +34,7 @@ pub fn attributes_size(attributes: &[Attribute<'_>]) -> u64
     total
 }
 
-// Returns how many bytes a slot takes with its tags, or the greatest number where there are more.
+// Returns the size of a slot with its tags, in bytes, at most `u64::MAX`.
 pub(crate) fn slot_size(slot: &Slot<'_>) -> u64
     ensures { result ≡ min (slot_size_raw (slot_view slot.now)) (2 ^ 64 - 1) }
 {
@@ -43,8 +43,7 @@ pub(crate) fn slot_size(slot: &Slot<'_>) -> u64
         .saturating_add(attributes_size(&slot.attributes))
 }
 
-// Returns how many bytes all slots take with their tags, or the greatest number where there are
-// more.
+// Returns the size of all slots with their tags, in bytes, at most `u64::MAX`.
 pub(crate) fn slots_size(slots: &[Slot<'_>]) -> u64
     ensures { result ≡ min (sum_by slot_size_raw (map slot_view slots.now)) (2 ^ 64 - 1) }
 {
@@ -55,15 +54,15 @@ pub(crate) fn slots_size(slots: &[Slot<'_>]) -> u64
     total
 }
 
-// Returns whether a pair may hold `count` slots of `size` bytes.
+// Returns whether `count` slots of `size` bytes fit a pair.
 pub(crate) fn fits_pair(count: usize, size: u64, geometry: Geometry) -> bool
     ensures { IsTrue result ↔ ((count ≤ slots_limit) × (size ≤ pair_capacity geometry.block_size geometry.page)) }
 {
     count <= geometry.slot_limit() && size <= u64::from(geometry.pair_capacity())
 }
 
-/// Returns whether a pair may hold the content: at most [`Geometry::slots_limit`] slots, whose bytes
-/// are at most [`Geometry::pair_capacity`].
+/// Returns whether a content fits a pair: it has at most [`Geometry::slot_limit`] slots, of at most
+/// [`Geometry::pair_capacity`] bytes.
 pub fn content_fits(content: &Content<'_>, geometry: Geometry) -> bool
     ensures { IsTrue result ↔ RawContentFits geometry.block_size geometry.page (content_view content.now) }
 {

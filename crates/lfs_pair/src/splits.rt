@@ -1,4 +1,4 @@
-// Splits of a pair into itself and a fresh pair.
+// Splits of a full pair in two.
 
 ghost use Rattle.std.specs.Prelude.{◌≡◌, ◌+◌, IfErr, IfOk};
 ghost use Rattle.lfs_device.specs.DeviceDisk.{disk_of_blocks};
@@ -25,23 +25,23 @@ use lfs_device::{BlockDevice, Error, Geometry};
 use lfs_tag::{Content, MoveState, Tail};
 use std::alloc::Global;
 
-/// Commits changes to a pair and splits it: a fresh pair is made of two blocks and takes the later
-/// slots. The old pair keeps the first slots and its delta of the global state, and gets a hard
-/// tail to the fresh pair. The fresh pair gets the other slots and the old tail (DESIGN.md of
-/// littlefs, "The directory tree"). Returns the header of the fresh pair.
+/// Commits changes to a pair and splits it in two (DESIGN.md of littlefs, "The directory tree").
+/// The later slots and the old tail go to a new pair in the two blocks `fresh`. The old pair keeps
+/// the first slots and its delta of the global state, and its new tail is a hard one to the new
+/// pair. Returns the header of the new pair.
 ///
-/// `block` has the bytes of the active block. The call takes at most three reads.
+/// `block` must be the bytes of the active block. The call costs at most three reads.
 ///
-/// The fresh pair is written first. So a loss of power during the call leaves the old pair with
-/// what it held, or both pairs with what they are to hold. That has the premises of
-/// [`commit`](crate::commit).
+/// The new pair is written first. So a loss of power during the call leaves the old pair with its
+/// old content, or both pairs with theirs. This rests on the device as [`commit`](crate::commit)
+/// says.
 ///
-/// Errors are those of [`commit`](crate::commit). After an error `pair` is as it was, but the
-/// device may hold something else. So the caller fetches its blocks again.
+/// Errors are those of [`commit`](crate::commit). After an error `pair` is unchanged, but the
+/// device may hold something else, so the caller fetches the pair again.
 ///
-/// The caller's conditions are those of [`commit`](crate::commit), and three more. The slots can be
-/// cut into two parts that each [`fit`](crate::fits) a pair. The two blocks of `fresh` differ and
-/// are below the number of blocks. Neither is a block of the old pair.
+/// Requires what [`commit`](crate::commit) does, and that the slots can be cut into two parts that
+/// each [`fit`](crate::content_fits) a pair. The two blocks of `fresh` must differ, be below the
+/// device's number of blocks, and not belong to the old pair.
 pub fn split<D: BlockDevice>(
     alloc: Global,
     dev: &mut D,
@@ -69,8 +69,8 @@ pub fn split<D: BlockDevice>(
     Ok(fresh_pair)
 }
 
-// Takes the slots from the cut on out of the content, and returns them with its tail. The content's
-// tail then is a hard one to the fresh pair.
+// Splits off the slots behind the cut, and returns them with the content's tail. The content's new
+// tail is a hard one to the fresh pair.
 fn split_off_back<'a>(
     content: &mut Content<'a>,
     fresh: [u32; 2],

@@ -1,4 +1,4 @@
--- A block that was written after those of a list.
+-- A block that was appended to a list.
 use Rattle.std.specs.Prelude.{ℕ, ◌≡◌, ◌+◌, [], ◌∷◌, ◌++◌}
 use Rattle.lfs_model.specs.format.Blocks.{Blocks}
 use Rattle.lfs_model.specs.format.SkipLists.{AreListBlocks, blocks_to_head}

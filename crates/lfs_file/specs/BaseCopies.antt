@@ -1,4 +1,4 @@
--- Bytes of a base that are appended to a list in hand.
+-- Bytes of an old list that are appended to the new one.
 use Rattle.std.specs.Prelude.{ℕ, ◌≡◌, ◌≤◌, ◌+◌, ◌-◌, List, length, min, take, slice_range}
 use Rattle.lfs_device.specs.declared.geometry.Geometry.{Geometry}
 use Rattle.lfs_model.specs.format.Blocks.{Blocks, block_bytes}
@@ -10,7 +10,8 @@ use Rattle.lfs_file.specs.Extensions.{CanEndAlone}
 use Rattle.lfs_file.specs.Growing.{GrowingList, DiskHasList, lasting_blocks, unwritten_block}
 use Rattle.lfs_file.specs.declared.stored_list.StoredList.{StoredList}
 
--- A list in hand of this device can be ended, and changes no block of the base. There are as many free blocks as the base has.
+-- A draft's new list, of this device, can be ended and changes no block of the old list. As many blocks are free as the old list
+-- has.
 pub record CanAppendBase (map : BlockStates) (disk : Blocks) (now : Geometry) (list : GrowingList) (base : StoredList) : Type 0 where
   pub growing : DiskHasList disk list
   pub geometry : now ≡ list.geometry
@@ -19,7 +20,7 @@ pub record CanAppendBase (map : BlockStates) (disk : Blocks) (now : Geometry) (l
   pub apart : IsBaseApart map (unwritten_block list) disk list.geometry.block_size base.head base.size
   pub room : used_count map + in_flight_count map + block_count_for list.geometry.block_size base.size ≤ length map + length (lasting_blocks disk list)
 
--- The buffer begins with so many bytes of the block, at least one, from an offset on: all of them, or `most`.
+-- The buffer begins with `count` bytes of the block, at least one, from an offset on: all that follow, or `most`.
 pub record HasBlockBytes (disk : Blocks) (block_size block off most : ℕ) (buffer : List ℕ) (count : ℕ) : Type 0 where
   pub some : 1 ≤ count
   pub within : count ≤ length buffer

@@ -1,4 +1,4 @@
--- How many blocks of a base may be in flight, and the room of a list beside them.
+-- How many blocks of an old list may be in flight, and the room for a list besides them.
 use Rattle.std.specs.Prelude.{ℕ, ◌<◌, ◌≤◌, ◌+◌, ◌^◌, if◌then◌else◌, length}
 use Rattle.lfs_model.specs.layers.BlockSets.{BlockStates, used_count}
 use Rattle.lfs_model.specs.format.SkipLists.{block_count_for}
@@ -7,7 +7,7 @@ use Rattle.lfs_file.specs.declared.stored_list.StoredList.{StoredList}
 abbrev pub in_flight_limit : ℕ → StoredList → ℕ
 in_flight_limit block_size s = if s.in_flight then block_count_for block_size s.size else 0
 
--- A list may grow from one size to another, a greater one: there are as many free blocks as it has then, besides so many in flight.
+-- A list may grow from one size to a greater one: as many blocks are free as it then has, besides `in_flight` ones.
 pub record HasGrowthRoom (map : BlockStates) (block_size from to in_flight : ℕ) : Type 0 where
   pub longer : from < to
   pub small : to < 2 ^ 31

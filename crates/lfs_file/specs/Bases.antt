@@ -1,4 +1,4 @@
--- What a list is written over: another list, or nothing.
+-- The old list of a draft: a list, or nothing.
 use Rattle.std.specs.Prelude.{ℕ, ◌≡◌, ◌⊎◌, All, List}
 use Rattle.lfs_model.specs.format.Blocks.{Blocks}
 use Rattle.lfs_model.specs.layers.BlockSets.{BlockStates}
@@ -12,7 +12,7 @@ IsListOrEmpty disk block_size head size = (size ≡ 0) ⊎ IsSkipList disk block
 abbrev pub blocks_of_list : Blocks → ℕ → ℕ → ℕ → List ℕ
 blocks_of_list disk block_size head size = blocks_to_head disk (block_count_for block_size size) head
 
--- the base is apart from the blocks that the list in hand writes
+-- no block of the old list is one that the new list writes
 pub record IsBaseApart (map : BlockStates) (pending : List ℕ) (disk : Blocks) (block_size head size : ℕ) : Type 0 where
   pub base : IsListOrEmpty disk block_size head size
   pub apart : All (IsTakenNotPending map pending) (blocks_of_list disk block_size head size)

@@ -1,4 +1,4 @@
--- What the calls on one block, or on the blocks of a list, give.
+-- The effects of calls on one block, or on the blocks of a list.
 use Rattle.std.specs.Prelude.{◌≡◌, ◌≤◌, ◌<◌, ◌+◌, ◌-◌, ◌*◌, ◌^◌, ◌++◌, ◌∷◌, [], ℕ, List, Result, IfOk, IsErrOf, OnOk, drop, length, slice_index, take}
 use Rattle.lfs_device.specs.declared.error.Error.{Error}
 use Rattle.lfs_device.specs.declared.error.Error.TheVariants.{Corrupt}
@@ -16,53 +16,53 @@ use Rattle.lfs_file.specs.Growing.{GrowingList, growing_bytes, growing_size, unw
 use Rattle.lfs_file.specs.Known.{AreKnownBlocks, IsKnownIndex}
 use Rattle.lfs_file.specs.Right.{LaterPointersName}
 
--- the buffer begins with the pointers of the next block at Ok, and stays as it is behind them
+-- at Ok the buffer begins with the pointers of the next block; behind them it is unchanged
 pub record BuffersPointers (disk : Blocks) (front : FullBlocks) (old new : List ℕ) (result : Result Unit Error) : Type 0 where
   pub pointers : OnOk result ((k : ℕ) → k < pointer_count front.count → word_at new (4 * k) ≡ slice_index (blocks_to_head disk front.count front.head) (front.count - 2 ^ k))
   pub rest : drop (4 * pointer_count front.count) new ≡ drop (4 * pointer_count front.count) old
 
--- a list has this block more, which has these bytes behind its pointers
+-- a list has one more block, with these bytes behind its pointers
 pub record HasAppendedBlock (old new : Blocks) (count head b size : ℕ) (bytes : List ℕ) : Type 0 where
   pub appended : IsBlockAppended old new count head b
   pub held : take size (drop (4 * pointer_count count) (block_bytes new b)) ≡ bytes
 
--- one erase and one program, and a read of each pointer that wasn't known
+-- one erase, one program, and one read for each pointer that wasn't cached
 pub record WritesBlockOnce (front later : FullBlocks) (before after : List CallEvent) : Type 0 where
   pub writes : WritesEachOnce 0 1 before after
   pub few : ReadsUnknownPointers front later before after
 
--- a list has the first `n` of these bytes more, and this block
+-- a list has the first `n` of these bytes in addition, and this block
 pub record HasFilledBlock (old new : Blocks) (list later : GrowingList) (b n : ℕ) (bytes : List ℕ) : Type 0 where
   pub count : (1 ≤ n) × (n ≤ length bytes)
   pub grown : ListHasBytes list.geometry new later (growing_bytes old list ++ take n bytes) (growing_size list + n) (blocks_to_head old list.full list.head ++ b ∷ []) (blocks_to_head old list.full list.head ++ b ∷ [])
 
--- the erases and programs of the blocks that became full, and few reads
+-- each block that became full was erased and programmed once, with few reads
 pub record FillsOneBlock (list later : GrowingList) (before after : List CallEvent) : Type 0 where
   pub few : FillsFew list later before after
   pub writes : WritesEachOnce list.full later.full before after
 
--- the end of a list takes no call where nothing waits; else it writes the block that waits, with few reads
+-- ending a list costs no call if no partial block is buffered; otherwise it writes that block, with few reads
 pub record FinishCalls (list : GrowingList) (old new : Blocks) (before after : List CallEvent) (result : Result (ℕ × ℕ) Error) : Type 0 where
   pub no_call : unwritten_block list ≡ [] → (after ≡ before) × (new ≡ old)
   pub writes : OnOk result (WritesEachOnce 0 (length (unwritten_block list)) before after)
   pub few : OnOk result (WritesLastFew list before after)
 
--- in a list whose known blocks are right, the block at the index is found, and what is known then is right
+-- if the cached blocks are those of the list, the block at the index is found, and the cached blocks still are the list's
 pub record FindsKnownBlock (disk : Blocks) (last head n : ℕ) (old new : KnownBlocks) (result : Result ℕ Error) : Type 0 where
   pub found : AreListBlocks disk (last + 1) head → AreKnownBlocks (blocks_to_head disk (last + 1) head) old → IfOk result (λ b. b ≡ slice_index (blocks_to_head disk (last + 1) head) n)
   pub known : AreListBlocks disk (last + 1) head → AreKnownBlocks (blocks_to_head disk (last + 1) head) old → AreKnownBlocks (blocks_to_head disk (last + 1) head) new
 
--- one read at most, and none of a block that is known
+-- at most one read, and none for a cached block
 pub record ReadsUnlessKnown (old new : KnownBlocks) (n : ℕ) (before after : List CallEvent) : Type 0 where
   pub few : read_count after ≤ read_count before + 1
   pub known : IsKnownIndex old n → (new ≡ old) × (read_count after ≡ read_count before)
 
--- the later pointers name the block at Ok, which is one of the device; at `Corrupt` it isn't, or they don't
+-- at Ok the block is on the device, and the later pointers name it; at `Corrupt` one of both is false
 pub record ChecksBlock {X : Type 0} (count b last n : ℕ) (words : List ℕ) (result : Result X Error) : Type 0 where
   pub right : OnOk result ((b < count) × LaterPointersName words b n last)
   pub corrupt : IsErrOf result Corrupt → b < count → ¬ LaterPointersName words b n last
 
--- a list, and fewer reads than it has blocks
+-- there is a list, read with fewer reads than it has blocks
 pub record IsListReadOnce (disk : Blocks) (block_size head size : ℕ) (before after : List CallEvent) : Type 0 where
   pub list : IsSkipList disk block_size head size
   pub few : read_count after < read_count before + block_count_for block_size size

@@ -1,4 +1,4 @@
--- Whose the blocks of lists are.
+-- The lists to which blocks belong.
 use Rattle.std.specs.Prelude.{ℕ, ◌≡◌, ◌++◌, true, Contains, List, []}
 use Rattle.lfs_model.specs.format.Blocks.{Blocks}
 use Rattle.lfs_model.specs.layers.BlockSets.{BlockStates, IsUsedBlock}
@@ -8,7 +8,7 @@ use Rattle.lfs_file.specs.declared.contents.WriterContents.{WriterContents}
 use Rattle.lfs_file.specs.declared.contents.WriterContents.TheVariants.{InMemory, Finished, InHand}
 use Rattle.lfs_file.specs.declared.stored_list.StoredList.{StoredList}
 
--- of these blocks the used ones are among those: the others are in flight, where none is free
+-- each used block among `bs` is in `own`; the other blocks of `bs`, if none is free, are in flight
 pub record AreUsedAmong (map : BlockStates) (own bs : List ℕ) : Type 0 where
   pub each : (b : ℕ) → Contains bs b → IsUsedBlock map b → Contains own b
 
@@ -26,12 +26,12 @@ pub record KeepsStoredBlocks (block_size : ℕ) (old : Blocks) (was : StoredList
   pub same : now ≡ was
   pub blocks : stored_blocks new block_size now ≡ stored_blocks old block_size was
 
--- the list is in flight, and its used blocks are those of the one that it was written over
+-- the list may be in flight, and its used blocks are those of its old list
 pub record AreFromBase (map : BlockStates) (block_size : ℕ) (old : Blocks) (base : StoredList) (new : Blocks) (now : StoredList) : Type 0 where
   pub flying : now.in_flight ≡ true
   pub owned : AreUsedAmong map (stored_blocks old block_size base) (stored_blocks new block_size now)
 
--- the first blocks of a list, in flight where that one is
+-- the list has only blocks of `was`, and is in flight if that one was
 pub record HasOnlyBlocksOf (block_size : ℕ) (old : Blocks) (was : StoredList) (new : Blocks) (now : StoredList) : Type 0 where
   pub flying : now.in_flight ≡ was.in_flight
   pub among : (b : ℕ) → Contains (stored_blocks new block_size now) b → Contains (stored_blocks old block_size was) b

@@ -1,4 +1,4 @@
--- What calls ask of their callers.
+-- What calls require.
 use Rattle.std.specs.Prelude.{◌≡◌, ◌≤◌, ◌<◌, ◌+◌, ◌-◌, ◌*◌, ◌%◌, ◌^◌, ℕ, List, length, min}
 use Rattle.lfs_device.specs.declared.device.BlockDevice.{Ghosts}
 use Rattle.lfs_device.specs.declared.geometry.Geometry.{Geometry}
@@ -16,12 +16,12 @@ use Rattle.lfs_file.specs.HandWrites.{IsUnfinishedList, unfinished_length}
 use Rattle.lfs_file.specs.Known.{AreKnownBlocks}
 use Rattle.lfs_file.specs.Way.{HasNotedPointers}
 
--- a block of the device that isn't its list's first one
+-- a block of the device that isn't the first of its list
 pub record HasBlockBefore (count b index : ℕ) : Type 0 where
   pub some : 0 < index
   pub in_device : b < count
 
--- so many bytes are the front of a list of that size
+-- the first `keep` bytes of a list of that size, at least one
 pub record IsFrontSize (keep size : ℕ) : Type 0 where
   pub some : 1 ≤ keep
   pub within : keep ≤ size
@@ -31,14 +31,14 @@ pub record PointerInRange (k n : ℕ) : Type 0 where
   pub pointer : k ≤ 32
   pub index : n < 2 ^ 32 - 1
 
--- The block at the index can be checked: the pointers of the way to the first block are noted, and there is room for its own.
+-- The block at the index can be checked: the pointers of the walk to the first block are noted, and there is room for its own.
 pub record CanFollowBlock (disk : Blocks) (last n : ℕ) (words : List ℕ) (noted : WalkedBlocks) : Type 0 where
   pub some : 0 < n
   pub order : n ≤ last
   pub room : length words ≡ 128
   pub way : HasNotedPointers disk last 0 noted
 
--- the same of a block of the device, whose pointers can be copied
+-- the same for a block of the device, whose pointers can be copied
 pub record CanCopyPointers (disk : Blocks) (count b last n : ℕ) (words : List ℕ) (noted : WalkedBlocks) : Type 0 where
   pub some : 0 < n
   pub order : n ≤ last
@@ -46,13 +46,13 @@ pub record CanCopyPointers (disk : Blocks) (count b last n : ℕ) (words : List 
   pub room : length words ≡ 128
   pub way : HasNotedPointers disk last 0 noted
 
--- the pointers of the next block can be put into a buffer: the full blocks are a list's, and those that are known are right
+-- the pointers of the next block can be put into a buffer: the full blocks are a list's, and the cached ones are right
 pub record CanWritePointers (disk : Blocks) (front : FullBlocks) (len : ℕ) : Type 0 where
   pub chain : AreListBlocks disk front.count front.head
   pub known : AreKnownBlocks (blocks_to_head disk front.count front.head) front.known
   pub room : 1024 ≤ len
 
--- The next block of a list can be written from a buffer as long as a block: whole pages, with room for the pointers.
+-- The next block of a list can be written from a buffer as long as a block, in whole pages, with room for the pointers.
 pub record CanWriteBlock {D : Type 0} (g : Ghosts D) (dev : D) (front : FullBlocks) (b end len : ℕ) : Type 0 where
   pub follows : CanFollowBlocks g dev front.count front.head b
   pub known : AreKnownBlocks (blocks_to_head (g.blocks dev) front.count front.head) front.known
@@ -62,13 +62,13 @@ pub record CanWriteBlock {D : Type 0} (g : Ghosts D) (dev : D) (front : FullBloc
   pub room : end ≤ (g.geometry dev).block_size
   pub pointers : 4 * pointer_count front.count ≤ end
 
--- the last bytes of a list can be written into the next block
+-- the partial block of a list can be written as its next block
 pub record CanWriteLastBlock {D : Type 0} (g : Ghosts D) (dev : D) (list : GrowingList) (b : ℕ) : Type 0 where
   pub follows : CanFollowBlocks g dev list.full list.head b
   pub known : AreKnownBlocks (blocks_to_head (g.blocks dev) list.full list.head) list.known
   pub geometry : g.geometry dev ≡ list.geometry
 
--- the next block of a list can be filled with the first of so many bytes
+-- the next block of a list can be filled with the first of `count` bytes
 pub record CanFillBlock {D : Type 0} (g : Ghosts D) (dev : D) (list : GrowingList) (b count : ℕ) : Type 0 where
   pub follows : CanFollowBlocks g dev list.full list.head b
   pub known : AreKnownBlocks (blocks_to_head (g.blocks dev) list.full list.head) list.known
@@ -76,7 +76,7 @@ pub record CanFillBlock {D : Type 0} (g : Ghosts D) (dev : D) (list : GrowingLis
   pub some : 1 ≤ count
   pub room : growing_size list + count < 2 ^ 31
 
--- So many bytes can be appended to a list: it is on the disk, its blocks are marked, and there are blocks for the bytes.
+-- `count` bytes can be appended to a list: the disk has it, the map has its blocks, and enough blocks are free.
 pub record CanExtendList (map : BlockStates) (disk : Blocks) (now : Geometry) (list : GrowingList) (count : ℕ) : Type 0 where
   pub growing : DiskHasList disk list
   pub geometry : now ≡ list.geometry
@@ -85,20 +85,20 @@ pub record CanExtendList (map : BlockStates) (disk : Blocks) (now : Geometry) (l
   pub marked : HasBlocksTaken map disk list
   pub room : used_count map + in_flight_count map + block_count_for list.geometry.block_size (growing_size list + count) ≤ length map + length (lasting_blocks disk list)
 
--- so many zeros can be written at the end of a list in hand
+-- `count` zeros can be written at the end of a draft's new list
 pub record CanWriteZeros (map : BlockStates) (disk : Blocks) (now : Geometry) (hand : PendingList) (count : ℕ) : Type 0 where
   pub begun : IsUnfinishedList map disk now hand
   pub small : growing_size hand.list + count < 2 ^ 31
   pub room : used_count map + block_count_for now.block_size (growing_size hand.list + count) + in_flight_limit now.block_size hand.base ≤ length map
 
--- so many bytes can be written at its end
+-- `count` bytes, at least one, can be written there
 pub record CanAppendToUnfinished (map : BlockStates) (disk : Blocks) (now : Geometry) (hand : PendingList) (count : ℕ) : Type 0 where
   pub begun : IsUnfinishedList map disk now hand
   pub some : 1 ≤ count
   pub small : growing_size hand.list + count < 2 ^ 31
   pub room : used_count map + block_count_for now.block_size (growing_size hand.list + count) + in_flight_limit now.block_size hand.base ≤ length map
 
--- so many bytes can be written at a place, which is at its end or behind all contents
+-- `count` bytes, at least one, can be written at an offset, which is its end or is behind all contents
 pub record CanFillAndWrite (map : BlockStates) (disk : Blocks) (now : Geometry) (hand : PendingList) (place count : ℕ) : Type 0 where
   pub begun : IsUnfinishedList map disk now hand
   pub at : growing_size hand.list ≡ min place (unfinished_length hand)

@@ -1,4 +1,4 @@
--- The contents of an open writer: their form, their bytes, and what map and disk have of them.
+-- The contents of an open writer: their form, their bytes, and the map and disk that have them.
 use Rattle.std.specs.Prelude.{ℕ, ◌≡◌, ◌≢◌, ◌≤◌, ◌<◌, ◌+◌, ◌*◌, ◌^◌, true, min, max, ◌==◌, nat_lt, if◌then◌else◌, List, length}
 use Rattle.lfs_model.specs.format.Blocks.{Blocks}
 use Rattle.lfs_model.specs.format.Disk.{inline_limit}
@@ -13,7 +13,7 @@ use Rattle.lfs_file.specs.HandWrites.{CanEndUnfinished, unfinished_bytes}
 use Rattle.lfs_file.specs.declared.contents.WriterContents.{WriterContents}
 use Rattle.lfs_file.specs.declared.contents.WriterContents.TheVariants.{InMemory, Finished, InHand}
 
--- the bytes in the extender's buffer alone
+-- the bytes of contents in memory
 abbrev pub buffered_bytes : GrowingList → List ℕ
 buffered_bytes list = list.rest
 
@@ -47,23 +47,23 @@ AreSoundContents map disk now (InMemory list) = IsInMemory map disk now list
 AreSoundContents map disk now (Finished stored) = IsFinishedList map disk now.block_size stored
 AreSoundContents map disk now (InHand hand) = CanEndUnfinished map disk now hand
 
--- the contents are in that form, with these bytes
+-- the contents have this form and these bytes
 pub record HaveBytesInForm (map : BlockStates) (disk : Blocks) (now : Geometry) (contents : WriterContents) (bytes : List ℕ) (shape : ContentsForm) : Type 0 where
   pub stands : AreSoundContents map disk now contents
   pub has : contents_bytes disk now.block_size contents ≡ bytes
   pub form : contents_form contents ≡ shape
 
--- how many bytes contents may have in memory
+-- the most bytes that contents in memory have
 abbrev pub memory_limit : Geometry → ℕ
 memory_limit now = inline_limit now.profile now.block_size
 
--- only contents past the limit have blocks in flight
+-- only contents longer than the limit have blocks in flight
 abbrev pub FormFitsLimit : ℕ → ContentsForm → Type 0
 FormFitsLimit limit (form.InMemory size) = size ≤ limit
 FormFitsLimit limit (form.Finished size flying) = flying ≡ true → limit < size
 FormFitsLimit limit (form.InHand stop base flying) = limit < max stop base
 
--- how many blocks in flight a write past the limit may take
+-- how many blocks may be in flight after a write past the limit
 abbrev pub write_room : ℕ → ℕ → ℕ → ContentsForm → ℕ
 write_room block_size place count (form.InMemory size) = block_count_for block_size (place + count)
 write_room block_size place count (form.Finished size flying) = block_count_for block_size (place + count) + (if flying then block_count_for block_size size else 0)
@@ -71,7 +71,7 @@ write_room block_size place count (form.InHand stop base flying) =
     if stop == min place (max stop base) then block_count_for block_size (place + count) + (if flying then block_count_for block_size base else 0)
     else 2 * block_count_for block_size (max (max stop base) (place + count))
 
--- the form after the list in hand is ended, and the room that this takes
+-- the form after a draft is completed, and how many blocks may be in flight then
 abbrev pub form_after_finish : ContentsForm → ContentsForm
 form_after_finish (form.InMemory size) = form.InMemory size
 form_after_finish (form.Finished size flying) = form.Finished size flying
@@ -82,7 +82,7 @@ finish_room block_size (form.InMemory size) = 0
 finish_room block_size (form.Finished size flying) = 0
 finish_room block_size (form.InHand stop base flying) = (if flying then block_count_for block_size base else 0) + block_count_for block_size base
 
--- and a truncation to a size: contents in hand are ended where they are cut
+-- and after a truncation to a size, which completes a draft that it cuts
 abbrev pub truncation_room : ℕ → ℕ → ContentsForm → ℕ
 truncation_room block_size size (form.InMemory old) = block_count_for block_size size
 truncation_room block_size size (form.Finished old flying) = block_count_for block_size size + (if flying then block_count_for block_size old else 0)
@@ -91,14 +91,14 @@ truncation_room block_size size (form.InHand stop base flying) =
     then (if stop == max stop base then block_count_for block_size size + (if flying then block_count_for block_size base else 0) else 2 * block_count_for block_size size)
     else (if flying then block_count_for block_size base else 0) + block_count_for block_size base
 
--- a truncation to a size takes blocks: it fills a list up, or ends the one in hand
+-- a truncation to a size needs blocks: it pads a list, or completes a draft
 abbrev pub NeedsTruncateRoom : ℕ → ℕ → ContentsForm → Type 0
 NeedsTruncateRoom limit size (form.InMemory old) = limit < size
 NeedsTruncateRoom limit size (form.Finished old flying) = (limit < size) × (old < size)
 NeedsTruncateRoom limit size (form.InHand stop base flying) = size ≢ max stop base
 
--- So many bytes, at least one, may be written at a place. Past the limit there is room for the blocks that the form of the
--- contents takes.
+-- `count` bytes, at least one, may be written at an offset. Past the limit, as many blocks are free as the form of the contents
+-- needs.
 pub record HasWriteRoom (map : BlockStates) (block_size : ℕ) (shape : ContentsForm) (limit place count : ℕ) : Type 0 where
   pub large : FormFitsLimit limit shape
   pub short : limit < block_size
@@ -106,14 +106,14 @@ pub record HasWriteRoom (map : BlockStates) (block_size : ℕ) (shape : Contents
   pub small : place + count < 2 ^ 31
   pub room : limit < max (form_size shape) (place + count) → used_count map + write_room block_size place count shape ≤ length map
 
--- The contents may be cut or filled up to a size. Where the size changes there is room for the blocks that the form takes.
+-- The contents may be cut or padded to a size. If the size changes, as many blocks are free as their form needs.
 pub record HasTruncationRoom (map : BlockStates) (block_size : ℕ) (shape : ContentsForm) (limit size : ℕ) : Type 0 where
   pub large : FormFitsLimit limit shape
   pub short : limit < block_size
   pub small : size < 2 ^ 31
   pub room : NeedsTruncateRoom limit size shape → used_count map + truncation_room block_size size shape ≤ length map
 
--- contents are on a device of this geometry, and may be written there; may be truncated; or may be finished
+-- contents on a device of this geometry may be written to; truncated; completed
 pub record CanWriteContents (map : BlockStates) (disk : Blocks) (now : Geometry) (contents : WriterContents) (place count : ℕ) : Type 0 where
   pub stands : AreSoundContents map disk now contents
   pub fits : HasWriteRoom map now.block_size (contents_form contents) (memory_limit now) place count

@@ -1,10 +1,10 @@
--- A list that grows, on a disk.
+-- A list being extended, on a disk.
 use Rattle.std.specs.Prelude.{ℕ, ◌≡◌, List, length, All}
 use Rattle.lfs_device.specs.declared.geometry.Geometry.{Geometry}
 use Rattle.lfs_model.specs.format.Blocks.{Blocks, block_bytes}
 use Rattle.lfs_file.specs.Growing.{GrowingList, DiskHasList, IsRestShort, SameListLater, growing_blocks, growing_bytes, lasting_blocks, growing_size_with}
 
--- On a disk a list has these bytes, so many. The blocks `kept` stay the list's when it grows, and these are all its blocks.
+-- On a disk the list has these `size` bytes, in the blocks `all`. Its blocks `own` stay its own when it is extended.
 pub record ListHasBytes (divided : Geometry) (disk : Blocks) (list : GrowingList) (bytes : List ℕ) (size : ℕ) (own all : List ℕ) : Type 0 where
   pub geometry : list.geometry ≡ divided
   pub growing : DiskHasList disk list

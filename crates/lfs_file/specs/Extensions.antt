@@ -1,4 +1,4 @@
--- A list in hand that has grown.
+-- A draft's new list, extended.
 use Rattle.std.specs.Prelude.{ℕ, ◌≡◌, false, List, length}
 use Rattle.lfs_model.specs.format.Blocks.{Blocks}
 use Rattle.lfs_model.specs.layers.BlockSets.{BlockStates}
@@ -12,7 +12,7 @@ pub record CanEndAlone (disk : Blocks) (list : GrowingList) : Type 0 where
   pub many : length (lasting_blocks disk list) ≡ block_count_for list.geometry.block_size (growing_size list)
   pub listed : rest_lacks_block list ≡ false
 
--- A list grew to these bytes, so many, in blocks that were free before.
+-- A list was extended to these `size` bytes, in blocks that were free before.
 pub record IsExtended (map : BlockStates) (disk : Blocks) (list : GrowingList) (bytes : List ℕ) (size : ℕ) (later : BlockStates) (new : Blocks) (longer : GrowingList) : Type 0 where
   pub geometry : longer.geometry ≡ list.geometry
   pub growing : DiskHasList new longer

@@ -1,4 +1,4 @@
--- What a call promises of the device that it is given.
+-- The device calls and errors of a function that only reads.
 use Rattle.std.specs.Prelude.{◌≡◌, ◌⊎◌, Result, IfErr}
 use Rattle.lfs_device.specs.DeviceCalls.{ReadsOnly, ReportsFaults}
 use Rattle.lfs_device.specs.declared.device.BlockDevice.{Ghosts}

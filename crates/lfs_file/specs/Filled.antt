@@ -1,8 +1,8 @@
--- How the numbers of an extender agree.
+-- The counts of an extender.
 use Rattle.std.specs.Prelude.{ℕ, ◌≡◌, ◌≤◌, ◌<◌, ◌+◌, ◌-◌, ◌*◌, ◌^◌}
 use Rattle.lfs_model.specs.format.SkipLists.{pointer_count, bytes_before_block}
 
--- a block is filled so far, pointers first, after so many full ones, and all of them hold `size` bytes
+-- behind `full` full blocks, the next one is filled up to `filled`, pointers first, and all blocks hold `size` bytes
 pub record CountsAgree (block_size full filled size : ℕ) : Type 0 where
   pub low : 4 * pointer_count full ≤ filled
   pub high : filled < block_size

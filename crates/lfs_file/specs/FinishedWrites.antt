@@ -1,4 +1,4 @@
--- Writes over a finished list.
+-- Writes over a stored list.
 use Rattle.std.specs.Prelude.{ℕ, ◌≤◌, ◌<◌, ◌+◌, ◌^◌, length}
 use Rattle.lfs_model.specs.format.Blocks.{Blocks}
 use Rattle.lfs_model.specs.layers.BlockSets.{BlockStates, used_count}
@@ -7,7 +7,8 @@ use Rattle.lfs_file.specs.BaseRoom.{in_flight_limit}
 use Rattle.lfs_file.specs.Hand.{IsFinishedList}
 use Rattle.lfs_file.specs.declared.stored_list.StoredList.{StoredList}
 
--- So many bytes, at least one, may be written at a place over a finished list: beside it there is room for a list up to their end.
+-- `count` bytes, at least one, may be written at an offset over a stored list: besides it there is room for a list up to their
+-- end.
 pub record CanOverwriteFinished (map : BlockStates) (disk : Blocks) (block_size : ℕ) (list : StoredList) (place count : ℕ) : Type 0 where
   pub stored : IsFinishedList map disk block_size list
   pub some : 1 ≤ count

@@ -1,4 +1,4 @@
--- Lists that hold the contents of a file that is written, and what the map has of them.
+-- The lists that hold a writer's contents, and the states of their blocks.
 use Rattle.std.specs.Prelude.{ℕ, ◌≡◌, ◌≢◌, ◌≤◌, ◌++◌, ◌⊎◌, All, Contains, true, false, List, length, take, drop}
 use Rattle.lfs_model.specs.format.Blocks.{Blocks, block_bytes}
 use Rattle.lfs_model.specs.layers.BlockSets.{BlockStates, IsFree, IsInFlight, IsUsedBlock, used_count}
@@ -9,15 +9,15 @@ use Rattle.lfs_file.specs.BlocksApart.{IsTakenNotPending, HasBlocksTaken}
 use Rattle.lfs_file.specs.Bases.{IsListOrEmpty, blocks_of_list}
 use Rattle.lfs_file.specs.declared.stored_list.StoredList.{StoredList}
 
--- A finished list has all contents. Where it is in flight, some of its blocks may be, and no other blocks are.
+-- A stored list has all contents. If it is in flight, some of its blocks may be; no other blocks are.
 pub record IsFinishedList (map : BlockStates) (disk : Blocks) (block_size : ℕ) (s : StoredList) : Type 0 where
   pub base : IsListOrEmpty disk block_size s.head s.size
   pub count : length map ≡ length disk
   pub marked : All (λ b. ¬ (IsFree map b)) (blocks_of_list disk block_size s.head s.size)
   pub flying : (b : ℕ) → IsInFlight map b → (s.in_flight ≡ true) × Contains (blocks_of_list disk block_size s.head s.size) b
 
--- A list in hand has the first bytes, its base the others. Both share the first blocks; the other blocks in hand are none of the
--- base's, and not used. No other block is in flight.
+-- A draft: the new list has the first bytes, the old list (`base`) those behind them. Both share their first blocks. The other
+-- blocks of the new list aren't the old one's, and not used. No other block is in flight.
 pub record SharesFirstBlocks (map : BlockStates) (disk : Blocks) (block_size : ℕ) (g : GrowingList) (base : StoredList) (shared : ℕ) : Type 0 where
   pub growing : DiskHasList disk g
   pub marked : HasBlocksTaken map disk g
@@ -29,14 +29,14 @@ pub record SharesFirstBlocks (map : BlockStates) (disk : Blocks) (block_size : �
   pub taken : (b : ℕ) → Contains (lasting_blocks disk g) b → IsUsedBlock map b → Contains (blocks_of_list disk block_size base.head base.size) b
   pub flying : (b : ℕ) → IsInFlight map b → Contains (lasting_blocks disk g) b ⊎ ((base.in_flight ≡ true) × Contains (blocks_of_list disk block_size base.head base.size) b)
 
--- All blocks of the list are its own, as many as its bytes need, and it can be ended.
+-- All blocks of the new list are its own, as many as its bytes need, and it can be ended.
 pub record CanEndOver (map : BlockStates) (disk : Blocks) (block_size : ℕ) (g : GrowingList) (base : StoredList) (shared : ℕ) : Type 0 where
   pub begun : SharesFirstBlocks map disk block_size g base shared
   pub own : growing_blocks disk g ≡ lasting_blocks disk g
   pub many : length (lasting_blocks disk g) ≡ block_count_for block_size (growing_size_with block_size g)
   pub listed : rest_lacks_block g ≡ false
 
--- the contents
+-- the contents of a stored list, and of a draft
 abbrev pub stored_list_bytes : Blocks → ℕ → StoredList → List ℕ
 stored_list_bytes disk block_size s = list_bytes disk block_size s.head s.size
 

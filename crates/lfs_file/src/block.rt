@@ -12,18 +12,18 @@ use crate::read::pointer_count_at;
 use byteorder::{ByteOrder, LittleEndian};
 use lfs_device::{BlockDevice, Error};
 
-/// The full blocks of a list that grows.
+/// The full blocks of a list that is being extended.
 #[derive(Clone, Copy)]
 pub(crate) struct FullBlocks {
     pub count: u32,
-    /// The last of them, where there is one.
+    /// The last of them, if there is one.
     pub head: u32,
-    /// Those that later blocks have pointers to, as far as they are known.
+    /// An index cache of the blocks that later blocks' pointers name.
     pub known: KnownBlocks,
 }
 
 impl FullBlocks {
-    // Makes the full blocks of an empty list.
+    // Returns the full blocks of an empty list.
     pub(crate) fn new() -> FullBlocks
         ensures made { result ≡ record { count = 0; head = 0; known = result.known } }
         ensures known { (all : List ℕ) → AreKnownBlocks all result.known }
@@ -36,8 +36,8 @@ impl FullBlocks {
         }
     }
 
-    // Makes these the full blocks of a list before the block at an index. The bytes begin with the
-    // pointers of that block, and those lead to known blocks. No block was known before.
+    // Starts from the full blocks before the list's block at an index. `bytes` begins with that
+    // block's pointers, which fill the index cache. The cache must be empty.
     pub(crate) fn begin_before_block(&mut self, index: u32, bytes: &[u8])
         requires none { OnlyBelowKnown 0 self.old.known }
         requires pointers { 4 * pointer_count index ≤ length bytes.now }
@@ -58,7 +58,7 @@ impl FullBlocks {
         }
     }
 
-    // Adds a block after them.
+    // Adds a full block at the end.
     pub(crate) fn add(&mut self, block: u32)
         requires few { self.old.count < 2 ^ 31 }
         requires below { OnlyBelowKnown self.old.count self.old.known }
@@ -73,7 +73,7 @@ impl FullBlocks {
     }
 }
 
-// Writes a word over four bytes.
+// Writes a little-endian word at an offset.
 fn write_word(buf: &mut [u8], at: usize, word: u32)
     requires { at + 4 ≤ length buf.old }
     ensures { buf.new ≡ take at buf.old ++ (little_bytes 4 word ++ drop (at + 4) buf.old) }
@@ -81,8 +81,8 @@ fn write_word(buf: &mut [u8], at: usize, word: u32)
     LittleEndian::write_u32(&mut buf[at..], word);
 }
 
-// Writes the pointers of the block after the full ones of a list to the beginning of the buffer.
-// The blocks that are read for that are known afterwards.
+// Writes the pointers of the next block of a list to the start of the buffer. The blocks that are
+// found by reads for that go to the index cache.
 fn write_pointers<D: BlockDevice>(
     dev: &mut D,
     front: &mut FullBlocks,
@@ -108,8 +108,8 @@ fn write_pointers<D: BlockDevice>(
     Ok(())
 }
 
-// Erases a block and writes the buffer up to `end` to it. Before the bytes are the pointers of the
-// block after the full ones of a list.
+// Erases a block and programs it with the buffer up to `end`, as the next block of a list. Fills in
+// its pointers at the start of the buffer.
 pub(crate) fn write_block<D: BlockDevice>(
     dev: &mut D,
     front: &mut FullBlocks,

@@ -1,4 +1,4 @@
-// Copies of the bytes of a base that follow those in hand.
+// Copies of an old list's bytes to the end of the new one.
 
 ghost use Rattle.std.specs.Prelude.{◌≡◌, ◌≤◌, ◌<◌, ◌+◌, ◌-◌, length, max, drop, IfOk, OnOk};
 ghost use Rattle.lfs_device.specs.DeviceCalls.{ReadsOrIo, ReadsOnly, ReportsIoNoMemory};
@@ -17,12 +17,14 @@ use lfs_blocks::BlockMap;
 use lfs_device::{BlockDevice, Error};
 use std::alloc::Global;
 
-/// Appends to a list in hand the bytes that another list has after those in hand.
+/// Appends to `list` the bytes that `base` has behind the end of `list`. If there are none, does
+/// nothing.
 ///
-/// The caller's condition is that the list in hand changes no block of the other list.
+/// Requires enough free blocks for them. The blocks of `base` must not be free in the map, nor be
+/// the one that `list` still has to write.
 ///
-/// Errors: `Io` where the device failed. `NoMemory` where memory isn't granted. After either the
-/// list in hand can only be dropped.
+/// Errors: `Io` if the device failed, `NoMemory` if memory isn't granted. After either `list` can
+/// only be dropped.
 pub(crate) fn append_base_rest<D: BlockDevice>(
     alloc: Global,
     dev: &mut D,
@@ -44,7 +46,7 @@ pub(crate) fn append_base_rest<D: BlockDevice>(
     Ok(())
 }
 
-// Appends to a list in hand the bytes that another list has after those in hand, a block at a time.
+// Does the same, one block at a time, through the buffer `chunk`.
 fn append_by_block<D: BlockDevice>(
     alloc: Global,
     dev: &mut D,
@@ -79,7 +81,8 @@ fn append_by_block<D: BlockDevice>(
     Ok(())
 }
 
-// Returns the blocks of a list from an index on. `count` is how many blocks the list has.
+// Returns the blocks of a list from an index on. The list has `count` blocks, the last one at
+// `head`.
 fn blocks_from_index<D: BlockDevice>(
     alloc: Global,
     dev: &mut D,
@@ -92,7 +95,7 @@ fn blocks_from_index<D: BlockDevice>(
     ensures blocks { IfOk result (λ v. v.items ≡ drop from (blocks_to_head (D.blocks dev.old) count head)) }
     ensures device { ReadsOnly D.BlockDevice dev.old dev.new }
     ensures reports { ReportsIoNoMemory D.BlockDevice dev.old dev.new result }
-    // The list is walked once: one read for each of them.
+    // The list is walked once, with one read for each of these blocks.
     ensures few { OnOk result (read_count (D.history dev.new) ≤ read_count (D.history dev.old) + (count - from)) }
 {
     let mut blocks = Vec::from_elem(alloc, 0u32, (count - from) as usize)?;
@@ -106,7 +109,7 @@ fn blocks_from_index<D: BlockDevice>(
     Ok(blocks)
 }
 
-// Reads the bytes of a block from an offset on, at most `most` of them.
+// Reads the bytes of a block from an offset on, at most `most`, and returns how many.
 fn read_from_block<D: BlockDevice>(
     dev: &mut D,
     block: u32,

@@ -1,4 +1,4 @@
-// Contents that are finished for a commit, or dropped.
+// Contents made ready for a commit, or discarded.
 
 ghost use Rattle.std.specs.Prelude.{ℕ, IfOk};
 ghost use Rattle.lfs_model.specs.layers.BlockSets.{IsInFlight};
@@ -15,13 +15,13 @@ use lfs_blocks::BlockMap;
 use lfs_device::{BlockDevice, Error};
 use std::alloc::Global;
 
-/// Ends the list in hand, where there is one. The contents stay.
+/// Completes a draft, so that all contents are in a stored list. Other contents are returned as
+/// they are. The contents don't change.
 ///
-/// The caller's condition is that there are as many free blocks as the remaining bytes of the
-/// list's base take.
+/// Requires enough free blocks for the bytes that the draft has to copy from its old list.
 ///
-/// Errors: `Io` where the device failed. `NoMemory` where memory isn't granted. After either the
-/// contents are dropped.
+/// Errors: `Io` if the device failed, `NoMemory` if memory isn't granted. After either the contents
+/// are lost.
 pub fn finish_contents<D: BlockDevice>(
     alloc: Global,
     dev: &mut D,
@@ -46,7 +46,8 @@ pub fn finish_contents<D: BlockDevice>(
     }
 }
 
-/// Releases all blocks in flight. No other file has blocks in flight, so no block is read.
+/// Releases all blocks in flight. Only the open writer has blocks in flight, so nothing has to be
+/// read.
 pub fn release_in_flight(map: &mut BlockMap)
     ensures none { (b : ℕ) → ¬ (IsInFlight map.new b) }
     ensures map { KeepsUsedBlocks map.old map.new }

@@ -24,23 +24,23 @@ use lfs_blocks::BlockMap;
 use lfs_device::{BlockDevice, Error, Geometry};
 use std::alloc::Global;
 
-/// Where the contents of an open writer are.
+/// The contents of an open writer, by where they are.
 #[derive(Drop)]
 pub enum WriterContents {
-    /// The contents are in the buffer of an extender and in no block. They are at most as long as
-    /// the limit of inline contents.
+    /// In memory: all bytes are in the extender's buffer, and none in a block. They are at most as
+    /// long as the limit of inline files.
     InMemory(Extender),
-    /// The contents are in a finished list.
+    /// On the device: all bytes are in a stored list.
     Finished(StoredList),
-    /// The first bytes are in a list in hand, and the bytes after them in its base.
+    /// In a draft: the first bytes are in a new list, the bytes behind them in the old one.
     InHand(PendingList),
 }
 
-/// Makes contents in memory: the inline bytes of a file, or no bytes for a new file.
+/// Makes contents in memory: the bytes of an inline file, or none for a new file.
 ///
-/// The caller's condition is that there are fewer bytes than a block has.
+/// Requires fewer bytes than a block has.
 ///
-/// Errors: `NoMemory` where memory for a block isn't granted.
+/// Errors: `NoMemory` if memory for a block isn't granted.
 pub fn contents_in_memory(
     alloc: Global,
     geometry: Geometry,
@@ -55,7 +55,7 @@ pub fn contents_in_memory(
     Ok(WriterContents::InMemory(list))
 }
 
-// Writes bytes to contents in memory.
+// Writes bytes to contents in memory. If they pass the inline limit, they move to a draft.
 fn write_in_memory<D: BlockDevice>(
     alloc: Global,
     dev: &mut D,
@@ -82,7 +82,7 @@ fn write_in_memory<D: BlockDevice>(
     Ok(WriterContents::InHand(hand))
 }
 
-// Begins a list in hand over a finished list, with bytes at a place.
+// Starts a draft over a stored list, with bytes at an offset.
 fn begin_with_bytes<D: BlockDevice>(
     alloc: Global,
     dev: &mut D,
@@ -105,7 +105,8 @@ fn begin_with_bytes<D: BlockDevice>(
     Ok(hand)
 }
 
-// Writes bytes over a finished list. Contents within the limit have no blocks in flight.
+// Writes bytes to contents in a stored list. Contents within the inline limit are loaded into
+// memory; such a list has no blocks in flight.
 fn write_over_finished<D: BlockDevice>(
     alloc: Global,
     dev: &mut D,
@@ -132,7 +133,7 @@ fn write_over_finished<D: BlockDevice>(
     Ok(WriterContents::InHand(hand))
 }
 
-// Writes bytes to contents in hand.
+// Writes bytes to contents in a draft.
 fn write_to_unfinished<D: BlockDevice>(
     alloc: Global,
     dev: &mut D,
@@ -157,13 +158,14 @@ fn write_to_unfinished<D: BlockDevice>(
     Ok(WriterContents::InHand(hand))
 }
 
-/// Writes bytes, at least one, at a place; zeros fill a gap before it.
+/// Writes at least one byte at offset `place` of the contents. If the offset is past their end,
+/// zeros fill the gap.
 ///
-/// Contents within the device's inline limit are kept in memory. The caller's condition is that
-/// longer contents find as many free blocks as their form may take.
+/// Contents of at most the device's inline limit are then in memory. Longer contents go to free
+/// blocks; the caller must have kept free as many as the contents' form may need.
 ///
-/// Errors: `Io` where the device failed. `NoMemory` where memory for a block isn't granted. After
-/// either the contents are dropped.
+/// Errors: `Io` if the device failed, `NoMemory` if memory for a block isn't granted. After either
+/// the contents are lost.
 pub fn write_contents<D: BlockDevice>(
     alloc: Global,
     dev: &mut D,

@@ -20,17 +20,17 @@ use lfs_device::{BlockDevice, Error, Geometry};
 use std::alloc::Global;
 use std::marker::Model;
 
-/// Appends bytes to a skip list, in blocks that the caller hands in, and writes a block as it fills
-/// (DESIGN.md of littlefs, "CTZ skip-lists").
+/// A skip list that is extended by appending bytes (DESIGN.md of littlefs, "CTZ skip-lists"). The
+/// caller passes in the blocks, and each is programmed once it is full.
 ///
-/// An extender has one block of bytes in memory. Contents without a block can be in memory alone.
-/// `replace_buffered`, `write_buffered_at` and `truncate_buffered` change them,
-/// and a `push` moves them into blocks.
+/// One block of bytes is buffered. Short contents can be in the buffer alone, without a block:
+/// `replace_buffered`, `write_buffered_at` and `truncate_buffered` change such contents, and a
+/// `push` moves them into blocks.
 ///
-/// A contract sees the list that grows: its full blocks, and the bytes after them.
+/// In contracts it is the list so far: its full blocks, and the bytes behind them.
 #[derive(Drop)]
 pub struct Extender {
-    // An extender is moved through several layers at each write, so its fields are on the heap.
+    // Each write moves an extender through several layers, so its fields are on the heap.
     state: Box<ExtenderState>,
 }
 
@@ -58,7 +58,7 @@ impl Model for Extender {
     ghost invariant = { λ e. IsExtender e.state.value };
 }
 
-// Writes bytes over those from a place on.
+// Overwrites the bytes at an offset.
 fn overwrite_buffer_bytes(all: &mut Vec<u8>, at: usize, bytes: &[u8])
     requires { at + length bytes.now ≤ length all.old.items }
     ensures { all.new.items ≡ overwritten_at all.old.items at bytes.now }
@@ -66,7 +66,7 @@ fn overwrite_buffer_bytes(all: &mut Vec<u8>, at: usize, bytes: &[u8])
     all[at..at + bytes.len()].copy_from_slice(bytes);
 }
 
-// Fills the places from one to another with a byte.
+// Fills the bytes from offset `at` to offset `end` with a byte.
 fn fill_buffer_range(all: &mut Vec<u8>, at: usize, end: usize, byte: u8)
     requires order { at ≤ end }
     requires within { end ≤ length all.old.items }
@@ -76,7 +76,7 @@ fn fill_buffer_range(all: &mut Vec<u8>, at: usize, end: usize, byte: u8)
 }
 
 impl Extender {
-    // Makes an extender whose fields are these.
+    // Makes an extender with these fields.
     fn of_state(alloc: Global, state: ExtenderState) -> Result<Extender, Error>
         requires { IsExtender state }
         ensures list { IfOk result (λ list. list ≡ growing_view state) }
@@ -88,7 +88,7 @@ impl Extender {
 
     /// Makes an extender of an empty list.
     ///
-    /// Errors: `NoMemory` where memory for a block isn't granted.
+    /// Errors: `NoMemory` if memory for a block isn't granted.
     #[inline(never)]
     pub fn start_empty(alloc: Global, geometry: Geometry) -> Result<Extender, Error>
         ensures started { IfOk result (IsEmptyList geometry) }
@@ -106,10 +106,10 @@ impl Extender {
         Extender::of_state(alloc, state)
     }
 
-    /// Makes an extender of the first `keep` bytes of a well-formed list, whose last block is
-    /// `head` and which has `size` bytes. `keep` is from 1 to `size`.
+    /// Makes an extender of the first `keep` bytes of a list, with `keep` from 1 to `size`. `head`
+    /// is the list's last block and `size` its size in bytes. Requires a well-formed list.
     ///
-    /// Errors: `NoMemory` where memory for a block isn't granted. `Io` where the device failed.
+    /// Errors: `NoMemory` if memory for a block isn't granted, `Io` if the device failed.
     pub fn resume<D: BlockDevice>(
         alloc: Global,
         dev: &mut D,
@@ -145,10 +145,10 @@ impl Extender {
         Ok(list)
     }
 
-    /// Replaces the contents by these bytes, in memory and in no block. What the extender had
+    /// Replaces the contents with these bytes, in memory and without a block. What the extender had
     /// before is dropped.
     ///
-    /// The caller's condition is that there are fewer bytes than a block has.
+    /// Requires fewer bytes than a block has.
     pub fn replace_buffered(&mut self, bytes: &[u8])
         requires { length bytes.now < self.old.geometry.block_size }
         ensures { HasBufferedBytes self.old.geometry self.new bytes.now }
@@ -161,7 +161,7 @@ impl Extender {
         state.stand = RestLocation::Held;
     }
 
-    /// Returns the contents, which are all in memory and none in a block.
+    /// Returns the contents. Requires that they are all in memory and none in a block.
     pub fn buffered_content(&self) -> &[u8]
         requires { IsAllBuffered self.now }
         ensures { result.now ≡ self.now.rest }
@@ -170,10 +170,9 @@ impl Extender {
         &state.buffer[..state.filled as usize]
     }
 
-    /// Writes bytes over those from the place `at` on, or after them. The contents are all in
-    /// memory and none in a block. Zeros fill the gap where the place is past the end.
-    ///
-    /// The caller's condition is that there are fewer bytes than a block has afterwards.
+    /// Writes bytes at offset `at` of the contents, over those that are there. If the offset is
+    /// past the end, zeros fill the gap. Requires that the contents are all in memory and none in a
+    /// block, and stay shorter than a block.
     pub fn write_buffered_at(&mut self, at: u32, bytes: &[u8])
         requires held { IsAllBuffered self.old }
         requires room { at + length bytes.now < self.old.geometry.block_size }
@@ -187,9 +186,8 @@ impl Extender {
         state.size = state.filled;
     }
 
-    /// Keeps the first `len` bytes of contents that are all in memory and none in a block.
-    ///
-    /// The caller's condition is that there are at least so many.
+    /// Keeps only the first `len` bytes of the contents. Requires that the contents are all in
+    /// memory and none in a block, and have at least `len` bytes.
     pub fn truncate_buffered(&mut self, len: u32)
         requires held { IsAllBuffered self.old }
         requires within { len ≤ length self.old.rest }
@@ -200,25 +198,25 @@ impl Extender {
         state.size = len;
     }
 
-    /// Returns how many bytes the list has.
+    /// Returns the size of the list in bytes.
     pub fn size(&self) -> u32
         ensures { result ≡ growing_size self.now }
     {
         self.state.size
     }
 
-    /// Returns how many blocks are full and on the device.
+    /// Returns the number of full blocks, which are on the device.
     pub fn full_block_count(&self) -> u32
         ensures { result ≡ self.now.full }
     {
         self.state.front.count
     }
 
-    /// Returns how many blocks a push of `n` bytes takes. The full blocks of a resumed list are
-    /// shared. Its last block, where it isn't full, is copied and counts here.
+    /// Returns how many blocks a [`push`](Extender::push) of `n` bytes needs. The full blocks of a
+    /// resumed list are shared with the old list. Its partial last block, if it has one, is copied
+    /// and counts.
     ///
-    /// The caller's condition is that `n` is at least 1, and that the whole list then has at most
-    /// 2,147,483,647 bytes.
+    /// Requires that `n` is at least 1, and that the list then has at most 2,147,483,647 bytes.
     pub fn needed(&self, n: u32) -> u32
         requires some { 1 ≤ n }
         requires room { growing_size self.now + n < 2 ^ 31 }
@@ -230,17 +228,17 @@ impl Extender {
             RestLocation::Handed(_) => 1,
             _ => 0,
         };
-        // Bytes that fit in the block of the last ones take no further block.
+        // Bytes that fit the partial block need no other block.
         if begun == 1 && n <= state.geometry.block_size - state.filled {
             return 0;
         }
         blocks_for(state.geometry.block_size, state.size + n) - (state.front.count + begun)
     }
 
-    /// Appends bytes in memory, where they fit into the block that waits for bytes and don't fill it.
-    /// Returns whether they do; where they don't, nothing changes.
+    /// Appends bytes in memory, if they fit the partial block that is buffered and don't fill it.
+    /// Returns false, and changes nothing, if they don't.
     ///
-    /// The caller's condition is that the whole list then has at most 2,147,483,647 bytes.
+    /// Requires that the list then has at most 2,147,483,647 bytes.
     pub(crate) fn push_within_block(&mut self, bytes: &[u8]) -> bool
         requires { growing_size self.old + length bytes.now < 2 ^ 31 }
         ensures fits { result ≡ fits_unwritten_block self.old (length bytes.now) }
@@ -260,8 +258,7 @@ impl Extender {
         true
     }
 
-    // Returns the block that takes the next bytes, and how many of the blocks that were handed in
-    // are used then.
+    // Returns the block for the next bytes, and how many of the blocks passed in are used then.
     fn next_push_block(&self, blocks: &[u32], used: usize) -> (u32, usize)
         requires { unwritten_block self.now ≡ [] → used < length blocks.now }
         ensures { result ≡ block_for_push self.now.stand blocks.now used }
@@ -272,8 +269,8 @@ impl Extender {
         }
     }
 
-    // Takes as many bytes as the current block still has room for, and writes that block if it is
-    // full then. Returns how many bytes were taken.
+    // Buffers as many bytes as the current block has room for, and programs that block if it is
+    // full. Returns how many bytes that were.
     fn fill_current_block<D: BlockDevice>(
         &mut self,
         dev: &mut D,
@@ -307,15 +304,15 @@ impl Extender {
         Ok(n)
     }
 
-    /// Appends bytes, in the blocks that are handed in. Each block is erased before it is
-    /// programmed, and is written as it fills.
+    /// Appends bytes, in the blocks that are passed in. Each block is erased and programmed once it
+    /// is full.
     ///
-    /// The caller's conditions: there is at least one byte, and there are exactly as many blocks as
-    /// `needed` returns. The blocks are different ones of the device, and none is the list's. The
-    /// device holds the list as the last call of the extender left it. The whole list then has at
-    /// most 2,147,483,647 bytes.
+    /// Requires at least one byte, and exactly as many blocks as [`needed`](Extender::needed)
+    /// returns. The blocks must differ, be below the device's number of blocks, and not be the
+    /// list's. The device must hold the list as the extender's last call left it. The list then has
+    /// at most 2,147,483,647 bytes.
     ///
-    /// Errors: `Io` where the device failed. The extender can only be dropped then.
+    /// Errors: `Io` if the device failed. The extender can then only be dropped.
     pub fn push<D: BlockDevice>(
         &mut self,
         dev: &mut D,
@@ -340,7 +337,7 @@ impl Extender {
         Ok(())
     }
 
-    // Pads the current block to whole pages, and writes it.
+    // Pads the current block to whole pages, and programs it.
     fn write_last_block<D: BlockDevice>(&mut self, dev: &mut D, block: u32) -> Result<(), Error>
         requires { CanWriteLastBlock D.BlockDevice dev.old self.old block }
         ensures block { OnOk result (HasAppendedBlock (D.blocks dev.old) (D.blocks dev.new) self.old.full self.old.head block (length self.old.rest) self.old.rest) }
@@ -357,14 +354,14 @@ impl Extender {
         Ok(())
     }
 
-    /// Ends the list: writes the block that isn't full. Returns the number of the list's last block
-    /// and the list's size in bytes. Where nothing was pushed after `resume`, the last block is one
-    /// of the old list's.
+    /// Ends the list: programs its partial block, if there is one. Returns the list's last block
+    /// and its size in bytes. If nothing was pushed since [`resume`](Extender::resume), the last
+    /// block is one of the old list.
     ///
-    /// The caller's conditions: there is at least one byte, and the bytes aren't in memory alone.
-    /// The device holds the list as the last call of the extender left it.
+    /// Requires at least one byte, and not contents in memory without a block. The device must hold
+    /// the list as the extender's last call left it.
     ///
-    /// Errors: `Io` where the device failed.
+    /// Errors: `Io` if the device failed.
     pub fn finish<D: BlockDevice>(mut self, dev: &mut D) -> Result<(u32, u32), Error>
         requires { CanFinishList D.BlockDevice dev.old self }
         ensures finished { IfOk result (λ r. ListHoldsBytes (D.blocks dev.new) self.geometry.block_size r.0 r.1 (growing_bytes (D.blocks dev.old) self) (growing_blocks (D.blocks dev.old) self)) }

@@ -9,13 +9,12 @@ use crate::read::find_block_at;
 use crate::{blocks_for, place};
 use lfs_device::{BlockDevice, Error};
 
-/// Returns the last block of the list of a file's first `keep` bytes. The file's list has its last
-/// block at `head` and holds `size` bytes. Both lists share their blocks, and nothing is written.
+/// Returns the last block of the list of a file's first `keep` bytes, from 1 to `size`. The file's
+/// list has its last block at `head` and holds `size` bytes. Both lists share their blocks, so
+/// nothing is written. Reads only pointers, and allocates nothing.
 ///
-/// `keep` is from 1 to `size`. The call takes no memory, and reads only pointers.
-///
-/// Errors: `Corrupt` where a pointer on the way leads out of the device: then the list isn't well
-/// formed. `Io` where the device failed.
+/// Errors: `Corrupt` if a pointer on the walk leads out of the device, which a well-formed list
+/// never does. `Io` if the device failed.
 pub fn head_of_front<D: BlockDevice>(
     dev: &mut D,
     head: u32,
@@ -30,7 +29,7 @@ pub fn head_of_front<D: BlockDevice>(
     ensures in_range { IfOk result (λ h. h < (D.geometry dev.old).block_count) }
     ensures corrupt { IsErrOf result Error.Corrupt → ¬ IsSkipList (D.blocks dev.old) (D.geometry dev.old).block_size head size }
     ensures reading { ReadsOrCorrupt D.BlockDevice dev.old dev.new result }
-    // The number of steps to that block is at most the logarithm of the list's length.
+    // The walk to that block costs at most twice the logarithm of the list's number of blocks.
     ensures few { (m : ℕ) → block_count_for (D.geometry dev.old).block_size size ≤ 2 ^ m → OnOk result (read_count (D.history dev.new) ≤ read_count (D.history dev.old) + 2 * m) }
 {
     let block_size = dev.geometry().block_size;

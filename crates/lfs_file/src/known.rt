@@ -1,4 +1,4 @@
-// The blocks of a list that a reader knows.
+// The index cache of a list: blocks of it that reads have found.
 
 ghost use Rattle.std.specs.Prelude.{◌≡◌, ◌≢◌, ◌≤◌, ◌<◌, ◌+◌, ◌-◌, ◌*◌, ℕ, List, length, min, take, drop, OnOk, IfOk, IfSome, IsErrOf, slice_index, slice_range};
 ghost use Rattle.lfs_model.specs.format.Blocks.{block_bytes};
@@ -14,22 +14,24 @@ use crate::read::{pointer_count_at, read_block_before, read_block_pointer, read_
 use crate::{blocks_for, place};
 use lfs_device::{BlockDevice, Error};
 
-/// Blocks of a list that reads have found, each with its index: those on the way to the place where
-/// the last read ended. A read that goes on from there takes few pointers, or none.
+/// An index cache of a list: the blocks that reads have found, each with its index. These are the
+/// blocks on the walk to the byte where the last read ended. A read that continues there follows
+/// few pointers, or none.
 ///
-/// Who reads notes where a read ended, so that the next one is known to go on.
+/// The caller sets `end` after a read, so that it knows whether the next read continues it.
 ///
-/// The block at an index is in the row with the number of zeros in which the index ends. A row
+/// The block at an index is in the row that is the number of trailing zeros of the index. A row
 /// without a block has the index 2^32 - 1.
 #[derive(Clone, Copy)]
 pub struct KnownBlocks {
     pub indices: [u32; 32],
     pub blocks: [u32; 32],
-    /// Where the last read ended, in bytes from the beginning. It is 2^32 - 1 before the first one.
+    /// The position where the last read ended, in bytes from the file's start. It is 2^32 - 1
+    /// before the first read.
     pub end: u32,
 }
 
-// Returns the row of the block at an index. That of index 0 is the last one.
+// Returns the row of the block at an index. Index 0 is in the last row.
 fn index_row(index: u32) -> usize
     ensures { result ≡ row_seen index }
 {
@@ -37,7 +39,7 @@ fn index_row(index: u32) -> usize
 }
 
 impl KnownBlocks {
-    /// Makes a table without blocks.
+    /// Makes an empty cache.
     pub fn new() -> KnownBlocks
         ensures empty { result ≡ no_known_blocks }
         ensures blocks { (all : List ℕ) → AreKnownBlocks all result }
@@ -49,7 +51,7 @@ impl KnownBlocks {
         }
     }
 
-    // Notes the block at an index.
+    // Adds the block at an index.
     pub(crate) fn note(&mut self, index: u32, block: u32)
         ensures blocks { (all : List ℕ) → AreKnownBlocks all self.old → block ≡ slice_index all index → AreKnownBlocks all self.new }
         ensures known { IsKnownIndex self.new index }
@@ -61,8 +63,7 @@ impl KnownBlocks {
         self.blocks[row] = block;
     }
 
-    // Returns the index and the block of the nearest one from an index on: one that is known, or
-    // the head.
+    // Returns the nearest block from an index on, with its own index: a cached block, or the head.
     fn nearest_known_block(&self, head: u32, last: u32, index: u32) -> (u32, u32)
         requires { index ≤ last }
         ensures low { index ≤ result.0 }
@@ -85,8 +86,8 @@ impl KnownBlocks {
         (at, block)
     }
 
-    // Returns the block at an index of a list whose head is at another, and notes the blocks on the
-    // way. Each step uses the highest pointer that does not overshoot.
+    // Returns the block at an index of a list whose head is at the index `last`, and caches the
+    // blocks on the walk. Each step follows the longest pointer that doesn't overshoot.
     pub(crate) fn find_block<D: BlockDevice>(
         &mut self,
         dev: &mut D,
@@ -115,8 +116,8 @@ impl KnownBlocks {
         Ok(block)
     }
 
-    // Returns the block at an index, to which pointer k of another block leads. It is read from there
-    // where it isn't known, and noted.
+    // Returns the block at an index, which pointer `k` of `block` names. If it isn't cached, it is
+    // read from there and cached.
     pub(crate) fn block_at_pointer<D: BlockDevice>(
         &mut self,
         dev: &mut D,
@@ -140,8 +141,8 @@ impl KnownBlocks {
         Ok(found)
     }
 
-    // Returns the block before the one at an index, which is at least 1. It is read from that block
-    // where it isn't known.
+    // Returns the block before `block`, which is at an index of at least 1. If it isn't cached, it
+    // is read from `block`.
     fn block_before<D: BlockDevice>(
         &self,
         dev: &mut D,
@@ -166,9 +167,9 @@ impl KnownBlocks {
         Ok(self.blocks[row])
     }
 
-    /// Returns where the bytes of a file from position `pos` on are, as many as there is room for and
-    /// the `size` allows. Returns None where they aren't all in one block, or it isn't known. The
-    /// known blocks are the list's. The call makes no call of the device.
+    /// Returns the range of a block that holds a file's bytes from position `pos` on, as many as
+    /// `room` and the file's `size` allow. Returns None if they aren't all in one block, or if that
+    /// block isn't cached. The cache must be of the file's list. Doesn't call the device.
     pub fn find_known_part<D: BlockDevice>(
         &self,
         dev: &D,
@@ -198,16 +199,16 @@ impl KnownBlocks {
     }
 
     /// Reads a file's bytes from position `pos` on into the buffer, as many as the buffer and the
-    /// `size` allow. Returns the number of bytes. The file's list has its last block at `head`, and
-    /// the known blocks are the list's.
+    /// file's `size` allow. Returns how many. The file's list has its last block at `head`, and the
+    /// cache must be of that list.
     ///
-    /// Errors: `Corrupt` where a pointer leads out of the device; a list that isn't well formed may
-    /// also give some bytes. `Io` where the device failed. After an error the buffer may hold any
-    /// bytes.
+    /// The walk starts at the nearest cached block and follows the longest pointers that don't
+    /// overshoot to the last block of the read (DESIGN.md of littlefs, "CTZ skip-lists"). Each
+    /// block before it costs one pointer, if it isn't cached.
     ///
-    /// The last block is found from the nearest known one, by the highest pointers that don't
-    /// overshoot (DESIGN.md of littlefs, "CTZ skip-lists"). Each block before it is found by one
-    /// pointer, if it isn't known.
+    /// Errors: `Corrupt` if a pointer leads out of the device, which a well-formed list never does;
+    /// a list that isn't well formed may also return any bytes. `Io` if the device failed. After an
+    /// error the buffer may hold any bytes.
     pub fn read_at<D: BlockDevice>(
         &mut self,
         dev: &mut D,

@@ -1,5 +1,5 @@
 // Laws of the forms of contents, for the session above: each form fits the session's writer, and
-// the blocks that the session holds back are enough. Another law gives the map after a list is
+// the blocks that the session reserves are enough. Another law states the map after a list is
 // settled.
 
 ghost use Rattle.std.specs.Prelude.{◌≡◌, ◌≤◌, ◌<◌, ◌+◌, ◌-◌, ℕ, false, max, Contains, List, ◌∷◌, length};
@@ -27,7 +27,7 @@ pub fn lemma_forms_fit()
     ensures synced { (profile : Profile) (block_size : ℕ) (form : ContentsForm) (w : FileWriter) → IsWriterForm profile block_size form w → IsWriterForm profile block_size (synced_form form) (synced_writer w) }
 {}
 
-/// The blocks that the session holds back for a writer are enough for each call.
+/// The blocks that the session reserves for a writer are enough for each call.
 pub fn lemma_reserve_suffices()
     ensures covers { (profile : Profile) (block_size : ℕ) (form : ContentsForm) (w : FileWriter) → IsWriterForm profile block_size form w → form_in_flight block_size form ≤ reserved_for_writer profile block_size w - 2 }
     ensures large { (profile : Profile) (block_size : ℕ) (form : ContentsForm) (w : FileWriter) → IsWriterForm profile block_size form w → FormFitsLimit (inline_limit profile block_size) form }
@@ -38,9 +38,9 @@ pub fn lemma_reserve_suffices()
     ensures end { (profile : Profile) (block_size : ℕ) (form : ContentsForm) (w : FileWriter) (used all : ℕ) → IsWriterForm profile block_size form w → used + reserved_for_writer profile block_size w ≤ all → used + finish_room block_size form ≤ all }
 {}
 
-/// A map in which a list was settled has exactly the used blocks of the image that names the list.
-/// Before, it had those of the old image: the blocks that are gone are free now, and the new ones
-/// are used.
+/// A map in which a list was settled has exactly the used blocks of the image that names the list,
+/// if it had those of the old image before. The blocks of the old list alone are free, and the new
+/// ones are used.
 pub fn lemma_settled_map()
     ensures { (sets later : BlockStates) (owned used before now gone come : List ℕ) → AreUsed sets owned → ((b : ℕ) → number_occurrences b owned ≤ 1) → ((b : ℕ) → number_occurrences b owned + number_occurrences b come ≡ number_occurrences b used + number_occurrences b gone)
         → ((b : ℕ) → number_occurrences b now + number_occurrences b gone ≡ number_occurrences b come + number_occurrences b before) → ((b : ℕ) → Contains now b → Contains used b) → SettlesList sets later before now → AreUsed later used }

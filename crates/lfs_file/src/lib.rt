@@ -1,9 +1,10 @@
 // SPDX-License-Identifier: BSD-3-Clause
-//! The bytes of files: skip lists of blocks on a device, and the contents of a file that is open
-//! for writing.
+//! The bytes of files: CTZ skip lists on a device, and the contents of a file that is open for
+//! writing.
 //!
-//! Short contents are in memory. Longer ones are in a finished list, or in a list in hand over a
-//! finished one. The only buffer of contents is the one block of an extender.
+//! Short contents are in memory. Longer ones are in a stored list, or in a draft: a new list with
+//! the first bytes, over the old list with the others. At most one block of contents is buffered,
+//! in an extender.
 #![tactic(auto)]
 
 mod block;

@@ -1,4 +1,4 @@
-// Cuts of finished lists.
+// Cuts of stored lists.
 
 ghost use Rattle.std.specs.Prelude.{◌≤◌, take, IfOk};
 ghost use Rattle.lfs_device.specs.DeviceCalls.{ReadsOrIo};
@@ -12,13 +12,10 @@ use crate::{blocks_for, head_of_front};
 use lfs_blocks::BlockMap;
 use lfs_device::{BlockDevice, Error};
 
-/// Cuts a finished list to its first bytes, at least one. Both lists share their blocks. Later
-/// blocks are no longer in flight.
+/// Cuts a stored list to its first `keep` bytes, from 1 to its size. Both lists share their blocks.
+/// Blocks behind the cut are no longer in flight. Allocates and writes nothing.
 ///
-/// The caller's condition is that the list has at least so many bytes. The call takes no memory,
-/// and writes nothing.
-///
-/// Errors: `Io` where the device failed.
+/// Errors: `Io` if the device failed.
 pub(crate) fn shorten_stored_list<D: BlockDevice>(
     dev: &mut D,
     map: &mut BlockMap,

@@ -1,4 +1,4 @@
-// Ends of lists in hand.
+// The completion of drafts.
 
 ghost use Rattle.std.specs.Prelude.{◌≡◌, ◌≤◌, ◌+◌, if◌then◌else◌, [], drop, length, true, OnOk, IfOk};
 ghost use Rattle.lfs_model.specs.layers.BlockSets.{used_count};
@@ -21,7 +21,7 @@ use lfs_blocks::BlockMap;
 use lfs_device::{BlockDevice, Error};
 use std::alloc::Global;
 
-// Releases the blocks of a base from an index on, where some may be in flight.
+// Releases the blocks of an old list from an index on, if any may be in flight.
 pub(crate) fn release_base_from<D: BlockDevice>(
     dev: &mut D,
     map: &mut BlockMap,
@@ -44,13 +44,12 @@ pub(crate) fn release_base_from<D: BlockDevice>(
     Ok(())
 }
 
-/// Ends a list in hand: copies the remaining bytes of its base, writes its last block, and releases
-/// the base's own blocks. The contents stay.
+/// Completes a draft: copies the remaining bytes of its old list, writes its last block, and
+/// releases the blocks of the old list alone that are in flight. The contents don't change.
 ///
-/// The caller's condition is that there are as many free blocks as the remaining bytes of the base
-/// take.
+/// Requires enough free blocks for the bytes that are copied.
 ///
-/// Errors: `NoMemory` where memory isn't granted. `Io` where the device failed.
+/// Errors: `NoMemory` if memory isn't granted, `Io` if the device failed.
 pub(crate) fn end_unfinished_list<D: BlockDevice>(
     alloc: Global,
     dev: &mut D,

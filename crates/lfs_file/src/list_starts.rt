@@ -1,4 +1,4 @@
-// Lists that are begun over finished ones.
+// Drafts, started over stored lists.
 
 ghost use Rattle.std.specs.Prelude.{◌≡◌, ◌≤◌, IfOk};
 ghost use Rattle.lfs_device.specs.DeviceCalls.{ReadsOnly, ReportsIoNoMemory};
@@ -13,11 +13,12 @@ use crate::writes::PendingList;
 use lfs_device::{BlockDevice, Error};
 use std::alloc::Global;
 
-/// Begins a list with the first `keep` bytes of a finished one, over it. The contents stay.
+/// Starts a draft over a stored list, with the list's first `keep` bytes as its own. The contents
+/// don't change.
 ///
-/// The caller's condition is that the list has at least so many bytes.
+/// Requires that the list has at least `keep` bytes.
 ///
-/// Errors: `NoMemory` where memory for a block isn't granted. `Io` where the device failed.
+/// Errors: `NoMemory` if memory for a block isn't granted, `Io` if the device failed.
 pub(crate) fn begin_over_finished<D: BlockDevice>(
     alloc: Global,
     dev: &mut D,

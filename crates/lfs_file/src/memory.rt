@@ -1,4 +1,4 @@
-// Contents that are kept in memory.
+// Contents in memory.
 
 ghost use Rattle.std.specs.Prelude.{◌≡◌, ◌≤◌, ◌<◌, ◌+◌, false, length, take, IfOk};
 ghost use Rattle.lfs_model.specs.format.Blocks.{Blocks};
@@ -20,12 +20,12 @@ use lfs_blocks::BlockMap;
 use lfs_device::{BlockDevice, Error};
 use std::alloc::Global;
 
-/// Loads the first bytes of a finished list into the buffer of an extender, for contents that are
-/// kept in memory.
+/// Loads the first `keep` bytes of a stored list into the buffer of a new extender, for contents in
+/// memory.
 ///
-/// The caller's condition is that the list has at least so many bytes, and that a block has more.
+/// Requires that the list has at least `keep` bytes, and that a block has more.
 ///
-/// Errors: `NoMemory` where memory for a block isn't granted. `Io` where the device failed.
+/// Errors: `NoMemory` if memory for a block isn't granted, `Io` if the device failed.
 pub fn load_first_bytes<D: BlockDevice>(
     alloc: Global,
     dev: &mut D,
@@ -51,7 +51,7 @@ pub fn load_first_bytes<D: BlockDevice>(
     Ok(list)
 }
 
-/// Makes bytes in memory alone the beginning of a list, over no base.
+/// Turns contents in memory into a draft over no old list.
 pub(crate) fn list_without_base(list: Extender) -> PendingList
     ensures begun { (map : BlockStates) (disk : Blocks) (now : Geometry) → IsInMemory map disk now list → IsUnfinishedTo map disk now result (length (buffered_bytes list)) (buffered_bytes list) }
     ensures base { (result.base.size ≡ 0) × (result.base.in_flight ≡ false) }
@@ -68,12 +68,12 @@ pub(crate) fn list_without_base(list: Extender) -> PendingList
     }
 }
 
-/// Writes bytes, at least one, at a place of contents that were in memory and end before them. A
-/// list in hand, over no base, then has all contents.
+/// Writes at least one byte at an offset of contents in memory, which then end with these bytes.
+/// Returns a draft of all contents, over no old list.
 ///
-/// The caller's condition is that there are as many free blocks as the bytes take.
+/// Requires enough free blocks for the contents.
 ///
-/// Errors: `NoMemory` where memory isn't granted. `Io` where the device failed.
+/// Errors: `NoMemory` if memory isn't granted, `Io` if the device failed.
 pub(crate) fn begin_from_memory<D: BlockDevice>(
     alloc: Global,
     dev: &mut D,

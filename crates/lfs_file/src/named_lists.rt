@@ -1,4 +1,4 @@
-// Lists that a commit names.
+// The map once a commit names a list.
 
 ghost use Rattle.std.specs.Prelude.{◌≡◌, ◌≤◌, ◌<◌, ◌+◌, ◌-◌, ◌*◌, ◌∷◌, ◌++◌, ℕ, [], drop, length, OnOk};
 ghost use Rattle.lfs_model.specs.layers.BlockSets.{Used};
@@ -28,7 +28,7 @@ fn make_block_used(map: &mut BlockMap, block: u32)
     map.mark(block);
 }
 
-// Makes a block used, or free.
+// Makes a block used or free, whatever its state.
 fn set_used(map: &mut BlockMap, block: u32, used: bool)
     requires { block < length map.old }
     ensures { SetsState (used_or_free used) map.old map.new (block ∷ []) }
@@ -40,7 +40,7 @@ fn set_used(map: &mut BlockMap, block: u32, used: bool)
     map.release(block);
 }
 
-// Makes each block of a list from an index on used, or free, the last one first.
+// Makes the blocks of a list from an index on used or free, the last one first.
 fn set_list_from<D: BlockDevice>(
     dev: &mut D,
     map: &mut BlockMap,
@@ -66,14 +66,14 @@ fn set_list_from<D: BlockDevice>(
     Ok(())
 }
 
-/// Settles a finished list after a commit that names it. Its blocks are used, and those that only
-/// the list before it had are free. Blocks that both lists have are used before.
+/// Settles a stored list in the map, once a commit names it: its blocks become used, and those of
+/// the file's list `before` alone become free. Blocks of both lists must be used before the call.
 ///
-/// Either list may have no bytes, and then has no block. The blocks that both share at their
-/// beginnings aren't read, and each other one at most twice.
+/// A list of no bytes has no block. The blocks that the lists share at their beginnings aren't
+/// read, and each other one is read at most twice.
 ///
-/// Errors: `Io` where the device failed. The map is of no use for these blocks then, and the image
-/// has to be read anew.
+/// Errors: `Io` if the device failed. The states of these blocks are then unspecified, so the
+/// caller reads the image again.
 pub fn settle_list<D: BlockDevice>(
     dev: &mut D,
     map: &mut BlockMap,

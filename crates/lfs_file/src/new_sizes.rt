@@ -1,4 +1,4 @@
-// Contents that get another size.
+// Changes of the contents' size.
 
 ghost use Rattle.std.specs.Prelude.{◌≡◌, ◌≤◌, ◌<◌, ◌+◌, ◌^◌, length, take, true, false, IfOk};
 ghost use Rattle.lfs_model.specs.layers.BlockSets.{used_count};
@@ -29,7 +29,7 @@ use lfs_blocks::BlockMap;
 use lfs_device::{BlockDevice, Error};
 use std::alloc::Global;
 
-// Fills contents that were in memory with zeros up to a size, in a list in hand over no base.
+// Pads contents in memory with zeros up to a size, in a draft over no old list.
 fn fill_memory_contents<D: BlockDevice>(
     alloc: Global,
     dev: &mut D,
@@ -49,7 +49,7 @@ fn fill_memory_contents<D: BlockDevice>(
     Ok(hand)
 }
 
-// Cuts contents in memory to a size, or fills them up to it.
+// Cuts or zero-pads contents in memory to a size.
 fn truncate_in_memory<D: BlockDevice>(
     alloc: Global,
     dev: &mut D,
@@ -73,8 +73,8 @@ fn truncate_in_memory<D: BlockDevice>(
     Ok(WriterContents::InMemory(list))
 }
 
-// Cuts a finished list to its first bytes, which come into memory and are filled up with zeros.
-// Blocks in flight are released.
+// Cuts a stored list to its first bytes, loaded into memory and zero-padded to a size. Blocks in
+// flight are released.
 fn shorten_to_memory<D: BlockDevice>(
     alloc: Global,
     dev: &mut D,
@@ -95,7 +95,7 @@ fn shorten_to_memory<D: BlockDevice>(
     Ok(list)
 }
 
-// Fills a finished list with zeros up to a size, in a list in hand over it.
+// Pads a stored list with zeros up to a size, in a draft over it.
 fn fill_finished_list<D: BlockDevice>(
     alloc: Global,
     dev: &mut D,
@@ -116,7 +116,7 @@ fn fill_finished_list<D: BlockDevice>(
     Ok(hand)
 }
 
-// Cuts a finished list to a size, or fills it up to it.
+// Cuts or zero-pads a stored list to a size.
 fn truncate_finished_list<D: BlockDevice>(
     alloc: Global,
     dev: &mut D,
@@ -145,7 +145,7 @@ fn truncate_finished_list<D: BlockDevice>(
     Ok(WriterContents::Finished(cut))
 }
 
-// Fills contents in hand with zeros up to a size.
+// Pads a draft with zeros up to a size.
 fn lengthen_unfinished_list<D: BlockDevice>(
     alloc: Global,
     dev: &mut D,
@@ -168,7 +168,7 @@ fn lengthen_unfinished_list<D: BlockDevice>(
     Ok(hand)
 }
 
-// Ends the list in hand, and cuts it.
+// Completes a draft, and cuts the stored list.
 fn shorten_unfinished_list<D: BlockDevice>(
     alloc: Global,
     dev: &mut D,
@@ -188,7 +188,7 @@ fn shorten_unfinished_list<D: BlockDevice>(
     Ok(cut)
 }
 
-// Cuts contents in hand to a size, or fills them up to it.
+// Cuts or zero-pads a draft to a size.
 fn truncate_unfinished_list<D: BlockDevice>(
     alloc: Global,
     dev: &mut D,
@@ -214,13 +214,13 @@ fn truncate_unfinished_list<D: BlockDevice>(
     Ok(cut)
 }
 
-/// Cuts contents to a size in bytes, or fills them up to it with zeros.
+/// Sets the size of the contents, in bytes: cuts them, or pads them with zeros.
 ///
-/// Contents within the device's inline limit are kept in memory. The caller's condition is that a
-/// change of the size finds as many free blocks as the form of the contents may take.
+/// Contents of at most the device's inline limit are then in memory. If the size changes, the
+/// caller must have kept free as many blocks as the contents' form may need.
 ///
-/// Errors: `Io` where the device failed. `NoMemory` where memory for a block isn't granted. After
-/// either the contents are dropped.
+/// Errors: `Io` if the device failed, `NoMemory` if memory for a block isn't granted. After either
+/// the contents are lost.
 pub fn truncate_contents<D: BlockDevice>(
     alloc: Global,
     dev: &mut D,

@@ -1,4 +1,4 @@
-// Lists in hand that continue at another place.
+// Drafts that continue at another offset.
 
 ghost use Rattle.std.specs.Prelude.{◌≡◌, ◌≢◌, ◌≤◌, ◌<◌, ◌+◌, ◌^◌, length, min, IfOk};
 ghost use Rattle.lfs_model.specs.layers.BlockSets.{used_count};
@@ -18,13 +18,13 @@ use lfs_blocks::BlockMap;
 use lfs_device::{BlockDevice, Error};
 use std::alloc::Global;
 
-/// Returns a list in hand that ends at a place within the contents. This is the given list, where
-/// it ends there, else another one over it. The contents stay.
+/// Returns a draft whose new list ends at an offset within the contents. If this one doesn't, it is
+/// completed, and another draft is started over it. The contents don't change.
 ///
-/// The caller's condition is room where the list has to be ended: as many free blocks as the
-/// remaining bytes of its base take.
+/// If the draft has to be completed, requires enough free blocks for the remaining bytes of its old
+/// list.
 ///
-/// Errors: `NoMemory` where memory isn't granted. `Io` where the device failed.
+/// Errors: `NoMemory` if memory isn't granted, `Io` if the device failed.
 pub(crate) fn restart_list_at<D: BlockDevice>(
     alloc: Global,
     dev: &mut D,
@@ -48,13 +48,13 @@ pub(crate) fn restart_list_at<D: BlockDevice>(
     Ok(hand)
 }
 
-/// Writes bytes, at least one, at a place; zeros fill a gap between the contents' end and the
-/// place.
+/// Writes at least one byte at offset `place` of a draft. If the offset is past the contents' end,
+/// zeros fill the gap.
 ///
-/// The caller's condition is that there is room for the list in hand, and for a second one where
-/// the write doesn't continue it.
+/// Requires enough free blocks for the draft, and for a second one if the write doesn't continue
+/// this one.
 ///
-/// Errors: `NoMemory` where memory isn't granted. `Io` where the device failed.
+/// Errors: `NoMemory` if memory isn't granted, `Io` if the device failed.
 pub(crate) fn write_at_position<D: BlockDevice>(
     alloc: Global,
     dev: &mut D,

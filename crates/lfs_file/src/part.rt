@@ -1,4 +1,4 @@
-/// Bytes within one block of a list: so many from an offset in the block on.
+/// A range of bytes within one block of a list: `len` bytes from `offset` in the block on.
 #[derive(Clone, Copy)]
 pub struct BlockPart {
     pub block: u32,

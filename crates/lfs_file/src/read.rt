@@ -10,7 +10,7 @@ use crate::known::KnownBlocks;
 use byteorder::{ByteOrder, LittleEndian};
 use lfs_device::{BlockDevice, Error};
 
-// Reads pointer k of a block that a list names. Returns `Corrupt` where there is no such block.
+// Returns pointer `k` of a block. `Corrupt` if the device has no such block.
 pub(crate) fn read_block_pointer<D: BlockDevice>(
     dev: &mut D,
     block: u32,
@@ -31,7 +31,7 @@ pub(crate) fn read_block_pointer<D: BlockDevice>(
     Ok(LittleEndian::read_u32(&word))
 }
 
-// Returns the block at an index of a list, from the head at another.
+// Returns the block at an index of a list whose head is at the index `last`.
 pub(crate) fn find_block_at<D: BlockDevice>(
     dev: &mut D,
     head: u32,
@@ -48,8 +48,7 @@ pub(crate) fn find_block_at<D: BlockDevice>(
     KnownBlocks::new().find_block(dev, head, last, index)
 }
 
-// Returns the block that pointer 0 of a block names. Returns `Corrupt` where there is no such
-// block.
+// Returns the block that pointer 0 of a block names. `Corrupt` if the device has no such block.
 pub(crate) fn read_block_before<D: BlockDevice>(dev: &mut D, block: u32) -> Result<u32, Error>
     requires { block < (D.geometry dev.old).block_count }
     ensures word { IfOk result (λ word. word ≡ word_at (block_bytes (D.blocks dev.old) block) 0) }
@@ -65,11 +64,10 @@ pub(crate) fn read_block_before<D: BlockDevice>(dev: &mut D, block: u32) -> Resu
     Ok(word)
 }
 
-/// Returns the last of the `index` blocks of a list that come before `block`, and 0 where there are
-/// none.
+/// Returns the block before `block` in a list: the one that its pointer 0 names. `count` is how
+/// many blocks come before it; if it is 0, returns 0 without a read.
 ///
-/// Errors: `Corrupt` where the block's pointer 0 leads out of the device. `Io` where the device
-/// failed.
+/// Errors: `Corrupt` if the pointer leads out of the device, `Io` if the device failed.
 pub fn head_before_block<D: BlockDevice>(dev: &mut D, block: u32, count: u32) -> Result<u32, Error>
     requires { block < (D.geometry dev.old).block_count }
     ensures word { IfOk result (λ word. 0 < count → word ≡ word_at (block_bytes (D.blocks dev.old) block) 0) }
@@ -85,7 +83,7 @@ pub fn head_before_block<D: BlockDevice>(dev: &mut D, block: u32, count: u32) ->
     Ok(head)
 }
 
-// Returns with how many pointers a block begins.
+// Returns how many pointers the list's block at an index begins with.
 pub(crate) fn pointer_count_at(index: u32) -> u32
     ensures { result ≡ pointer_count index }
 {
@@ -96,7 +94,7 @@ pub(crate) fn pointer_count_at(index: u32) -> u32
     }
 }
 
-// Reads so many bytes of a block into the buffer, over those from `start` on.
+// Reads `len` bytes of a block into the buffer, from `start` on.
 pub(crate) fn read_into_range<D: BlockDevice>(
     dev: &mut D,
     block: u32,
@@ -117,14 +115,14 @@ pub(crate) fn read_into_range<D: BlockDevice>(
 }
 
 /// Reads a file's bytes from position `pos` on into the buffer, as many as the buffer and the
-/// `size` allow. Returns the number of bytes. The file's list has its last block at `head`.
+/// file's `size` allow. Returns how many. The file's list has its last block at `head`.
 ///
-/// Errors: `Corrupt` where a pointer leads out of the device; a list that isn't well formed may
-/// also give some bytes. `Io` where the device failed. After an error the buffer may hold any
-/// bytes.
+/// The walk follows the longest pointers that don't overshoot to the last block of the read
+/// (DESIGN.md of littlefs, "CTZ skip-lists"). Each block before it costs one pointer.
 ///
-/// The last block is found by the highest pointers that don't overshoot, as DESIGN.md of littlefs
-/// describes ("CTZ skip-lists"). Each block before it is found by one pointer.
+/// Errors: `Corrupt` if a pointer leads out of the device, which a well-formed list never does; a
+/// list that isn't well formed may also return any bytes. `Io` if the device failed. After an error
+/// the buffer may hold any bytes.
 pub fn read_at<D: BlockDevice>(
     dev: &mut D,
     head: u32,
@@ -137,8 +135,8 @@ pub fn read_at<D: BlockDevice>(
         IfOk result (λ n. take n buf.new ≡ slice_range (list_bytes (D.blocks dev.old) (D.geometry dev.old).block_size head size) pos (pos + n)) }
     ensures corrupt { IsErrOf result Error.Corrupt → ¬ IsSkipList (D.blocks dev.old) (D.geometry dev.old).block_size head size }
     ensures reading { ReadsOrCorrupt D.BlockDevice dev.old dev.new result }
-    // The number of steps to the last block is at most the logarithm of the list's length. Each
-    // block takes two reads.
+    // The walk to the last block costs at most twice the logarithm of the list's number of blocks.
+    // Then each block costs two reads.
     ensures few { (m first last off end : ℕ) → block_count_for (D.geometry dev.old).block_size size ≤ 2 ^ m
         → IsBytePlace (D.geometry dev.old).block_size pos first off
         → IsBytePlace (D.geometry dev.old).block_size (pos + min (length buf.old) (size - pos) - 1) last end

@@ -1,4 +1,4 @@
-// Blocks in flight that are released.
+// Releases of blocks in flight.
 
 ghost use Rattle.std.specs.Prelude.{◌≡◌, ◌≤◌, ◌<◌, ◌∷◌, [], length, drop, OnOk};
 ghost use Rattle.lfs_model.specs.format.SkipLists.{AreListBlocks, blocks_to_head};
@@ -10,7 +10,7 @@ use crate::head_before_block;
 use lfs_blocks::BlockMap;
 use lfs_device::{BlockDevice, Error};
 
-// Releases a block in flight. A used block stays used.
+// Releases a block if it is in flight. A used block stays used.
 pub(crate) fn release_block(map: &mut BlockMap, block: u32)
     requires { block < length map.old }
     ensures { ReleasesInFlight map.old map.new (block ∷ []) }
@@ -20,11 +20,10 @@ pub(crate) fn release_block(map: &mut BlockMap, block: u32)
     }
 }
 
-/// Releases the blocks of a list from an index on, the last one first. Used blocks stay used.
+/// Releases the blocks of a list from an index on that are in flight, the last one first. Used
+/// blocks stay used. The list has `count` blocks, the last one at `head`.
 ///
-/// The list has so many blocks, up to the head.
-///
-/// Errors: `Io` where the device failed.
+/// Errors: `Io` if the device failed.
 pub(crate) fn release_list_from<D: BlockDevice>(
     dev: &mut D,
     map: &mut BlockMap,

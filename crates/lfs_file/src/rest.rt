@@ -1,12 +1,12 @@
-/// Where those bytes of a list are that do not fill a block.
+/// The partial last block of a list: the bytes that don't fill a block, by where they are.
 #[derive(Clone, Copy)]
 pub enum RestLocation {
-    /// There are no such bytes.
+    /// There is none: the list ends with a full block.
     Closed,
-    /// The bytes are in that block of another list, and are copied when more bytes come.
+    /// On the device, in this block of another list. It is copied once more bytes are appended.
     Shared(u32),
-    /// The bytes are in memory, for that block, which was handed in.
+    /// In memory. It will be programmed to this block, which was passed in.
     Handed(u32),
-    /// The bytes are in memory, for no block yet. They are all the bytes of the list.
+    /// In memory, without a block. The list has no other bytes.
     Held,
 }

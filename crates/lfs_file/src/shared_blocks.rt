@@ -10,7 +10,7 @@ ghost use Rattle.lfs_file.specs.SharedBlocks.{IsSharedCount, unshared_count};
 use crate::head_before_block;
 use lfs_device::{BlockDevice, Error};
 
-// Returns the last one of the first `index` blocks of a list.
+// Returns the last one of a list's first `index` blocks.
 fn list_block_before<D: BlockDevice>(
     dev: &mut D,
     head: u32,
@@ -31,13 +31,12 @@ fn list_block_before<D: BlockDevice>(
     Ok(block)
 }
 
-/// Returns how many blocks two lists share at their beginnings. Each list has so many blocks, up to
-/// its head.
+/// Returns how many blocks two lists share at their beginnings. `count` and `other_count` are the
+/// lists' numbers of blocks, `head` and `other` their last blocks.
 ///
-/// The call takes one read for each block that the lists don't share, and none where one of them has
-/// no block.
+/// Costs one read for each block that the lists don't share, and none if one of them has no block.
 ///
-/// Errors: `Io` where the device failed.
+/// Errors: `Io` if the device failed.
 pub(crate) fn shared_block_count<D: BlockDevice>(
     dev: &mut D,
     head: u32,

@@ -1,6 +1,7 @@
-// Finished lists.
+// Stored lists.
 
-/// A finished list: its last block and its size, and whether blocks of it may be in flight.
+/// A stored list: a skip list that is whole on the device. `head` is its last block, `size` its
+/// size in bytes, and `in_flight` says whether blocks of it may be in flight.
 ///
 /// A list of no bytes has no block.
 #[derive(Clone, Copy, Debug, PartialEq, Eq)]

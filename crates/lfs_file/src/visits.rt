@@ -12,7 +12,7 @@ use crate::blocks_for;
 use crate::way::{WalkedBlocks, copy_pointers, find_first_block, word_of_slice};
 use lfs_device::{BlockDevice, Error};
 
-// Returns whether a block is the one that the pointers to its place name.
+// Returns whether `block` is the one that all later blocks' pointers to its index name.
 fn named_by_later(words: &[u8], block: u32, index: u32, last: u32) -> bool
     requires order { index ≤ last }
     requires room { length words.now ≡ 128 }
@@ -31,9 +31,9 @@ fn named_by_later(words: &[u8], block: u32, index: u32, last: u32) -> bool
     true
 }
 
-// Returns the block that pointer 0 of a block names, and notes the block's pointers. The call takes
-// one read, or none where the block is on the way. Returns `Corrupt` where the block isn't one of
-// the device, or isn't the one that the pointers to its place name.
+// Returns the block that pointer 0 of `block` names, and copies the pointers of `block` to `words`.
+// Costs one read, or none if the block was on the walk. `Corrupt` if the block isn't on the device,
+// or isn't the one that the pointers to its index name.
 fn check_block<D: BlockDevice>(
     dev: &mut D,
     block: u32,
@@ -59,15 +59,14 @@ fn check_block<D: BlockDevice>(
 /// Visits each block of a file's list once, the last one first, and checks the list. The list has
 /// its last block at `head` and holds `size` bytes.
 ///
-/// Returns Ok where the list is well formed (DESIGN.md of littlefs, "CTZ skip-lists"). It then
-/// holds 1 to 2,147,483,647 bytes. Each block is on the device, and none comes twice. Each pointer
-/// names the block that the rule gives.
+/// Returns Ok only if the list is well formed (DESIGN.md of littlefs, "CTZ skip-lists"): it holds 1
+/// to 2,147,483,647 bytes, its blocks are on the device and all different, and each pointer names
+/// the block that the rule says.
 ///
-/// Each block but the first one is read once, and the first one isn't read. The call takes no
-/// memory but some 4 KiB of the stack.
+/// Costs fewer reads than the list has blocks. Allocates nothing, but needs some 4 KiB of stack.
 ///
-/// Errors: `Corrupt` where the list isn't well formed; some blocks may have been visited then. `Io`
-/// where the device failed.
+/// Errors: `Corrupt` only if the list isn't well formed; some blocks may have been visited by then.
+/// `Io` if the device failed.
 pub fn walk<D: BlockDevice, F: FnMut(u32)>(
     dev: &mut D,
     head: u32,
@@ -90,7 +89,7 @@ pub fn walk<D: BlockDevice, F: FnMut(u32)>(
     if last >= geometry.block_count {
         return Err(Error::Corrupt);
     }
-    // If any block came twice, the first one would: equal blocks have equal blocks before them.
+    // If any block occurred twice, the first one would: equal blocks have equal blocks before them.
     let mut way = WalkedBlocks::new();
     let first = find_first_block(dev, head, last, &mut way)?;
     let mut words = [0; 128];

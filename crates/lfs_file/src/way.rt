@@ -1,4 +1,4 @@
-// The way from a list's last block back to its first one.
+// The walk from a list's last block back to its first.
 
 ghost use Rattle.std.specs.Prelude.{◌≡◌, ◌≤◌, ◌<◌, ◌+◌, ◌*◌, ◌↔◌, length, OnOk, IfOk, IfErr, IsErrOf, IsTrue, slice_index};
 ghost use Rattle.lfs_device.specs.DeviceCalls.{ReadsOnly, ReportsFaults};
@@ -13,8 +13,8 @@ use crate::read::{pointer_count_at, read_into_range};
 use byteorder::{ByteOrder, LittleEndian};
 use lfs_device::{BlockDevice, Error};
 
-// The blocks on the way, each with its pointers, at the number of zeros in which its index ends. No
-// two indices end in as many zeros.
+// The blocks on the walk with their pointers, each in the row that is the number of trailing zeros
+// of its index. No two blocks on the walk have the same row.
 #[derive(Drop)]
 pub(crate) struct WalkedBlocks {
     pub blocks: [u32; 32],
@@ -23,7 +23,7 @@ pub(crate) struct WalkedBlocks {
 }
 
 impl WalkedBlocks {
-    // Makes a way without blocks.
+    // Makes an empty walk.
     pub fn new() -> Self {
         Self {
             blocks: [0; 32],
@@ -32,7 +32,7 @@ impl WalkedBlocks {
     }
 }
 
-// Returns the word at a place.
+// Returns the little-endian word at an offset.
 pub(crate) fn word_of_slice(words: &[u8], at: usize) -> u32
     requires { at + 4 ≤ length words.now }
     ensures { result ≡ word_at words.now at }
@@ -40,7 +40,7 @@ pub(crate) fn word_of_slice(words: &[u8], at: usize) -> u32
     LittleEndian::read_u32(&words[at..at + 4])
 }
 
-// Returns whether the block at this index is on the way.
+// Returns whether the block at this index is on the walk.
 fn is_index_visited(index: u32, last: u32) -> bool
     requires some { 0 < index }
     requires order { index ≤ last }
@@ -49,8 +49,8 @@ fn is_index_visited(index: u32, last: u32) -> bool
     last - index < 1 << index.trailing_zeros()
 }
 
-// Returns the first block of a list, and notes the blocks on the way to it. Each block of the way
-// is read once.
+// Returns the first block of a list, and notes the blocks on the walk to it. Each of them is read
+// once.
 pub(crate) fn find_first_block<D: BlockDevice>(
     dev: &mut D,
     head: u32,
@@ -84,8 +84,8 @@ pub(crate) fn find_first_block<D: BlockDevice>(
     Ok(block)
 }
 
-// Notes the pointers of a block of the list over the words. The call takes one read where the block
-// isn't on the way.
+// Copies the pointers of a block of the list to `words`. Costs one read if the block isn't on the
+// walk.
 pub(crate) fn copy_pointers<D: BlockDevice>(
     dev: &mut D,
     block: u32,

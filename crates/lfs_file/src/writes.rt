@@ -1,4 +1,4 @@
-// Bytes that are written at a place.
+// Drafts, and writes to them.
 
 ghost use Rattle.std.specs.Prelude.{◌≡◌, ◌<◌, ◌+◌, ◌++◌, ◌^◌, ◌&&◌, ◌==◌, length, OnOk};
 ghost use Rattle.std.specs.Bool.{OnFalse, OnTrue};
@@ -19,9 +19,9 @@ use lfs_blocks::BlockMap;
 use lfs_device::{BlockDevice, Error};
 use std::alloc::Global;
 
-/// A list in hand, which has the first bytes, over a base, which has the others.
-///
-/// Both share their first `shared` blocks. A base of no bytes is none.
+/// A draft: a list being rewritten. `list` is the new list, with the first bytes of the contents;
+/// `base` is the old list, which has the bytes behind them. Both share their first `shared` blocks.
+/// A `base` of no bytes stands for none.
 #[derive(Drop)]
 pub struct PendingList {
     pub list: Extender,
@@ -29,10 +29,10 @@ pub struct PendingList {
     pub shared: u32,
 }
 
-/// Writes bytes in memory at a place where the list in hand ends, if the block in hand isn't full
-/// then. Returns whether it did; otherwise nothing changes.
+/// Writes bytes at offset `place` in memory alone, if the draft's new list ends there and its
+/// partial block isn't full with them. Returns false, and changes nothing, if it can't.
 ///
-/// The caller's condition is that the bytes end before 2,147,483,648.
+/// Requires that the bytes end before 2,147,483,648.
 pub(crate) fn buffer_within_block(hand: &mut PendingList, place: u32, bytes: &[u8]) -> bool
     requires { place + length bytes.now < 2 ^ 31 }
     ensures fits { result ≡ ((growing_size hand.old.list == place) && fits_unwritten_block hand.old.list (length bytes.now)) }
@@ -42,12 +42,12 @@ pub(crate) fn buffer_within_block(hand: &mut PendingList, place: u32, bytes: &[u
     hand.list.size() == place && hand.list.push_within_block(bytes)
 }
 
-/// Writes bytes, at least one, at the end of those in hand.
+/// Writes at least one byte at the end of the draft's new list.
 ///
-/// The caller's condition is that there are as many free blocks as the bytes take.
+/// Requires enough free blocks for the bytes.
 ///
-/// Errors: `Io` where the device failed. `NoMemory` where memory isn't granted. After either the
-/// list in hand can only be dropped.
+/// Errors: `Io` if the device failed, `NoMemory` if memory isn't granted. After either the draft
+/// can only be dropped.
 pub(crate) fn append_to_unfinished<D: BlockDevice>(
     alloc: Global,
     dev: &mut D,
@@ -67,13 +67,13 @@ pub(crate) fn append_to_unfinished<D: BlockDevice>(
     Ok(())
 }
 
-/// Writes bytes, at least one, at a place where the list in hand ends, or after the contents with
-/// zeros between.
+/// Writes at least one byte at offset `place`, at the end of the draft's new list. If the offset is
+/// past the contents' end, zeros fill the gap.
 ///
-/// The caller's condition is that there are as many free blocks as the bytes take.
+/// Requires enough free blocks for the bytes.
 ///
-/// Errors: `Io` where the device failed. `NoMemory` where memory isn't granted. After either the
-/// list in hand can only be dropped.
+/// Errors: `Io` if the device failed, `NoMemory` if memory isn't granted. After either the draft
+/// can only be dropped.
 pub(crate) fn fill_and_write<D: BlockDevice>(
     alloc: Global,
     dev: &mut D,

@@ -1,4 +1,4 @@
-// Gaps that are filled with zeros.
+// Gaps, filled with zeros.
 
 ghost use Rattle.std.specs.Prelude.{◌<◌, ◌+◌, replicate, OnOk};
 ghost use Rattle.lfs_model.specs.session.Writers.{written_contents};
@@ -15,12 +15,12 @@ use lfs_blocks::BlockMap;
 use lfs_device::{BlockDevice, Error};
 use std::alloc::Global;
 
-/// Writes so many zeros at the end of the bytes in hand.
+/// Writes `count` zeros at the end of the draft's new list.
 ///
-/// The caller's condition is that there are as many free blocks as the zeros take.
+/// Requires enough free blocks for the zeros.
 ///
-/// Errors: `Io` where the device failed. `NoMemory` where memory isn't granted. After either the
-/// list in hand can only be dropped.
+/// Errors: `Io` if the device failed, `NoMemory` if memory isn't granted. After either the draft
+/// can only be dropped.
 pub(crate) fn write_zeros<D: BlockDevice>(
     alloc: Global,
     dev: &mut D,

@@ -18,7 +18,7 @@ pub record HasGeometry (geometry : Geometry) (disk : Disk) : Type 0 where
   pub profile : geometry.profile ≡ disk.profile
   pub count : geometry.block_count ≡ block_count disk
 
--- work that is called with a device and a map, and returns an X
+-- work that is called with a device and a map and returns an X
 abbrev pub DeviceWork : Type 0 → Type 0 → Type 0 → Type 1
 DeviceWork F D X = Once F (MutBor D × (MutBor BlockStates × Unit {0})) (X × (MutBor D × (MutBor BlockStates × Unit {0})))
 
@@ -32,7 +32,7 @@ pub record BelongToThread {D : Type 0} (g : Ghosts D) (t : KeptThread) (device :
 pub record CanRunWork {F D X : Type 0} (call : DeviceWork F D X) (work : F) (device : D) (map : BlockStates) : Type 0 where
   pub can : (p : MutBor D) (q : MutBor BlockStates) → p.now ≡ device → q.now ≡ map → call.pre work (p, (q, tt))
 
--- a call of the work with this device and this map may return x, and leave `later` and `later_map`
+-- a call of the work with this device and this map may return x, and leave the device and the map as `later` and `later_map`
 pub record WorkMayReturn {F D X : Type 0} (call : DeviceWork F D X) (work : F) (device : D) (map : BlockStates) (x : X) (later : D) (later_map : BlockStates) : Type 0 where
   pub shown : MutBor D
   pub shows : shown.now ≡ device
@@ -44,7 +44,7 @@ pub record WorkMayReturn {F D X : Type 0} (call : DeviceWork F D X) (work : F) (
   pub leaves : left.now ≡ later
   pub leaves_map : left_map.now ≡ later_map
 
--- No used block changes. Of one of the thread's pairs the unprogrammed bytes stay so, and it stays used.
+-- No used block changes. The blocks of the thread's pairs stay used, and their unprogrammed bytes stay unprogrammed.
 pub record KeepsPairBlocks {D : Type 0} (g : Ghosts D) (t : KeptThread) (device : D) (map : BlockStates) (later : D) (later_map : BlockStates) : Type 0 where
   pub geometry : g.geometry later ≡ g.geometry device
   pub count : length (g.blocks later) ≡ length (g.blocks device)
@@ -53,8 +53,8 @@ pub record KeepsPairBlocks {D : Type 0} (g : Ghosts D) (t : KeptThread) (device 
   pub size : length later_map ≡ length map
   pub used : (b : ℕ) → Contains (pairs_blocks t.pairs) b → IsUsedBlock map b → IsUsedBlock later_map b
 
--- The work was called with the thread's device and map, and returned x. The thread has the device and the map that it left, and
--- its names are in the same order.
+-- The work was called with the thread's device and map, and returned x. The thread has the device and the map that the work left;
+-- the order of its names is the same.
 pub record HasRunWork {F D X : Type 0} (g : Ghosts D) (call : DeviceWork F D X) (work : F) (old : KeptThread) (x : X) (new : KeptThread) : Type 0 where
   pub device : D
   pub map : BlockStates

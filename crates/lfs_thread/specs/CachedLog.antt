@@ -1,4 +1,4 @@
--- The block of a pair that a thread lends.
+-- The cached log of a pair.
 use Rattle.std.specs.Prelude.{ℕ, ◌≡◌, ◌≤◌, ◌^◌, List, length, Option, Some, None}
 use Rattle.lfs_device.specs.Bytes.{ElementsAreBytes}
 use Rattle.lfs_model.specs.layers.Cache.{CachedBlocks, cached_bytes, cache_with}
@@ -23,11 +23,11 @@ abbrev pub reads_unless_cached : Option (List ℕ) → ℕ
 reads_unless_cached None = 1
 reads_unless_cached (Some bytes) = 0
 
--- The cached blocks once a pair's active block is the most recent one. The least recent one is dropped where there were eight.
+-- The cached blocks once a pair's active block is the most recent one. The least recent of eight blocks leaves the cache.
 abbrev pub loaded_cache : ThreadView → ℕ → CachedBlocks
 loaded_cache t index = cache_with t.cache (active_block_at t.kept.disk (thread_pair t.kept index).at) (disk_block t.kept.disk (active_block_at t.kept.disk (thread_pair t.kept index).at))
 
--- A block's log comes to that content. The block has at most 64 KiB.
+-- A block's log has this content. The block has at most 64 KiB.
 pub record IsContentLog (block : List ℕ) (content : PairContent) : Type 0 where
   pub raw : RawContent
   pub log : content_after empty_raw_content (block_entries block) ≡ Some raw

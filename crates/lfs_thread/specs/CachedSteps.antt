@@ -1,4 +1,4 @@
--- Steps of a pair whose active block is read through the cache.
+-- Commits and splits of a pair whose active block is read through the cache.
 use Rattle.std.specs.Prelude.{ℕ, ◌≡◌, List, None, Result, Ok, OnOk}
 use Rattle.lfs_device.specs.declared.device.BlockDevice.{Ghosts}
 use Rattle.lfs_device.specs.declared.error.Error.{Error}
@@ -12,19 +12,19 @@ use Rattle.lfs_pair.specs.Commits.{CanCommit, CommitsChanges, RefusesCommit}
 use Rattle.lfs_pair.specs.Split.{CanSplitPair, SplitsPair}
 use Rattle.lfs_thread.specs.Kept.{IsCacheCurrent}
 
--- The premises of a commit, and each cached block has the bytes that the device has.
+-- What a commit requires, and each cached block has the bytes that the device has.
 pub record CanCommitCached {D : Type 0} (g : Ghosts D) (dev : D) (cache : CachedBlocks) (pair : Pair) (changes : List ContentChange) : Type 0 where
   pub can : CanCommit (disk_of_blocks (g.geometry dev) (g.blocks dev)) (g.history dev) pair changes
   pub current : IsCacheCurrent (g.blocks dev) cache
 
--- A commit is done, or refused. Each cached block then has the bytes that the device has.
+-- A commit is done or refused. Each cached block then has the bytes that the device has.
 pub record CommitsCached {D : Type 0} (g : Ghosts D) (changes : List ContentChange) (old new : D) (was now : Pair) (cache : CachedBlocks) (result : Result Outcome Error) : Type 0 where
   pub done : result ≡ Ok Done
       → CommitsChanges (disk_of_blocks (g.geometry old) (g.blocks old)) (g.history old) changes was (disk_of_blocks (g.geometry new) (g.blocks new)) (g.history new) now
   pub full : result ≡ Ok Full → RefusesCommit g changes old new was now
   pub current : OnOk result (IsCacheCurrent (g.blocks new) cache)
 
--- The premises of a split. Each cached block has the bytes that the device has, and the fresh pair's blocks aren't cached.
+-- What a split requires. Each cached block has the bytes that the device has, and the fresh pair's blocks aren't cached.
 pub record CanSplitCached {D : Type 0} (g : Ghosts D) (dev : D) (cache : CachedBlocks) (pair : Pair) (fresh : ℕ × ℕ) (changes : List ContentChange) : Type 0 where
   pub can : CanSplitPair (disk_of_blocks (g.geometry dev) (g.blocks dev)) (g.history dev) pair fresh changes
   pub current : IsCacheCurrent (g.blocks dev) cache

@@ -1,4 +1,4 @@
--- A fresh pair comes behind another one in the thread: what a step does, and how its parts go.
+-- A fresh pair, put into the thread behind another one: the step as a whole, then its parts.
 use Rattle.std.specs.Prelude.{ℕ, ◌≡◌, ◌⊎◌, ◌<◌, ◌+◌, ◌%◌, ◌^◌, List, [], ◌∷◌, length, slice_set, Some}
 use Rattle.std.specs.List.{remove}
 use Rattle.std.specs.Option.{option_map}
@@ -21,16 +21,16 @@ use Rattle.lfs_thread.specs.ThreadSteps.{HasOldPair, KeepsSuperblockFirst, compl
 use Rattle.lfs_thread.specs.declared.joins.Behind.{Behind}
 use Rattle.lfs_thread.specs.declared.joins.Behind.TheVariants as kind
 
--- ---- what a step puts behind a pair
+-- ---- the content of the fresh pair
 
--- What is copied fits a pair, and is there.
+-- The pair that is copied exists and fits a pair.
 abbrev pub CanHold : KeptThread → ℕ → Behind → Type 0
 CanHold t index kind.Empty = Unit {0}
 CanHold t index kind.Slots = FitsInPair t.disk.block_size t.disk.page (thread_pair t index).content
 CanHold t index kind.Next = (index + 1 < length t.pairs) × FitsInPair t.disk.block_size t.disk.page (thread_pair t (index + 1)).content
 
--- What the fresh pair has: no slots and the tail of the pair at an index, or its slots, too, but not its delta, or all that the pair
--- after it has.
+-- The fresh pair's content: no slots and the tail of the pair at the index; or also its slots, without its delta; or the whole
+-- content of the next pair.
 abbrev pub content_behind : KeptThread → ℕ → Behind → PairContent
 content_behind t index kind.Empty = record { slots = []; tail = (thread_pair t index).content.tail; move = zero_gstate }
 content_behind t index kind.Slots = record (thread_pair t index).content { move = zero_gstate }
@@ -45,13 +45,13 @@ source_index index kind.Empty = index
 source_index index kind.Slots = index
 source_index index kind.Next = index + 1
 
--- the pairs with two in place of the one at an index, and of the next one where that is copied
+-- the pairs with two in place of the one at an index, and of the next one if that is copied
 abbrev pub pairs_joined : Behind → List Pair → ℕ → Pair → Pair → List Pair
 pairs_joined kind.Empty ps index p q = pairs_split ps index p q
 pairs_joined kind.Slots ps index p q = pairs_split ps index p q
 pairs_joined kind.Next ps index p q = slice_set (slice_set ps index p) (index + 1) q
 
--- the map with the blocks at an address free, where the next pair is copied
+-- the map with the blocks at an address free, if the next pair is copied
 abbrev pub map_without : Behind → BlockStates → ℕ × ℕ → BlockStates
 map_without kind.Empty sets at = sets
 map_without kind.Slots sets at = sets
@@ -63,8 +63,8 @@ HasNextRevision old index kind.Empty fresh disk = Unit {0}
 HasNextRevision old index kind.Slots fresh disk = pair_revision disk fresh ≡ option_map (λ r. (r + 1) % 2 ^ 32) (pair_revision old.disk (thread_pair old index).at)
 HasNextRevision old index kind.Next fresh disk = pair_revision disk fresh ≡ option_map (λ r. (r + 1) % 2 ^ 32) (pair_revision old.disk (thread_pair old (index + 1)).at)
 
--- A fresh pair has come into the thread: the pair has what the changes make, and the fresh pair comes after it, with what the
--- step says. A pair that was copied whole goes, and its blocks are free.
+-- A fresh pair was put into the thread: the pair at the index has the changed content, and the fresh pair follows it with the
+-- content of the step. A pair that was copied whole is gone, and its blocks are free.
 pub record IsJoined (old : KeptThread) (index : ℕ) (b : Behind) (fresh : ℕ × ℕ) (changes : List ContentChange) (new : KeptThread) : Type 0 where
   pub content : PairContent
   pub made : complete_after old index changes ≡ Some content
@@ -76,7 +76,7 @@ pub record IsJoined (old : KeptThread) (index : ℕ) (b : Behind) (fresh : ℕ �
   pub anew : BeginsWithAnySuperblock (pair_behind old index b fresh) new.disk
   pub revision : HasNextRevision old index b fresh new.disk
 
--- the pair on the disk has what the changes make, and the fresh pair comes after it
+-- on the disk, the pair at the index has the changed content, and the fresh pair follows it
 pub record JoinedOnDisk (old : KeptThread) (index : ℕ) (b : Behind) (fresh : ℕ × ℕ) (changes : List ContentChange) (disk : Disk) : Type 0 where
   pub content : PairContent
   pub made : complete_after old index changes ≡ Some content
@@ -86,7 +86,7 @@ pub record JoinedOnDisk (old : KeptThread) (index : ℕ) (b : Behind) (fresh : �
   pub first : KeepsSuperblockFirst old.disk (thread_pair old index).at content disk
   pub anew : BeginsWithAnySuperblock (pair_behind old index b fresh) disk
 
--- What a stop leaves: the old pair with its old content, or with what the changes make and the fresh pair after it.
+-- What a stop leaves: the pair at the index with its old content, or with the changed one and the fresh pair behind it.
 pub record LossLeavesJoined (old : KeptThread) (index : ℕ) (b : Behind) (fresh : ℕ × ℕ) (changes : List ContentChange) (left : Blocks) : Type 0 where
   pub others : KeepsOutsideBoth (thread_pair old index).at fresh old.disk.blocks left
   pub content : HasOldPair old index (record old.disk { blocks = left })
@@ -94,35 +94,35 @@ pub record LossLeavesJoined (old : KeptThread) (index : ℕ) (b : Behind) (fresh
 
 -- ---- the parts of the step
 
--- how often the device is read at most while the fresh pair is written
+-- the most reads while the fresh pair is written
 abbrev pub reads_behind : Behind → ℕ
 reads_behind kind.Empty = 2
 reads_behind kind.Slots = 3
 reads_behind kind.Next = 3
 
--- the change that a fresh pair without slots is made by
+-- the change by which a fresh pair without slots is made
 abbrev pub tail_of : PairHeader → List ContentChange
 tail_of source = tail_change (option_map tail_view source.tail) ∷ []
 
--- the premises of writing the fresh pair
+-- what writing the fresh pair requires
 abbrev pub CanWriteBehind : Disk → List CallEvent → PairHeader → ℕ × ℕ → Behind → Type 0
 CanWriteBehind disk history source fresh kind.Empty = CanMakeFresh disk fresh (tail_of source)
 CanWriteBehind disk history source fresh kind.Slots = CanCopyPair disk history source fresh (PutMove zero_gstate ∷ [])
 CanWriteBehind disk history source fresh kind.Next = CanCopyPair disk history source fresh []
 
--- the fresh pair is written
+-- the fresh pair was written
 abbrev pub IsWrittenBehind : Disk → List CallEvent → PairHeader → Behind → Disk → List CallEvent → ℕ × ℕ → PairHeader → Type 0
 IsWrittenBehind old before source kind.Empty disk history fresh f = IsFreshPair before (tail_of source) disk history fresh f
 IsWrittenBehind old before source kind.Slots disk history fresh f = IsPairCopied old before (PutMove zero_gstate ∷ []) source disk history fresh f
 IsWrittenBehind old before source kind.Next disk history fresh f = IsPairCopied old before [] source disk history fresh f
 
--- the headers without the one at a place, where the next pair is copied
+-- the headers without the one at an index, if the next pair is copied
 abbrev pub headers_without : Behind → List PairHeader → ℕ → List PairHeader
 headers_without kind.Empty hs place = hs
 headers_without kind.Slots hs place = hs
 headers_without kind.Next hs place = remove hs place
 
--- the header at a place can be taken out, and its blocks are of the map
+-- the header at an index can be removed, and its blocks are of the map
 abbrev pub CanDropCopied : Behind → List PairHeader → ℕ → PairHeader → BlockStates → Type 0
 CanDropCopied kind.Empty hs place source sets = Unit {0}
 CanDropCopied kind.Slots hs place source sets = Unit {0}

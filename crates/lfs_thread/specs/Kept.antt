@@ -1,4 +1,4 @@
--- What is kept of a thread, and what contracts see of it.
+-- What a thread keeps in memory, and a thread as contracts see it.
 use Rattle.std.specs.Prelude.{ℕ, ◌≡◌, Bool, nat_eq, unwrap_or, map, length, List, [], ◌∷◌, Option, Some}
 use Rattle.std.specs.List.{IsDistinct}
 use Rattle.lfs_device.specs.declared.device.BlockDevice.{Ghosts}
@@ -17,18 +17,18 @@ use Rattle.lfs_thread.specs.declared.parts.ThreadParts.{ThreadParts}
 use Rattle.lfs_pair.specs.Pair.{IsTrueHeader, header_address}
 use Rattle.lfs_pair.specs.Commits.{IsPairAddress}
 
--- The header that is kept of a pair.
+-- The header of a pair that is kept in memory.
 abbrev pub PairHeader : Type 0
 PairHeader = header.Pair
 
--- What is kept of a thread: the disk and its calls so far, the pairs in the thread's order, and the map of the blocks.
+-- What a thread keeps: the disk and its calls so far, the pairs in the thread's order, and the block map.
 pub record KeptThread : Type 0 where
   pub disk : Disk
   pub history : List CallEvent
   pub pairs : List Pair
   pub map : BlockStates
 
--- What contracts see of a thread: what is kept, which blocks are cached, and whether a call failed.
+-- A thread as contracts see it: what it keeps, the cached blocks, and whether a call failed.
 pub record ThreadView : Type 0 where
   pub kept : KeptThread
   pub cache : CachedBlocks
@@ -61,7 +61,7 @@ abbrev pub AllBlocksUsed : BlockStates → List ℕ → Type 0
 AllBlocksUsed sets [] = Unit {0}
 AllBlocksUsed sets (b ∷ bs) = IsUsedBlock sets b × AllBlocksUsed sets bs
 
--- What is kept is what the disk has: the headers are those of its thread, and the map has their blocks as used.
+-- What is kept is what the disk has: the headers are those of its thread, and their blocks are used in the map.
 pub record IsKeptOnDisk (disk : Disk) (history : List CallEvent) (headers : List PairHeader) (sets : BlockStates) : Type 0 where
   pub each : AreHeaders disk history headers
   pub links : AreLinked (Some anchor_address) (header_pairs disk headers)
@@ -69,7 +69,7 @@ pub record IsKeptOnDisk (disk : Disk) (history : List CallEvent) (headers : List
   pub size : length sets ≡ block_count disk
   pub used : AllBlocksUsed sets (pairs_blocks (header_pairs disk headers))
 
--- Headers that were kept at some time of a disk that was only read since then. The map has their blocks as used.
+-- The headers were kept at some time, and the disk was only read since then. Their blocks are used in the map.
 pub record WasKeptOnDisk (disk : Disk) (history : List CallEvent) (headers : List PairHeader) (sets : BlockStates) : Type 0 where
   pub before : List CallEvent
   pub since : OnlyReadsSince disk.blocks before history
@@ -83,7 +83,7 @@ pub record WasKeptOnDisk (disk : Disk) (history : List CallEvent) (headers : Lis
 abbrev pub IsCacheCurrent : Blocks → CachedBlocks → Type 0
 IsCacheCurrent blocks cache = (b : ℕ) (bytes : List ℕ) → cached_bytes cache b ≡ Some bytes → bytes ≡ block_bytes blocks b
 
--- ---- the same of a device, whose order of names is not known
+-- ---- the same for a device, whose order of names isn't known
 
 abbrev pub disk_of_device : {D : Type 0} → Ghosts D → D → Disk
 disk_of_device g device = disk_of_blocks (g.geometry device) (g.blocks device)
@@ -101,7 +101,7 @@ IsKept g device headers sets = IsKeptOnDisk (disk_of_device g device) (g.history
 abbrev pub WasKeptOnDevice : {D : Type 0} → Ghosts D → D → List PairHeader → BlockStates → Type 0
 WasKeptOnDevice g device headers sets = WasKeptOnDisk (disk_of_device g device) (g.history device) headers sets
 
--- ---- the same of the parts of a thread
+-- ---- the same for the parts of a thread
 
 -- what is kept in the parts of a thread, whose order of names doesn't matter
 abbrev pub kept_parts : {D : Type 0} → Ghosts D → ThreadParts D → KeptThread

@@ -1,4 +1,4 @@
--- Why the image of a device isn't mounted, and what is true of the device then.
+-- The reasons why the image of a device isn't mounted, and what is then true of the device.
 use Rattle.std.specs.Prelude.{◌≡◌, ◌<◌, Result, IsErrOf}
 use Rattle.lfs_device.specs.declared.device.BlockDevice.{Ghosts}
 use Rattle.lfs_device.specs.declared.error.Error.{Error}
@@ -11,13 +11,13 @@ use Rattle.lfs_model.specs.declared.violations.Violation.{Violation}
 use Rattle.lfs_thread.specs.declared.mount_error.MountError.{MountError}
 use Rattle.lfs_thread.specs.declared.mount_error.MountError.TheVariants as mount
 
--- the error of the tables
+-- the error that the session above returns
 abbrev pub error_of_mount : MountError → Error
 error_of_mount (mount.Corrupt violation) = error.Corrupt
 error_of_mount mount.Io = error.Io
 error_of_mount mount.NoMemory = error.NoMemory
 
--- the cause for an error of a call below
+-- the reason for an error of a call below
 abbrev pub mount_error_for : Error → Violation → MountError
 mount_error_for error.Corrupt violation = mount.Corrupt violation
 mount_error_for error.Io violation = mount.Io
@@ -29,7 +29,7 @@ pub record ReadsReportingFaults {D X : Type 0} (g : Ghosts D) (old new : D) (res
   pub fault : IsErrOf result mount.Io → fault_count (g.history old) < fault_count (g.history new)
   pub no_fault : (IsErrOf result mount.Io → ⊥) → fault_count (g.history new) ≡ fault_count (g.history old)
 
--- where the image breaks a rule of the thread, the disk breaks it
+-- if the error is a broken rule of the thread, the disk breaks it
 abbrev pub IsThreadViolation : Disk → MountError → Type 0
 IsThreadViolation disk (mount.Corrupt violation) = BreaksThread disk violation
 IsThreadViolation disk _ = Unit {0}

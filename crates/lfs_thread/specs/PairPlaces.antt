@@ -1,4 +1,4 @@
--- A list of addresses of pairs, and the place of one in it.
+-- A list of pairs' addresses, and the list index of one.
 use Rattle.std.specs.Prelude.{ℕ, suc, ◌≡◌, ◌<◌, ◌^◌, true, if◌then◌else◌, min, max, All, List, [], ◌∷◌, Option, Some, None, slice_get}
 use Rattle.std.specs.List.{flat_map}
 use Rattle.std.specs.Option.{option_map}
@@ -8,12 +8,12 @@ use Rattle.lfs_model.specs.format.Slots.{same_pair}
 abbrev pub blocks_of_addresses : List (ℕ × ℕ) → List ℕ
 blocks_of_addresses addresses = flat_map (λ at. at.0 ∷ at.1 ∷ []) addresses
 
--- the place of the first address with the same two blocks
+-- the list index of the first address with the same two blocks
 abbrev pub address_index : List (ℕ × ℕ) → ℕ × ℕ → Option ℕ
 address_index [] at = None
 address_index (a ∷ addresses) at = if same_pair a at then Some 0 else option_map (λ i. suc i) (address_index addresses at)
 
--- the address at that place has the same two blocks
+-- the address at this list index has the same two blocks
 pub record SameAddressAt (addresses : List (ℕ × ℕ)) (at : ℕ × ℕ) (place : ℕ) : Type 0 where
   pub address : ℕ × ℕ
   pub there : slice_get addresses place ≡ Some address

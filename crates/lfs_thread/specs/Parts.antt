@@ -1,4 +1,4 @@
--- What a step leaves of a thread's parts, and how it ends.
+-- The effect of a step on a thread's parts, and its results.
 use Rattle.std.specs.Prelude.{ℕ, ◌≡◌, List, Result, Ok, OnOk}
 use Rattle.lfs_device.specs.declared.device.BlockDevice.{Ghosts}
 use Rattle.lfs_device.specs.declared.error.Error.{Error}
@@ -8,15 +8,15 @@ use Rattle.lfs_pair.specs.Writing.{ChangesReadingFew}
 use Rattle.lfs_thread.specs.declared.parts.ThreadParts.{ThreadParts}
 use Rattle.lfs_thread.specs.Kept.{IsCacheCurrent, IsKept}
 
--- No block but these changes, and the device is read at most so often. The parts are kept afterwards, but for the headers, the
--- map and the cache after an error. The order of the names stays.
+-- Only these blocks change, and the device is read at most `most` times. The parts still agree with the device, except the
+-- headers, the map and the cache after an error. The order of the names stays.
 pub record ChangesKeptParts {D X : Type 0} (g : Ghosts D) (most : ℕ) (bs : List ℕ) (old new : ThreadParts D) (result : Result X Error) : Type 0 where
   pub device : ChangesReadingFew g most bs old.device new.device
   pub kept : OnOk result (IsKept g new.device new.pairs.items new.map)
   pub current : OnOk result (IsCacheCurrent (g.blocks new.device) new.cache)
   pub order : new.order ≡ old.order
 
--- What holds after a step that is done, and after one that is refused as too large.
+-- What holds after a step that is done, and after one whose changes don't fit.
 pub record EndsByOutcome (result : Result Outcome Error) (HoldsIfDone HoldsIfFull : Type 0) : Type 0 where
   pub done : result ≡ Ok Done → HoldsIfDone
   pub full : result ≡ Ok Full → HoldsIfFull

@@ -1,4 +1,4 @@
--- What the steps of a thread do to it.
+-- The effects of a thread's steps.
 use Rattle.std.specs.Prelude.{ℕ, ◌≡◌, ◌≢◌, ◌⊎◌, ◌<◌, ◌≤◌, ◌+◌, slice_get, codes, true, false, List, [], length, take, drop, slice_set, slice_index_or, Option, Some, None, Result, Err, IfErr, IsErrOf}
 use Rattle.lfs_device.specs.declared.error.Error.{Error}
 use Rattle.lfs_device.specs.declared.error.Error.TheVariants.{Io, NoMemory}
@@ -24,13 +24,13 @@ empty_anchor = record { at = anchor_address; content = record { slots = []; tail
 abbrev pub thread_pair : KeptThread → ℕ → Pair
 thread_pair t index = slice_index_or t.pairs index empty_anchor
 
--- what changes make of the pair at an index, if each slot then has a name and a struct
+-- the content of the pair at an index after changes, if each slot then has a name and a struct
 abbrev pub complete_after : KeptThread → ℕ → List ContentChange → Option PairContent
 complete_after t index changes = option_and_then complete_content (changed_pair_content t.disk (thread_pair t index).at changes)
 
 -- ---- what every step reports
 
--- the new disk has as many blocks and pages of the same sizes, the same order of names, and the same profile
+-- the new disk has as many blocks, blocks and pages of the same sizes, the same order of names and the same profile
 pub record SameGeometryAs (old new : Disk) : Type 0 where
   pub block_size : new.block_size ≡ old.block_size
   pub page : new.page ≡ old.page
@@ -38,7 +38,7 @@ pub record SameGeometryAs (old new : Disk) : Type 0 where
   pub profile : new.profile ≡ old.profile
   pub count : block_count new ≡ block_count old
 
--- No block but these changes. Unprogrammed bytes of other blocks stay so, and a loss of power during the step leaves the other
+-- Only these blocks change. Unprogrammed bytes of other blocks stay so, and a loss of power during the step leaves the other
 -- blocks as they were.
 pub record ChangesThreadBlocks (bs : List ℕ) (old new : KeptThread) : Type 0 where
   pub others : SameExceptBlocks bs old.disk.blocks new.disk.blocks
@@ -46,7 +46,7 @@ pub record ChangesThreadBlocks (bs : List ℕ) (old new : KeptThread) : Type 0 w
   pub shape : SameGeometryAs old.disk new.disk
   pub at_worst : HoldsAtLosses LossLeavesAtWorst old.history new.history (SameExceptBlocks bs old.disk.blocks)
 
--- No block but these changes, and the device is read at most so often.
+-- Only these blocks change, and the device is read at most `most` times.
 pub record ChangesWithinReads (most : ℕ) (bs : List ℕ) (old new : KeptThread) : Type 0 where
   pub only : ChangesThreadBlocks bs old new
   pub few : read_count new.history ≤ read_count old.history + most
@@ -56,14 +56,14 @@ pub record OnlyReadsDevice (old new : KeptThread) : Type 0 where
   pub disk : new.disk ≡ old.disk
   pub reads : OnlyReadsSince old.disk.blocks old.history new.history
 
--- `Io` comes with a fault of the device, and any other result with none. At `NoMemory` nothing was written.
+-- `Io` comes with a fault of the device, and any other result without one. At `NoMemory` nothing was written.
 pub record ThreadReportsErrors {X : Type 0} (old new : KeptThread) (result : Result X Error) : Type 0 where
   pub errors : IfErr result (λ e. (e ≡ Io) ⊎ (e ≡ NoMemory))
   pub fault : IsErrOf result Io → fault_count old.history < fault_count new.history
   pub no_fault : ¬ IsErrOf result Io → fault_count new.history ≡ fault_count old.history
   pub unwritten : result ≡ Err NoMemory → OnlyReadsDevice old new
 
--- `Io` comes with a fault of the device, and any other result with none. At `NoMemory` no block was written but these.
+-- `Io` comes with a fault of the device, and any other result without one. At `NoMemory` only these blocks were written.
 pub record ThreadReportsKeepingOthers {X : Type 0} (bs : List ℕ) (old new : KeptThread) (result : Result X Error) : Type 0 where
   pub errors : IfErr result (λ e. (e ≡ Io) ⊎ (e ≡ NoMemory))
   pub fault : IsErrOf result Io → fault_count old.history < fault_count new.history
@@ -79,7 +79,7 @@ pub record OnlyReadsThread (old new : KeptThread) : Type 0 where
 
 -- ---- a pair is changed
 
--- There is a pair at the index. What the changes make of it has a tail that names the same pair as before.
+-- There is a pair at the index, and the tail of its changed content names the same pair as before.
 pub record CanChangePair (t : KeptThread) (index : ℕ) (changes : List ContentChange) : Type 0 where
   pub below : index < length t.pairs
   pub content : PairContent
@@ -101,14 +101,14 @@ HasSuperblock c = BeginWithSuperblock c.slots
 abbrev pub KeepsSuperblockFirst : Disk → ℕ × ℕ → PairContent → Disk → Type 0
 KeepsSuperblockFirst old at c disk = BeginsWith (current_block old at) superblock_entry → HasSuperblock c → BeginsWith (current_block disk at) superblock_entry
 
--- The pair at an index has that content on the disk, and no block but its two differs. The superblock stays first.
+-- The pair at an index has this content on the disk, and only its two blocks differ. The superblock stays first.
 pub record IsPairWritten (old : KeptThread) (index : ℕ) (content : PairContent) (disk : Disk) : Type 0 where
   pub holds : content_at disk (thread_pair old index).at ≡ Some content
   pub others : KeepsOutsidePair (thread_pair old index).at old.disk.blocks disk.blocks
   pub shape : SameGeometryAs old.disk disk
   pub first : KeepsSuperblockFirst old.disk (thread_pair old index).at content disk
 
--- A commit that is done: the pair has what the changes make, and everything else is as it was.
+-- A commit that is done: the pair has the changed content, and everything else is as it was.
 pub record IsPairCommitted (old : KeptThread) (index : ℕ) (changes : List ContentChange) (new : KeptThread) : Type 0 where
   pub content : PairContent
   pub made : complete_after old index changes ≡ Some content
@@ -118,14 +118,14 @@ pub record IsPairCommitted (old : KeptThread) (index : ℕ) (changes : List Cont
   pub thread : IsThread (content_at new.disk) (block_count new.disk) new.pairs
   pub map : new.map ≡ old.map
 
--- A commit that is refused: what the changes make doesn't fit, and nothing was written.
+-- A commit that is refused: the changed content doesn't fit, and nothing was written.
 pub record RefusesChanges (old : KeptThread) (index : ℕ) (changes : List ContentChange) (new : KeptThread) : Type 0 where
   pub content : PairContent
   pub made : complete_after old index changes ≡ Some content
   pub too_large : ¬ FitsInPair old.disk.block_size old.disk.page content
   pub only : OnlyReadsThread old new
 
--- What a stop leaves of a commit: the pair with its old content or with what the changes make.
+-- What a stop leaves of a commit: the pair with its old content or with the changed one.
 pub record LossLeavesPair (old : KeptThread) (index : ℕ) (changes : List ContentChange) (left : Blocks) : Type 0 where
   pub content : PairContent
   pub is : (content ≡ (thread_pair old index).content) ⊎ ((complete_after old index changes ≡ Some content) × FitsInPair old.disk.block_size old.disk.page content)
@@ -147,14 +147,14 @@ map_using sets fresh = slice_set (slice_set sets fresh.0 Used) fresh.1 Used
 abbrev pub pairs_split : List Pair → ℕ → Pair → Pair → List Pair
 pairs_split ps index p q = insert (slice_set ps index p) (index + 1) q
 
--- the pair has the content that it had, and its log still begins with the superblock's entry if it did
+-- the pair has its old content, and its log still begins with the superblock's entry if it did before
 pub record HasOldPair (old : KeptThread) (index : ℕ) (disk : Disk) : Type 0 where
   pub holds : content_at disk (thread_pair old index).at ≡ Some (thread_pair old index).content
   pub first : BeginsWith (current_block old.disk (thread_pair old index).at) superblock_entry → BeginsWith (current_block disk (thread_pair old index).at) superblock_entry
 
 -- ---- a pair is split
 
--- There is a pair at the index. What the changes make of it can be cut in two, and has a tail that names the same pair as before.
+-- There is a pair at the index. Its changed content can be cut in two, and its tail names the same pair as before.
 pub record CanSplitAt (t : KeptThread) (index : ℕ) (fresh : ℕ × ℕ) (changes : List ContentChange) : Type 0 where
   pub can : CanChangePair t index changes
   pub held : FreshInFlight t.map fresh
@@ -162,7 +162,7 @@ pub record CanSplitAt (t : KeptThread) (index : ℕ) (fresh : ℕ × ℕ) (chang
   pub made : changed_pair_content t.disk (thread_pair t index).at changes ≡ Some raw
   pub cut : AreSplittable t.disk.block_size t.disk.page raw.slots
 
--- The two parts of a content: the slots before the cut with a hard tail to the fresh pair, and the slots after it with the old
+-- The two parts of a content: the slots before the cut with a hard tail to the fresh pair, and the slots behind it with the old
 -- tail.
 abbrev pub front_pair : KeptThread → ℕ → PairContent → ℕ → ℕ × ℕ → Pair
 front_pair t index c cut fresh = record { at = (thread_pair t index).at; content = record { slots = take cut c.slots; tail = Some (record { hard = true; to = fresh }); move = c.move } }
@@ -170,7 +170,7 @@ front_pair t index c cut fresh = record { at = (thread_pair t index).at; content
 abbrev pub back_pair : PairContent → ℕ → ℕ × ℕ → Pair
 back_pair c cut fresh = record { at = fresh; content = record { slots = drop cut c.slots; tail = c.tail; move = zero_gstate } }
 
--- Both parts fit, and both have slots where the whole doesn't fit. The superblock stays first.
+-- Both parts fit, and both have slots if the whole doesn't fit. The superblock stays first.
 pub record PartsFit (old : KeptThread) (index : ℕ) (content : PairContent) (cut : ℕ) (fresh : ℕ × ℕ) (disk : Disk) : Type 0 where
   pub front_fits : FitsInPair old.disk.block_size old.disk.page (front_pair old index content cut fresh).content
   pub back_fits : FitsInPair old.disk.block_size old.disk.page (back_pair content cut fresh).content
@@ -187,7 +187,7 @@ pub record HasSplit (old : KeptThread) (index : ℕ) (fresh : ℕ × ℕ) (chang
   pub thread : IsThread (content_at new.disk) (block_count new.disk) new.pairs
   pub map : new.map ≡ map_using old.map fresh
 
--- each pair on the disk has its part
+-- each pair has its part on the disk
 pub record SplitOnDisk (old : KeptThread) (index : ℕ) (changes : List ContentChange) (fresh : ℕ × ℕ) (disk : Disk) : Type 0 where
   pub content : PairContent
   pub made : complete_after old index changes ≡ Some content
@@ -204,7 +204,7 @@ pub record LossLeavesThreadSplit (old : KeptThread) (index : ℕ) (fresh : ℕ �
 
 -- ---- a fresh pair is put into the thread
 
--- There is a pair at the index. What the changes make of it has a tail that names the two blocks, which are in flight.
+-- There is a pair at the index, and the tail of its changed content names the two blocks, which are in flight.
 pub record CanThreadIn (t : KeptThread) (index : ℕ) (fresh : ℕ × ℕ) (changes : List ContentChange) : Type 0 where
   pub below : index < length t.pairs
   pub content : PairContent
@@ -217,11 +217,11 @@ abbrev pub tail_change : Option Tail → ContentChange
 tail_change None = PutTail false None
 tail_change (Some t) = PutTail t.hard (Some t.to)
 
--- a pair without slots that has the tail of the pair at an index
+-- a pair without slots, with the tail of the pair at an index
 abbrev pub fresh_with_tail : KeptThread → ℕ → ℕ × ℕ → Pair
 fresh_with_tail t index fresh = record { at = fresh; content = record { slots = []; tail = (thread_pair t index).content.tail; move = zero_gstate } }
 
--- A fresh pair that is threaded in: the pair has what the changes make, and the fresh pair comes after it.
+-- A fresh pair that was put into the thread: the pair at the index has the changed content, and the fresh pair follows it.
 pub record IsThreadedIn (old : KeptThread) (index : ℕ) (fresh : ℕ × ℕ) (changes : List ContentChange) (new : KeptThread) : Type 0 where
   pub content : PairContent
   pub made : complete_after old index changes ≡ Some content
@@ -231,7 +231,7 @@ pub record IsThreadedIn (old : KeptThread) (index : ℕ) (fresh : ℕ × ℕ) (c
   pub thread : IsThread (content_at new.disk) (block_count new.disk) new.pairs
   pub map : new.map ≡ map_using old.map fresh
 
--- What the changes make doesn't fit. The thread is as it was, and no block was written but the two of the fresh pair.
+-- The changed content doesn't fit. The thread is as it was, and only the two blocks of the fresh pair were written.
 pub record RefusesThreading (old : KeptThread) (index : ℕ) (fresh : ℕ × ℕ) (changes : List ContentChange) (new : KeptThread) : Type 0 where
   pub content : PairContent
   pub made : complete_after old index changes ≡ Some content
@@ -240,7 +240,7 @@ pub record RefusesThreading (old : KeptThread) (index : ℕ) (fresh : ℕ × ℕ
   pub map : new.map ≡ old.map
   pub others : KeepsOutsidePair fresh old.disk.blocks new.disk.blocks
 
--- the pair on the disk has what the changes make, and the fresh pair comes after it
+-- on the disk, the pair at the index has the changed content, and the fresh pair follows it
 pub record ThreadedInOnDisk (old : KeptThread) (index : ℕ) (fresh : ℕ × ℕ) (changes : List ContentChange) (disk : Disk) : Type 0 where
   pub content : PairContent
   pub made : complete_after old index changes ≡ Some content
@@ -249,17 +249,17 @@ pub record ThreadedInOnDisk (old : KeptThread) (index : ℕ) (fresh : ℕ × ℕ
   pub behind : content_at disk fresh ≡ Some (fresh_with_tail old index fresh).content
   pub first : KeepsSuperblockFirst old.disk (thread_pair old index).at content disk
 
--- What a stop leaves of a pair that is threaded in: the old pair with its old content, or with what the changes make and the
--- fresh pair after it.
+-- What a stop leaves of putting a fresh pair into the thread: the pair at the index with its old content, or with the changed one
+-- and the fresh pair behind it.
 pub record LossLeavesThreaded (old : KeptThread) (index : ℕ) (fresh : ℕ × ℕ) (changes : List ContentChange) (left : Blocks) : Type 0 where
   pub others : KeepsOutsideBoth (thread_pair old index).at fresh old.disk.blocks left
   pub content : HasOldPair old index (record old.disk { blocks = left })
       ⊎ ThreadedInOnDisk old index fresh changes (record old.disk { blocks = left })
 
--- ---- the pair after another is dropped
+-- ---- the pair behind another is dropped
 
--- There is a pair at the index and one after it. What the changes make of the first has a tail that names what the second one's
--- tail names.
+-- There is a pair at the index and one behind it. The tail of the first one's changed content names what the second one's tail
+-- names.
 pub record CanDropNext (t : KeptThread) (index : ℕ) (changes : List ContentChange) : Type 0 where
   pub below : index + 1 < length t.pairs
   pub content : PairContent
@@ -270,7 +270,8 @@ pub record CanDropNext (t : KeptThread) (index : ℕ) (changes : List ContentCha
 abbrev pub map_freeing : BlockStates → ℕ × ℕ → BlockStates
 map_freeing sets at = slice_set (slice_set sets at.0 Free) at.1 Free
 
--- A drop that is done: the pair has what the changes make, the pair after it is gone, and everything else is as it was.
+-- A drop that is done: the pair at the index has the changed content, the pair behind it is gone, and everything else is as it
+-- was.
 pub record IsNextDropped (old : KeptThread) (index : ℕ) (changes : List ContentChange) (new : KeptThread) : Type 0 where
   pub content : PairContent
   pub made : complete_after old index changes ≡ Some content

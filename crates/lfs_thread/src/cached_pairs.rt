@@ -1,4 +1,4 @@
-// Steps of a pair by its cached block.
+// Commits and splits of a pair whose active block is cached.
 
 ghost use Rattle.std.specs.Prelude.{◌≡◌, ◌+◌, IfErr, IfOk, OnOk};
 ghost use Rattle.lfs_device.specs.DeviceCalls.{ReportsFaults};
@@ -20,7 +20,7 @@ use lfs_device::{BlockDevice, Error};
 use lfs_pair::{Change, Outcome, Pair, commit, split};
 use std::alloc::Global;
 
-// Takes both blocks of a pair out of the cache.
+// Removes both blocks of a pair from the cache.
 pub(crate) fn forget_cached_pair(cache: &mut Cache, blocks: [u32; 2])
     ensures { cache.new ≡ cache_without (cache_without cache.old (address_view blocks).0) (address_view blocks).1 }
 {
@@ -28,10 +28,10 @@ pub(crate) fn forget_cached_pair(cache: &mut Cache, blocks: [u32; 2])
     cache.forget(blocks[1]);
 }
 
-// Commits changes to a pair. Its active block is read into the cache where it isn't cached, and the
-// commit is lent its bytes.
+// Commits changes to a pair, and reads its active block into the cache first if it isn't cached. At
+// Ok each cached block still has the bytes that the device has.
 //
-// Errors are those of a commit. The cache may differ from the device then.
+// Errors are those of a commit. The cache may then differ from the device.
 pub(crate) fn commit_cached<D: BlockDevice>(
     alloc: Global,
     dev: &mut D,
@@ -55,10 +55,10 @@ pub(crate) fn commit_cached<D: BlockDevice>(
     }
 }
 
-// Commits changes to a pair and splits it, as a split does. Its active block is read into the cache
-// where it isn't cached. The blocks of the fresh pair aren't cached.
+// Commits changes to a pair and splits it, and reads its active block into the cache first if it
+// isn't cached. Requires that the blocks of the fresh pair aren't cached.
 //
-// Errors are those of a split. The cache may differ from the device then.
+// Errors are those of a split. The cache may then differ from the device.
 pub(crate) fn split_cached<D: BlockDevice>(
     alloc: Global,
     dev: &mut D,

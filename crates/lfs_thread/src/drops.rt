@@ -1,4 +1,4 @@
-// Pairs that are dropped from the thread.
+// Drops of pairs from the thread.
 
 ghost use Rattle.std.specs.Prelude.{◌+◌};
 ghost use Rattle.lfs_pair.specs.ChangeView.{changes_view};
@@ -15,9 +15,9 @@ use lfs_device::{BlockDevice, Error};
 use lfs_pair::{Change, Outcome};
 use std::alloc::Global;
 
-// Drops the pair after the one at the index. For that it commits changes to the pair at the index,
-// by which its tail names what the dropped pair's tail names. The dropped pair's blocks are free
-// afterwards. After an error nothing is known of the headers, the map and the cache.
+// Drops the pair behind the one at `index`. Commits changes to the pair at `index` whose tail is
+// the dropped pair's, and frees the dropped pair's blocks. After an error the headers, the map and
+// the cache are unspecified.
 pub(crate) fn drop_next_pair<D: BlockDevice>(
     alloc: Global,
     parts: &mut ThreadParts<D>,

@@ -21,8 +21,8 @@ use lfs_model::Violation;
 use lfs_pair::{Pair, fetch};
 use std::alloc::Global;
 
-// Reads the headers of the thread's pairs, and marks their blocks as used. After an error nothing
-// is known of the headers and the map.
+// Reads the headers of the thread's pairs, and marks their blocks as used. After an error the
+// headers and the map are unspecified.
 pub(crate) fn read_thread_headers<D: BlockDevice>(
     alloc: Global,
     device: &mut D,
@@ -62,8 +62,8 @@ fn tail_address(pair: &Pair) -> Option<[u32; 2]>
     }
 }
 
-// Reads the header of the pair at an address, and marks its blocks as used. `Corrupt` where a block
-// is out of range, comes twice or is marked already, or where the pair holds no content.
+// Reads the header of the pair at an address, and marks its blocks as used. `Corrupt` if a block is
+// out of range, is used already or is the other one, or if the pair holds no content.
 fn read_pair_header<D: BlockDevice>(
     alloc: Global,
     device: &mut D,

@@ -1,4 +1,4 @@
-// Fresh pairs that come into the thread.
+// Fresh pairs, put into the thread behind another pair.
 
 ghost use Rattle.std.specs.Prelude.{◌≡◌, ◌⊎◌, ◌<◌, ◌+◌, IfErr, IfOk, get_or, length};
 ghost use Rattle.std.specs.Option.{option_map};
@@ -25,21 +25,20 @@ use lfs_pair::{Change, Outcome, Pair, copy};
 use lfs_tag::{MoveState, Tail};
 use std::alloc::Global;
 
-// What a fresh pair has that comes behind another one.
+// The content of a fresh pair that is put behind another one.
 #[derive(Clone, Copy, Drop)]
 pub(crate) enum Behind {
     // no slots, and the tail of the pair before it
     Empty,
-    // the slots of the pair before it, too, but not its delta
+    // the slots and the tail of the pair before it, without its delta
     Slots,
-    // all that the pair after that one has, which goes
+    // the whole content of the next pair, which it replaces
     Next,
 }
 
-// Writes a fresh pair into two blocks in flight. Then the changes are committed to the pair at the
-// index, whose tail then names the fresh pair. Where the changes don't fit, no tail names the fresh
-// pair, and its blocks stay in flight. After an error nothing is known of the headers, the map and
-// the cache.
+// Writes a fresh pair into two blocks in flight, then commits the changes to the pair at `index`,
+// whose tail then names the fresh pair. If the changes don't fit, no tail names the fresh pair, and
+// its blocks stay in flight. After an error the headers, the map and the cache are unspecified.
 pub(crate) fn join_pair<D: BlockDevice>(
     alloc: Global,
     parts: &mut ThreadParts<D>,
@@ -61,7 +60,7 @@ pub(crate) fn join_pair<D: BlockDevice>(
 {
     let mut pair = parts.pairs[index];
     let source = source_of(&parts.pairs, index, behind);
-    // This takes the memory for the fresh pair's header, before anything is written.
+    // Allocates the room for the fresh pair's header before anything is written.
     parts.pairs.insert(index + 1, pair)?;
     forget_cached_pair(&mut parts.cache, fresh);
     let fresh_pair = write_behind(alloc, &mut parts.device, &source, behind, fresh)?;
@@ -84,7 +83,7 @@ pub(crate) fn join_pair<D: BlockDevice>(
     Ok(Outcome::Done)
 }
 
-// Returns the header of the pair that is copied.
+// Returns the header of the pair that the fresh one is copied from.
 fn source_of(pairs: &Vec<Pair>, index: usize, behind: Behind) -> Pair
     requires { source_index index behind < length pairs.now.items }
     ensures { result ≡ get_or pairs.now.items (source_index index behind) result }
@@ -97,8 +96,8 @@ fn source_of(pairs: &Vec<Pair>, index: usize, behind: Behind) -> Pair
 
 // Writes the fresh pair, and returns its header.
 //
-// Errors: `Io` where a call of the device failed. `NoMemory` where memory for two blocks and the
-// slots isn't granted.
+// Errors: `Io` if a call of the device failed, `NoMemory` if memory for two blocks and the slots
+// isn't granted.
 fn write_behind<D: BlockDevice>(
     alloc: Global,
     dev: &mut D,
@@ -129,7 +128,8 @@ fn write_behind<D: BlockDevice>(
     }
 }
 
-// Takes the header of the copied pair out where that pair goes, and makes its blocks free.
+// Removes the header of the pair that the fresh one replaces, if it replaces one, and frees its
+// blocks.
 fn drop_copied(
     pairs: &mut Vec<Pair>,
     map: &mut BlockMap,

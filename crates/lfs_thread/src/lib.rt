@@ -1,5 +1,5 @@
 // SPDX-License-Identifier: BSD-3-Clause
-//! The metadata pairs of a device, in the thread's order, kept in memory from one commit to the
+//! All metadata pairs of a device, in the thread's order, kept in memory from one commit to the
 //! next.
 #![tactic(auto)]
 

@@ -1,4 +1,4 @@
-// Parts of files' blocks that are read through the cache.
+// Reads of files' blocks through the cache.
 
 ghost use Rattle.std.specs.Prelude.{◌≡◌, ◌+◌, IfOk, length, slice_range, take};
 ghost use Rattle.lfs_blocks.specs.BlockReads.{ReadsOnceUncached};
@@ -12,8 +12,7 @@ use lfs_blocks::Cache;
 use lfs_device::{BlockDevice, Error};
 use lfs_file::BlockPart;
 
-// Reads a part of a block to the beginning of the buffer, through the cache. Returns how many bytes
-// it has.
+// Reads a range of a block to the start of the buffer, through the cache. Returns its length.
 pub(crate) fn read_part_cached<D: BlockDevice>(
     device: &mut D,
     cache: &mut Cache,

@@ -10,17 +10,17 @@ use std::alloc::{AllocError, AllocFailed};
 /// Why the image of a device isn't mounted.
 #[derive(Clone, Copy, Debug, PartialEq, Eq)]
 pub enum MountError {
-    /// The image breaks a rule.
+    /// The image breaks this rule.
     Corrupt(Violation),
-    /// The device failed.
+    /// A call of the device failed.
     Io,
-    /// Memory was wanted and not granted.
+    /// Memory wasn't granted.
     NoMemory,
 }
 
 impl MountError {
-    /// Returns the cause for an error of a call that reads an image. `Corrupt` means there that the image
-    /// breaks this rule. The call has no error but `Corrupt`, `Io` and `NoMemory`.
+    /// Returns the reason for the error of a call that reads an image. If the error is `Corrupt`,
+    /// the image breaks the rule `violation`. Any error but `Corrupt` and `Io` becomes `NoMemory`.
     pub fn of(error: Error, violation: Violation) -> MountError
         ensures { result ≡ mount_error_for error violation }
     {

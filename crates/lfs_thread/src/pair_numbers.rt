@@ -9,9 +9,8 @@ use crate::thread::Thread;
 use lfs_device::BlockDevice;
 use lfs_pair::is_same_pair;
 
-/// Returns the number of the pair at an address, from 0 on in the thread's order. The address may
-/// have its two blocks in either order. Returns None where no pair of the thread has these two
-/// blocks.
+/// Returns the index of the pair with these two blocks in the thread, from 0 on. The address may
+/// have the blocks in either order. Returns None if no pair of the thread has them.
 pub fn number_at_address<D: BlockDevice>(thread: &Thread<D>, at: [u32; 2]) -> Option<usize>
     ensures there { IfSome result (IsPairAt thread.now.kept.pairs (address_view at)) }
     ensures nowhere { IfNone result (AllByRecursion (λ p. same_pair p.at (address_view at) ≡ false) thread.now.kept.pairs) }

@@ -9,12 +9,12 @@ use lfs_pair::Pair;
 #[derive(Drop)]
 pub struct ThreadParts<D: BlockDevice> {
     pub device: D,
-    /// The order of the names in the directories.
+    /// The order of the names in each directory.
     pub order: NameOrder,
     /// The cache of the blocks that were read last.
     pub cache: Cache,
     /// The headers of the pairs, in the thread's order.
     pub pairs: Vec<Pair>,
-    /// The block map: which blocks are used, in flight or free.
+    /// The block map: the state of each block, free, used or in flight.
     pub map: BlockMap,
 }

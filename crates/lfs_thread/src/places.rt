@@ -1,4 +1,4 @@
-// Addresses of pairs, found without a search through all of them.
+// A list of pairs' addresses, searched without a pass over all of them.
 
 ghost use Rattle.std.specs.Prelude.{IfSome, IfNone, ◌≡◌, ◌++◌, ◌∷◌, [], ◌<◌, false, nat_eq, OnOk, OnErr, IfErr, length, map};
 ghost use Rattle.std.specs.List.{AllByRecursion, IsDistinct};
@@ -22,9 +22,9 @@ fn greater_block(pair: [u32; 2]) -> u32
     pair[0].max(pair[1])
 }
 
-/// A list of addresses of pairs. The place of an address is its number in the list, from 0 on.
+/// A list of pairs' addresses, in which a pair is found by its blocks.
 ///
-/// A contract sees the list of the addresses.
+/// In contracts it is the list of the addresses.
 #[derive(Drop)]
 pub struct PairAddressList {
     addresses: Vec<[u32; 2]>,
@@ -56,9 +56,10 @@ impl PairAddressList {
         }
     }
 
-    /// Appends the address of a pair to the list. No two of the pairs have a block in common.
+    /// Appends the address of a pair to the list. Requires that no two pairs of the list share a
+    /// block.
     ///
-    /// Errors: `NoMemory` where memory isn't granted; nothing has changed then.
+    /// Errors: `NoMemory` if memory isn't granted. The list is then unchanged.
     pub fn add(&mut self, pair: [u32; 2]) -> Result<(), Error>
         requires { IsDistinct nat_eq (blocks_of_addresses (self.old ++ address_view pair ∷ [])) }
         ensures added { OnOk result (self.new ≡ self.old ++ address_view pair ∷ []) }
@@ -75,14 +76,14 @@ impl PairAddressList {
         Ok(())
     }
 
-    /// Returns the addresses as a slice, each at its place.
+    /// Returns the addresses in the order in which they were added.
     pub fn addresses(&self) -> &[[u32; 2]]
         ensures { map address_view result.now ≡ self.now }
     {
         &self.addresses
     }
 
-    /// Returns the place of the pair that has these two blocks, in either order. Returns None where
+    /// Returns the list index of the pair with these two blocks, in either order. Returns None if
     /// no pair of the list has them.
     pub fn find(&self, pair: [u32; 2]) -> Option<u32>
         ensures value { result ≡ address_index self.now (address_view pair) }

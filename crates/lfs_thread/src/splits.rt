@@ -16,9 +16,8 @@ use lfs_device::{BlockDevice, Error};
 use lfs_pair::Change;
 use std::alloc::Global;
 
-// Splits the pair at the index. The fresh pair comes after it in the thread, in two blocks in
-// flight, which are used afterwards. After an error nothing is known of the headers, the map and the
-// cache.
+// Splits the pair at `index`. The fresh pair follows it in the thread, in two blocks that are in
+// flight and used afterwards. After an error the headers, the map and the cache are unspecified.
 pub(crate) fn split_pair<D: BlockDevice>(
     alloc: Global,
     parts: &mut ThreadParts<D>,
@@ -36,7 +35,7 @@ pub(crate) fn split_pair<D: BlockDevice>(
         (LossLeavesThreadSplit (kept_parts D.BlockDevice parts.old) index (address_view fresh) (changes_view changes.now)) }
 {
     let mut pair = parts.pairs[index];
-    // This takes the memory for the fresh pair's header, before anything is written.
+    // Allocates the room for the fresh pair's header before anything is written.
     parts.pairs.insert(index + 1, pair)?;
     forget_cached_pair(&mut parts.cache, fresh);
     let fresh_pair = split_cached(

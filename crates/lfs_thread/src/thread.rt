@@ -44,12 +44,12 @@ use lfs_tag::{Log, MoveState, Tail, has_hard_tail};
 use std::alloc::Global;
 use std::marker::Model;
 
-/// The metadata pairs of a device, in the thread's order, kept in memory from one commit to the
-/// next. With them are kept a map of the blocks and a cache of the blocks that were read last.
+/// All metadata pairs of a device, in the thread's order, kept in memory from one commit to the
+/// next. A block map and a cache of the blocks read last are kept with them.
 ///
-/// After an error of a step the thread has failed: the device may hold something else than what is
-/// kept. So the caller reads the thread anew. What a contract sees of a thread is what the device
-/// holds, as long as the thread hasn't failed.
+/// A pair's index is its position in the thread, from 0 on. After an error of a step the thread has
+/// failed: the device may differ from what is kept, so the caller reads the thread again. In
+/// contracts a thread that hasn't failed is what the device holds.
 #[derive(Drop)]
 pub struct Thread<D: BlockDevice> {
     // Nothing here depends on the order of the names.
@@ -73,19 +73,18 @@ impl<D: BlockDevice> Model for Thread<D> {
 }
 
 impl<D: BlockDevice> Thread<D> {
-    /// Reads the thread of a device: the pair of blocks 0 and 1, and then each pair that the tail
-    /// before it names (SPEC.md of littlefs, "The metadata tree"). Each block of a pair is read
-    /// once, and nothing is written. In the map the blocks of the pairs are used then, and all
-    /// others are free.
+    /// Reads the thread of a device: the pair of blocks 0 and 1, then each pair that the tail
+    /// before it names (SPEC.md of littlefs, "The metadata tree"). Each pair is fetched once, and
+    /// nothing is written. In the new map the pairs' blocks are used, and all others are free.
     ///
-    /// The names are taken to be in the order of littlefs's own code, until
-    /// [`set_order`](Thread::set_order) says otherwise.
+    /// The order of the names is that of littlefs's own code until [`set_order`](Thread::set_order)
+    /// changes it.
     ///
-    /// Errors: `Corrupt` exactly where the device has no thread. It names the rule that is broken:
-    /// an address is out of range (`OutOfRange`), a block comes twice (`OneBlock`, `TwoPairs`), or
-    /// a pair holds no content whose slots each have a name and a struct (`NoContent`). `Io` where
-    /// a read failed. `NoMemory` where memory for the headers, the map or a block and its slots
-    /// isn't granted. The device comes back with an error.
+    /// Errors: `Corrupt` only if the device has no thread, with the rule that it breaks: an address
+    /// is out of range (`OutOfRange`), a block occurs twice (`OneBlock`, `TwoPairs`), or a pair
+    /// holds no content in which each slot has a name and a struct (`NoContent`). `Io` if a read
+    /// failed. `NoMemory` if memory for the headers, the map, or a block and its slots isn't
+    /// granted. The device is returned with the error.
     pub fn read(alloc: Global, mut device: D) -> Result<Thread<D>, (D, MountError)>
         ensures read { IfOk result (IsReadThread D.BlockDevice device) }
         ensures broken { IfErr result (λ e. IsThreadViolation (disk_of_device D.BlockDevice device) e.1) }
@@ -112,8 +111,8 @@ impl<D: BlockDevice> Thread<D> {
         }
     }
 
-    /// Takes the thread apart, for work on all of its parts at once. [`Thread::from_parts`] makes
-    /// them a thread again.
+    /// Takes the thread apart, for work on all of its parts at once. [`Thread::from_parts`] puts
+    /// them together again. Requires a thread that hasn't failed.
     pub fn into_parts(self) -> ThreadParts<D>
         requires works { self.failed ≡ false }
         ensures kept { IsKept D.BlockDevice result.device result.pairs.items result.map }
@@ -124,9 +123,9 @@ impl<D: BlockDevice> Thread<D> {
         self.parts
     }
 
-    /// Makes a thread of its parts, with the names in that order. The headers are those of the device's thread, as they were read
-    /// at some time, and the device was only read since then. The map has the blocks of the pairs
-    /// as used. Each block of the cache has the bytes that the device has.
+    /// Puts a thread together from its parts. Requires that the headers were at some time those of
+    /// the device's thread, and that the device was only read since then. The map must have the
+    /// pairs' blocks as used. Each cached block must have the bytes that the device has.
     pub fn from_parts(parts: ThreadParts<D>) -> Thread<D>
         requires kept { WasKeptOnDevice D.BlockDevice parts.device parts.pairs.items parts.map }
         requires current { IsCacheCurrent (D.blocks parts.device) parts.cache }
@@ -140,7 +139,7 @@ impl<D: BlockDevice> Thread<D> {
         }
     }
 
-    /// Returns the device, as the last call left it. A failed thread returns it, too.
+    /// Returns the device, as the last call left it, also if the thread has failed.
     pub fn device(&self) -> &D
         ensures disk { ordered_disk self.now.kept.disk.order (disk_of_device D.BlockDevice result.now) ≡ self.now.kept.disk }
         ensures history { D.history result.now ≡ self.now.kept.history }
@@ -148,22 +147,22 @@ impl<D: BlockDevice> Thread<D> {
         &self.parts.device
     }
 
-    /// Returns the order of the names in the directories.
+    /// Returns the order of the names in each directory.
     pub fn order(&self) -> NameOrder
         ensures { result ≡ self.now.kept.disk.order }
     {
         self.parts.order
     }
 
-    /// Says in which order the names are. Nothing else of the thread depends on it.
+    /// Sets the order of the names. Nothing else of the thread depends on it.
     pub fn set_order(&mut self, order: NameOrder)
         ensures { self.new ≡ record self.old { kept = record self.old.kept { disk = ordered_disk order self.old.kept.disk } } }
     {
         self.parts.order = order;
     }
 
-    /// Ends the thread, and returns the device as the last call left it. A failed thread returns
-    /// it, too.
+    /// Ends the thread, and returns the device as the last call left it, also if the thread has
+    /// failed.
     pub fn into_device(self) -> D
         ensures disk { ordered_disk self.kept.disk.order (disk_of_device D.BlockDevice result) ≡ self.kept.disk }
         ensures history { D.history result ≡ self.kept.history }
@@ -180,15 +179,14 @@ impl<D: BlockDevice> Thread<D> {
         headers_gstate(&self.parts.pairs)
     }
 
-    /// Returns how many pairs there are.
+    /// Returns the number of pairs.
     pub fn len(&self) -> usize
         ensures { result ≡ length self.now.kept.pairs }
     {
         self.parts.pairs.len()
     }
 
-    /// Returns the two blocks of a pair, in the order in which the thread names them. `index` is
-    /// the pair's number in the thread, from 0 on.
+    /// Returns the two blocks of the pair at `index`, in the order of the tail that names them.
     pub fn blocks_of_pair(&self, index: usize) -> [u32; 2]
         requires { index < length self.now.kept.pairs }
         ensures { address_view result ≡ (thread_pair self.now.kept index).at }
@@ -196,7 +194,7 @@ impl<D: BlockDevice> Thread<D> {
         self.parts.pairs[index].blocks
     }
 
-    /// Returns how many slots a pair has.
+    /// Returns the number of slots of the pair at `index`.
     pub fn slot_count(&self, index: usize) -> usize
         requires works { self.now.failed ≡ false }
         requires below { index < length self.now.kept.pairs }
@@ -205,7 +203,7 @@ impl<D: BlockDevice> Thread<D> {
         self.parts.pairs[index].slot_count
     }
 
-    /// Returns the revision of a pair: of the log of its active block.
+    /// Returns the revision of the pair at `index`: that of its active block.
     pub fn revision(&self, index: usize) -> u32
         requires works { self.now.failed ≡ false }
         requires below { index < length self.now.kept.pairs }
@@ -214,9 +212,9 @@ impl<D: BlockDevice> Thread<D> {
         self.parts.pairs[index].revision
     }
 
-    /// Returns the number of the next pair of the same directory, which a hard tail names (SPEC.md
-    /// of littlefs, "0x601 LFS_TYPE_HARDTAIL"). Returns None where the pair's tail is soft, and
-    /// where it has none.
+    /// Returns the index of the next pair of the same directory, which a hard tail names (SPEC.md
+    /// of littlefs, "0x601 LFS_TYPE_HARDTAIL"). Returns None if the pair's tail is soft, or if it
+    /// has none.
     pub fn next(&self, index: usize) -> Option<usize>
         requires works { self.now.failed ≡ false }
         requires below { index < length self.now.kept.pairs }
@@ -230,7 +228,7 @@ impl<D: BlockDevice> Thread<D> {
         }
     }
 
-    /// Returns the tail of a pair: which pair is the next one of the thread, and whether it
+    /// Returns the tail of the pair at `index`: the next pair of the thread, and whether it
     /// continues the same directory. Returns None at the thread's end.
     pub fn tail_of_pair(&self, index: usize) -> Option<Tail>
         requires works { self.now.failed ≡ false }
@@ -240,7 +238,7 @@ impl<D: BlockDevice> Thread<D> {
         self.parts.pairs[index].tail
     }
 
-    /// Returns a pair's delta of the global state.
+    /// Returns the delta of the global state of the pair at `index`.
     pub fn delta(&self, index: usize) -> MoveState
         requires works { self.now.failed ≡ false }
         requires below { index < length self.now.kept.pairs }
@@ -249,11 +247,11 @@ impl<D: BlockDevice> Thread<D> {
         self.parts.pairs[index].move_state
     }
 
-    /// Reads the active block of a pair into the cache, by at most one read. A cached block isn't
-    /// read. The least recent block of the cache is dropped where there were eight.
+    /// Reads the active block of the pair at `index` into the cache, with one read, or none if it
+    /// is cached. The least recent of eight blocks then leaves the cache.
     ///
-    /// Errors: `Io` where the read failed, and `NoMemory` where memory for the block isn't granted.
-    /// The thread is as it was after either, and works on.
+    /// Errors: `Io` if the read failed, `NoMemory` if memory for the block isn't granted. The
+    /// thread doesn't fail by either, and its pairs and map stay as they are.
     pub fn load_pair(&mut self, index: usize) -> Result<(), Error>
         requires works { self.old.failed ≡ false }
         requires below { index < length self.old.kept.pairs }
@@ -270,8 +268,8 @@ impl<D: BlockDevice> Thread<D> {
         self.parts.cache.fill(&mut self.parts.device, block)
     }
 
-    /// Returns the log of a pair, without a copy. Its checksums aren't computed again. Returns None
-    /// where the pair's active block isn't cached.
+    /// Borrows the log of the pair at `index`. Its checksums aren't computed again. Returns None if
+    /// the pair's active block isn't cached.
     pub fn lend(&self, index: usize) -> Option<Log<'_>>
         requires works { self.now.failed ≡ false }
         requires below { index < length self.now.kept.pairs }
@@ -286,12 +284,12 @@ impl<D: BlockDevice> Thread<D> {
         }
     }
 
-    /// Reads bytes of a skip list into the buffer, from position `pos` on. Returns how many bytes
-    /// were read: as many as the buffer and `size` allow. The list has its last block at `head`,
-    /// and `size` bytes. The caller's condition is that the list is well formed, as each file's
-    /// list is in an accepted image. The cache stays as it is.
+    /// Reads a file's bytes from position `pos` on into the buffer, as many as the buffer and the
+    /// file's `size` allow. Returns how many. The file's list has its last block at `head`.
+    /// Requires a well-formed list, as each file's list is in an accepted image. The cache stays as
+    /// it is.
     ///
-    /// Errors: `Io` where a read failed. Then it isn't said what the buffer holds.
+    /// Errors: `Io` if a read failed. The buffer may then hold any bytes.
     pub fn read_list(
         &mut self,
         head: u32,
@@ -310,15 +308,15 @@ impl<D: BlockDevice> Thread<D> {
         read_at(&mut self.parts.device, head, size, pos, buf)
     }
 
-    /// Reads bytes of a skip list as [`read_list`](Thread::read_list) does, beginning at the nearest
-    /// of the blocks that are known. Notes the blocks on the way, and where the read ends. The
-    /// caller's condition is also that the known blocks are the list's.
+    /// Reads a file's bytes as [`read_list`](Thread::read_list) does, starting the walk at the
+    /// nearest block of the index cache `known`. Adds the blocks on the walk to it, and notes where
+    /// the read ends. The index cache must be of that list.
     ///
-    /// A read that begins where the last one ended, and is within a known block, reads that block
-    /// whole into the cache, where memory for it is granted. Further reads within a cached block
-    /// take no read of the device.
+    /// A read that begins where the last one ended, within one block of the index cache, reads that
+    /// block whole into the thread's cache, if memory for it is granted. Further reads within a
+    /// cached block don't call the device.
     ///
-    /// Errors: `Io` where a read failed. Then it isn't said what the buffer holds.
+    /// Errors: `Io` if a read failed. The buffer may then hold any bytes.
     pub fn read_known_list(
         &mut self,
         head: u32,
@@ -348,8 +346,8 @@ impl<D: BlockDevice> Thread<D> {
         known.read_at(&mut self.parts.device, head, size, pos, buf)
     }
 
-    /// Takes a free block, which is in flight then, and returns its number. Returns None exactly
-    /// where no block is free.
+    /// Allocates a free block, which is then in flight, and returns its number. Returns None
+    /// exactly if no block is free.
     pub fn take(&mut self) -> Option<u32>
         ensures was_free { IfSome result (IsFree self.old.kept.map) }
         ensures taken { IfSome result (λ block. self.new ≡ record self.old { kept = record self.old.kept { map = slice_set self.old.kept.map block InFlight } }) }
@@ -362,7 +360,7 @@ impl<D: BlockDevice> Thread<D> {
         }
     }
 
-    /// Takes a given block, which is free. It is in flight then.
+    /// Allocates this free block, which is then in flight.
     pub fn take_at(&mut self, block: u32)
         requires { IsFree self.old.kept.map block }
         ensures { self.new ≡ record self.old { kept = record self.old.kept { map = slice_set self.old.kept.map block InFlight } } }
@@ -370,7 +368,7 @@ impl<D: BlockDevice> Thread<D> {
         self.parts.map.take_at(block);
     }
 
-    /// Makes a block in flight free again, which no commit names.
+    /// Makes a block in flight free again. Callers release blocks that no commit names.
     pub fn release(&mut self, block: u32)
         requires { IsInFlight self.old.kept.map block }
         ensures { self.new ≡ record self.old { kept = record self.old.kept { map = slice_set self.old.kept.map block Free } } }
@@ -378,15 +376,16 @@ impl<D: BlockDevice> Thread<D> {
         self.parts.map.release(block);
     }
 
-    /// Commits changes to a pair. Its tail still names the same pair afterwards. The changes may
-    /// change the pair's delta of the global state, and whether its tail is hard. The active block
-    /// isn't read where it is cached. It is cached afterwards, where the changes were appended to it.
+    /// Commits changes to the pair at `index`. Requires that its tail still names the same pair
+    /// afterwards. The changes may change the pair's delta of the global state, and whether its
+    /// tail is hard. If the active block is cached, it isn't read. If the changes were appended to
+    /// it, it is cached afterwards.
     ///
-    /// Returns `Full` where what the changes make doesn't fit the pair; nothing is written then.
+    /// Returns `Full` if the changed content doesn't fit the pair. Then nothing is written.
     ///
-    /// Errors: `Io` where a call of the device failed. `NoMemory` where memory for the slots and
-    /// for two blocks isn't granted, of which one may be cached; nothing is written then. After
-    /// either the thread has failed.
+    /// Errors: `Io` if a call of the device failed. `NoMemory` if memory for the slots and for two
+    /// blocks isn't granted, of which one may be cached; then nothing is written. After either the
+    /// thread has failed.
     pub fn commit_pair_changes(
         &mut self,
         alloc: Global,
@@ -414,10 +413,10 @@ impl<D: BlockDevice> Thread<D> {
         outcome
     }
 
-    /// Splits a pair: what the changes make of it is cut in two. The pair keeps the first slots and
-    /// its delta of the global state. The fresh pair, in the two blocks `fresh`, comes after it in
-    /// the thread. It gets the other slots and the tail, which still names the same pair. The two
-    /// blocks are in flight before, and used afterwards.
+    /// Commits changes to the pair at `index` and splits it in two. The pair keeps the first slots
+    /// and its delta of the global state. The fresh pair, in the two blocks `fresh`, follows it in
+    /// the thread. It gets the other slots and the tail, which must still name the same pair. The
+    /// two blocks must be in flight, and are used afterwards.
     ///
     /// Errors are those of [`commit_pair_changes`](Thread::commit_pair_changes).
     pub fn split(
@@ -440,15 +439,16 @@ impl<D: BlockDevice> Thread<D> {
         result
     }
 
-    /// Puts a fresh pair, in the two blocks `fresh`, into the thread after a pair. The fresh pair
-    /// has no slots, and the tail of that pair. Then the changes are committed to that pair, whose
-    /// tail then names the fresh one. The two blocks are in flight before, and used afterwards.
+    /// Puts a fresh pair into the thread behind the pair at `index`, in the two blocks `fresh`. The
+    /// fresh pair has no slots, and the old tail of the pair at `index`. Then the changes are
+    /// committed to the pair at `index`; its tail must then name the fresh pair. The two blocks
+    /// must be in flight, and are used afterwards.
     ///
-    /// Returns `Full` where what the changes make doesn't fit that pair. Then no tail names the
-    /// fresh pair, and its blocks stay in flight.
+    /// Returns `Full` if the changed content doesn't fit the pair at `index`. Then no tail names
+    /// the fresh pair, and its blocks stay in flight.
     ///
-    /// Errors are those of [`commit_pair_changes`](Thread::commit_pair_changes), except that at `NoMemory` the two blocks may
-    /// have been written.
+    /// Errors are those of [`commit_pair_changes`](Thread::commit_pair_changes), except that at
+    /// `NoMemory` the two blocks may have been written.
     pub fn thread_in(
         &mut self,
         alloc: Global,
@@ -468,10 +468,10 @@ impl<D: BlockDevice> Thread<D> {
         self.join(alloc, index, Behind::Empty, fresh, changes)
     }
 
-    // Writes a fresh pair, in the two blocks `fresh`, and commits to the pair at `index` the changes
-    // by which its tail names that pair. `behind` says what the fresh pair has.
+    // Writes a fresh pair into the two blocks `fresh`, with the content that `behind` says, and
+    // commits the changes to the pair at `index`, whose tail then names the fresh pair.
     //
-    // Returns `Full`, and ends in errors, as `thread_in` does.
+    // Returns `Full` and errors as `thread_in` does.
     fn join(
         &mut self,
         alloc: Global,
@@ -495,11 +495,11 @@ impl<D: BlockDevice> Thread<D> {
         outcome
     }
 
-    /// Drops the pair after a pair from the thread. The changes are committed to the pair at
-    /// `index`, and give it a tail that names what the dropped pair's tail names. The dropped
-    /// pair's blocks are free afterwards.
+    /// Drops the pair behind the one at `index` from the thread. The changes are committed to the
+    /// pair at `index`; its tail must then be the dropped pair's. The dropped pair's blocks are
+    /// free afterwards.
     ///
-    /// Returns `Full`, and ends in errors, as [`commit_pair_changes`](Thread::commit_pair_changes) does.
+    /// Returns `Full` and errors as [`commit_pair_changes`](Thread::commit_pair_changes) does.
     pub fn drop_next(
         &mut self,
         alloc: Global,
@@ -520,12 +520,12 @@ impl<D: BlockDevice> Thread<D> {
         outcome
     }
 
-    /// Moves the pair after a pair into the two blocks `fresh`. The moved pair has the slots, the tail
-    /// and the delta that it had, and the next revision. Then a tail that names it is committed to
-    /// the pair at `index`, whose tail is a hard one. The two blocks are in flight before, and used
-    /// afterwards. The old ones are free afterwards.
+    /// Relocates the pair behind the one at `index` to the two blocks `fresh`. It keeps its slots,
+    /// tail and delta, with the next revision. Then a tail that names it there is committed to the
+    /// pair at `index`, whose tail must be a hard one. The two blocks must be in flight, and are
+    /// used afterwards; the old ones are free.
     ///
-    /// The caller's condition is also that the slots of each of the two pairs fit a pair.
+    /// Requires also that the slots of both pairs fit a pair each.
     ///
     /// Errors are those of [`thread_in`](Thread::thread_in).
     pub fn move_next(&mut self, alloc: Global, index: usize, fresh: [u32; 2]) -> Result<(), Error>
@@ -541,7 +541,7 @@ impl<D: BlockDevice> Thread<D> {
             hard: true,
             pair: Some(fresh),
         };
-        // Gives the proof what is kept of the pairs.
+        // Tells the proof what is kept of the pairs.
         let _ = &self.parts;
         match self.join(alloc, index, Behind::Next, fresh, &[tail]) {
             Ok(Outcome::Done) => Ok(()),
@@ -550,12 +550,12 @@ impl<D: BlockDevice> Thread<D> {
         }
     }
 
-    /// Puts a fresh pair, in the two blocks `fresh`, into the thread after a pair. The fresh pair gets
-    /// all slots of that pair and its tail, and the next revision. Then that pair keeps its first
-    /// `keep` slots and its delta, and gets a hard tail that names the fresh one. The two blocks are
-    /// in flight before, and used afterwards.
+    /// Unloads the pair at `index` to a fresh pair behind it, in the two blocks `fresh`. First the
+    /// fresh pair gets all slots of that pair and its tail, with the next revision. Then that pair
+    /// keeps only its first `keep` slots and its delta, and gets a hard tail to the fresh pair. The
+    /// two blocks must be in flight, and are used afterwards.
     ///
-    /// The caller's conditions are also that the pair has `keep` slots, and that its slots fit a pair.
+    /// Requires also that the pair has at least `keep` slots, and that its slots fit a pair.
     ///
     /// Errors are those of [`thread_in`](Thread::thread_in).
     pub fn unload(
@@ -573,7 +573,7 @@ impl<D: BlockDevice> Thread<D> {
         ensures device { ChangesWithinReads (4 + reads_unless_cached (cached_log self.old index)) (addresses_blocks (thread_pair self.old.kept index).at (address_view fresh)) self.old.kept self.new.kept }
         ensures stops { CleanLossLeaves self.old.kept.history self.new.kept.history (LossLeavesUnloaded self.old.kept index (address_view fresh) keep) }
     {
-        // Gives the proof what is kept of the pairs.
+        // Tells the proof what is kept of the pairs.
         let _ = &self.parts;
         let count = self.slot_count(index) - usize::from(keep);
         let changes = match unload_changes(alloc, fresh, keep, count) {
@@ -590,9 +590,10 @@ impl<D: BlockDevice> Thread<D> {
         }
     }
 
-    /// Lends the device and the map to `work`, which leaves used blocks as they are, and those of the
-    /// pairs used. Such work writes a file's list into free blocks or blocks in flight, or settles
-    /// it in the map. Blocks that weren't used before aren't cached afterwards.
+    /// Calls `work` with the device and the map, and returns its result. Such work writes a file's
+    /// list into free blocks or blocks in flight, or settles it in the map. Requires that it
+    /// changes no used block, and that the pairs' blocks stay used. Blocks that weren't used before
+    /// aren't cached afterwards.
     pub fn run_work<X, F: FnOnce(&mut D, &mut BlockMap) -> X>(&mut self, work: F) -> X
         requires works { self.old.failed ≡ false }
         requires can { (device : D) (map : BlockMap) → BelongToThread D.BlockDevice self.old.kept device map → CanRunWork F.FnOnce work device map }
@@ -607,7 +608,7 @@ impl<D: BlockDevice> Thread<D> {
         work(&mut self.parts.device, &mut self.parts.map)
     }
 
-    /// Marks the thread as failed, where what it lent may be of no use any more.
+    /// Marks the thread as failed, for callers whose work on its parts went wrong.
     pub fn fail(&mut self)
         ensures { self.new ≡ record self.old { failed = true } }
     {
@@ -621,7 +622,7 @@ impl<D: BlockDevice> Thread<D> {
         self.has_failed
     }
 
-    /// Makes a failed thread of its parts. Nothing is known of what its device holds.
+    /// Makes a failed thread of its parts. Nothing is required of what its device holds.
     pub fn failed_thread(parts: ThreadParts<D>) -> Thread<D>
         ensures failed { result.failed ≡ true }
         ensures kept { result.kept ≡ kept_in_order D.BlockDevice parts.order parts.device parts.pairs.items parts.map }
@@ -639,15 +640,16 @@ impl<D: BlockDevice> Thread<D> {
         self.parts.device.geometry()
     }
 
-    /// Returns how many blocks are used.
+    /// Returns the number of used blocks.
     pub fn used_count(&self) -> u32
         ensures { result ≡ used_count self.now.kept.map }
     {
         self.parts.map.used_count()
     }
 
-    /// Sets where the search of [`take`](Thread::take) begins: at the first free block from `number`
-    /// on. Returns that block. Returns None exactly if no block is free.
+    /// Sets where the search of [`take`](Thread::take) begins: at the first free block from
+    /// `number` on, modulo the number of blocks. Returns that block, or None exactly if no block is
+    /// free.
     pub fn start_search_at(&mut self, number: u32) -> Option<u32>
         ensures begins { BeginsAt self.old.kept.map number result }
         ensures same { self.new ≡ self.old }
@@ -655,8 +657,8 @@ impl<D: BlockDevice> Thread<D> {
         self.parts.map.start_search_at(number)
     }
 
-    /// Returns where the search of [`take`](Thread::take) goes on: after the block that was taken
-    /// last.
+    /// Returns the number at which the search of [`take`](Thread::take) begins, modulo the number
+    /// of blocks.
     pub fn next_start(&self) -> u32 {
         self.parts.map.next_start()
     }
@@ -678,7 +680,7 @@ impl<D: BlockDevice> Thread<D> {
     }
 }
 
-// Makes an empty cache, and a map of so many free blocks.
+// Makes an empty cache, and a map of `block_count` free blocks.
 fn cache_and_map(alloc: Global, block_count: u32) -> Result<(Cache, BlockMap), Error>
     ensures empty { IfOk result (λ parts. parts.0 ≡ []) }
     ensures free { IfOk result (λ parts. parts.1 ≡ replicate block_count Free) }
@@ -689,7 +691,8 @@ fn cache_and_map(alloc: Global, block_count: u32) -> Result<(Cache, BlockMap), E
     Ok((cache, map))
 }
 
-// Makes the changes that delete `count` slots after the first `keep`, and set a hard tail.
+// Returns the changes that delete `count` slots behind the first `keep`, and set a hard tail to the
+// fresh pair.
 fn unload_changes<'a>(
     alloc: Global,
     fresh: [u32; 2],

@@ -1,4 +1,4 @@
--- What the pass over a thread's slots finds.
+-- The results of the pass over a thread's slots.
 use Rattle.std.specs.Prelude.{ℕ, ◌≡◌, false, List, [], ◌∷◌, ◌++◌, length, Option, Some, None}
 use Rattle.lfs_model.specs.layers.BlockSets.{AreInFlight, AreUsed, BlockStates}
 use Rattle.lfs_model.specs.format.Disk.{Disk, block_count}
@@ -12,14 +12,14 @@ use Rattle.lfs_thread.specs.Kept.{PairHeader, ThreadView, header_pairs}
 use Rattle.lfs_mount.specs.Checked.{HasSuperblockChain}
 use Rattle.lfs_mount.specs.MoveChecks.{NamesMovedEntry}
 
--- a map of as many blocks as before, of which these are used, and all others are free
+-- a map of as many blocks as before, in which these blocks are used, and all others free
 pub record MapUsesBlocks (old new : BlockStates) (bs : List ℕ) : Type 0 where
   pub len : length new ≡ length old
   pub used : AreUsed new bs
   pub none_in_flight : AreInFlight new []
 
--- The slot that a set move names is an entry. Where the superblock's pairs are right, the map has the image's blocks. Where the
--- move is right too, the image is accepted if its directories break no rule in the disk's order of names. If they break one, the
+-- The slot that a set move names is an entry. If the superblock's pairs are right, the map has the image's blocks. If the move is
+-- right, too, the image is accepted unless its directories break a rule in the disk's order of names. If they break one, the
 -- pairs of the thread do.
 pub record IsThreadVerdict (disk : Disk) (broken_rule : Option Violation) (old new : BlockStates) (chain : List Pair) (p : Pair) (rest : List Pair) : Type 0 where
   pub moved : NamesMovedEntry (pairs_gstate (chain ++ p ∷ rest)) (p ∷ rest)
@@ -27,15 +27,15 @@ pub record IsThreadVerdict (disk : Disk) (broken_rule : Option Violation) (old n
   pub accepted : broken_rule ≡ None → (bytes : List ℕ) → HasSuperblockChain disk chain p rest bytes → HasValidMove (chain ++ p ∷ rest) (pairs_gstate (chain ++ p ∷ rest)) → IsAccepted disk (chain ++ p ∷ rest)
   pub broken : (violation : Violation) → broken_rule ≡ Some violation → PairsBreak disk (chain ++ p ∷ rest) violation
 
--- The map has the image's blocks. The image is accepted if its directories break no rule in the disk's order of names. If they
+-- The map has the image's blocks. The image is accepted unless its directories break a rule in the disk's order of names. If they
 -- break one, the disk does.
 pub record IsHeadersVerdict (disk : Disk) (headers : List PairHeader) (broken_rule : Option Violation) (old new : BlockStates) : Type 0 where
   pub marked : MapUsesBlocks old new (used_blocks disk (header_pairs disk headers))
   pub accepted : broken_rule ≡ None → IsAccepted disk (header_pairs disk headers)
   pub broken : (violation : Violation) → broken_rule ≡ Some violation → Breaks disk violation
 
--- The thread of an accepted image, whose device was only read, without a fault. The map has all blocks. None but the image's are
--- used, and none is in flight.
+-- The thread of an accepted image, whose device was only read, without a fault. In its map exactly the image's blocks are used,
+-- and none is in flight.
 pub record IsMountedOn (disk : Disk) (history : List CallEvent) (t : ThreadView) : Type 0 where
   pub works : t.failed ≡ false
   pub disk_is : t.kept.disk ≡ disk

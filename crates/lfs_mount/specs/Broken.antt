@@ -1,4 +1,4 @@
--- Which rule a pair breaks that is passed, and where.
+-- The rule that a pair of the pass breaks, and its slot.
 use Rattle.std.specs.Prelude.{ℕ, ◌≡◌, ◌⊎◌, true, false, List, Option, Some, None, slice_get, take}
 use Rattle.std.specs.List.{flat_map}
 use Rattle.std.specs.Option.{option_and_then, option_map}
@@ -27,33 +27,34 @@ abbrev pub IsSuperblockOrNone : Option RawSlot → Type 0
 IsSuperblockOrNone None = Unit {0}
 IsSuperblockOrNone (Some s) = is_superblock_name s.name ≡ true
 
--- the slot that a set move names isn't there, or is a superblock's
+-- the slot that a set move names doesn't exist, or is a superblock's
 abbrev pub IsBadMove : Option RawSlot → Violation → Type 0
 IsBadMove slot v = (v ≡ violation.Move) × IsSuperblockOrNone slot
 
--- The slot is no superblock's, and no entry.
+-- The slot isn't a superblock's, and holds no entry.
 abbrev pub IsBadEntry : List ℕ → ℕ → List RawSlot → Violation → Type 0
 IsBadEntry at id slots v = (v ≡ violation.Entry at id) × (s : RawSlot) × ((slice_get slots id ≡ Some s) × (is_superblock_name s.name ≡ false) × (raw_slot_entry s ≡ None))
 
--- the slot that a set move names is no entry
+-- the slot that a set move names holds no entry
 abbrev pub BreaksMovedSlot : PairBeforeSlotsAreRead → List RawSlot → Violation → Type 0
 BreaksMovedSlot m slots v = (id : ℕ) × ((m.moved ≡ Some id) × (IsBadMove (slice_get slots id) v ⊎ IsBadEntry m.at id slots v))
 
 abbrev pub LacksSuperblock : PairBeforeSlotsAreRead → List RawSlot → Type 0
 LacksSuperblock m slots = (mid : List RawSlot) × ((unmoved_raw_slots m.moved slots ≡ Some mid) × (superblock_removed m.has_superblock mid ≡ None))
 
--- The slot that a set move names is no entry. No pair that was described has no content, or lacks the superblock.
+-- The slot that a set move names holds no entry; or the block has no content, or lacks the superblock, which no described pair
+-- does.
 abbrev pub BreaksBlockSlots : PairBeforeSlotsAreRead → List ℕ → Violation → Type 0
 BreaksBlockSlots m block v = (raw_block_slots block ≡ None)
     ⊎ ((slots : List RawSlot) × ((raw_block_slots block ≡ Some slots) × (BreaksMovedSlot m slots v ⊎ LacksSuperblock m slots)))
 
 -- ---- slots that are kept
 
--- the kept slot at an index is no entry
+-- the kept slot at an index holds no entry
 abbrev pub BreaksEntrySlot : PairBeforeSlotsAreRead → List RawSlot → Violation → Type 0
 BreaksEntrySlot m kept v = (index : ℕ) × ((v ≡ violation.Entry m.at (entry_slot_number m index)) × LacksEntryAt kept index)
 
--- the kept slot at an index has that list
+-- the kept slot at an index has this list
 pub record IsSlotList (kept : List RawSlot) (index : ℕ) (l : ℕ × ℕ) : Type 0 where
   pub slot : RawSlot
   pub there : slice_get kept index ≡ Some slot
@@ -63,16 +64,16 @@ pub record IsSlotList (kept : List RawSlot) (index : ℕ) (l : ℕ × ℕ) : Typ
 abbrev pub list_blocks_before : Disk → List RawSlot → ℕ → List ℕ
 list_blocks_before disk kept index = flat_map (blocks_last_first disk) (raw_slot_lists (take index kept))
 
--- the list is well formed, and this block of it was marked before
+-- the list is well formed, and this block of it was used already
 abbrev pub HasTakenBlock : Disk → BlockStates → ℕ × ℕ → ℕ → Type 0
 HasTakenBlock disk old l block = IsSkipList disk.blocks disk.block_size l.0 l.1 × MeetsTaken old (blocks_last_first disk l) block
 
--- the list of a slot isn't well formed, or it has a block that was marked before
+-- the list of a slot isn't well formed, or a block of it was used already
 abbrev pub BreaksList : Disk → BlockStates → ℕ × ℕ → List ℕ → ℕ → Violation → Type 0
 BreaksList disk old l at slot v = ((v ≡ violation.List at slot) × ¬ IsSkipList disk.blocks disk.block_size l.0 l.1)
     ⊎ ((block : ℕ) × ((v ≡ violation.TwoOwners at slot block) × HasTakenBlock disk old l block))
 
--- the same of a kept slot, behind the lists of those before it
+-- the same for a kept slot, once the lists of the slots before it are marked
 pub record BreaksEntryList (disk : Disk) (m : PairBeforeSlotsAreRead) (old : BlockStates) (kept : List RawSlot) (v : Violation) : Type 0 where
   pub index : ℕ
   pub l : ℕ × ℕ
@@ -83,7 +84,7 @@ pub record BreaksEntryList (disk : Disk) (m : PairBeforeSlotsAreRead) (old : Blo
 
 -- ---- a pair
 
--- A pair breaks the rule, where the blocks that `sets` has were marked before.
+-- A pair breaks the rule, if the used blocks of `sets` were marked before.
 abbrev pub BreaksDescribedPair : Disk → PairBeforeSlotsAreRead → BlockStates → Violation → Type 0
 BreaksDescribedPair disk m sets v = BreaksBlockSlots m (disk_block disk m.active) v
     ⊎ ((kept : List RawSlot) × ((block_entry_slots m (disk_block disk m.active) ≡ Some kept) × (BreaksEntrySlot m kept v ⊎ BreaksEntryList disk m sets kept v)))

@@ -1,4 +1,4 @@
--- What is known of a thread before its slots are read, and what the superblock's pairs are.
+-- A thread before its slots are read, and the superblock's pairs.
 use Rattle.std.specs.Prelude.{ℕ, ◌≡◌, ◌⊎◌, Bool, true, List, [], ◌∷◌, ◌++◌, length, Some, codes}
 use Rattle.std.specs.List.{AllByRecursion}
 use Rattle.lfs_model.specs.layers.BlockSets.{BlockStates}
@@ -14,7 +14,7 @@ use Rattle.lfs_mount.specs.Described.{AreDescriptions}
 use Rattle.lfs_mount.specs.declared.pass.PairBeforeSlotsAreRead.{PairBeforeSlotsAreRead}
 use Rattle.lfs_model.specs.layers.Steps.{directory_addresses}
 
--- the first slot is a superblock's, with this struct but for an accepted version
+-- the first slot is a superblock's, with this struct except for an accepted version
 abbrev pub FirstHasStruct : AcceptedVersions → List ℕ → List Slot → Type 0
 FirstHasStruct versions bytes [] = ⊥
 FirstHasStruct versions bytes (s ∷ slots) = (is_superblock s ≡ true) × RepeatsSuperblockStruct versions bytes s
@@ -38,8 +38,8 @@ pub record HasSuperblockChain (disk : Disk) (chain : List Pair) (p : Pair) (rest
   pub bare : AllByRecursion (HasNoEntries disk.profile.versions bytes) chain
   pub start : FirstHasStruct disk.profile.versions bytes p.content.slots
 
--- A thread in three parts: the chain before the root's first pair, that pair, and the others. The blocks of its pairs are marked,
--- and its directories have their places.
+-- A thread in three parts: the superblock's chain, the root's first pair, and the others. Its pairs' blocks are used in the map,
+-- and `firsts` are the addresses of its directories.
 pub record IsDescribedThread (disk : Disk) (sets : BlockStates) (firsts : List (ℕ × ℕ)) (members : List PairBeforeSlotsAreRead) (sync : Bool) (chain : List Pair) (p : Pair) (rest : List Pair) : Type 0 where
   pub thread : IsThread (content_at disk) (block_count disk) (chain ++ p ∷ rest)
   pub chain_is : count_before_root (chain ++ p ∷ rest) ≡ length chain

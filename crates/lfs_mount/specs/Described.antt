@@ -1,4 +1,4 @@
--- What the code knows of the directories' pairs before it reads their slots.
+-- The descriptions of the directories' pairs, before their slots are read.
 use Rattle.std.specs.Prelude.{◌≡◌, ◌<◌, Bool, true, false, List, [], ◌∷◌, Some}
 use Rattle.lfs_model.specs.format.Disk.{Disk, disk_block, block_count}
 use Rattle.lfs_model.specs.format.Content.{current_block, content_at}
@@ -6,7 +6,7 @@ use Rattle.lfs_model.specs.format.Slots.{Gstate, address_view}
 use Rattle.lfs_model.specs.format.Thread.{Pair, is_hard_tail, superblock_first, moved_id}
 use Rattle.lfs_mount.specs.declared.pass.PairBeforeSlotsAreRead.{PairBeforeSlotsAreRead}
 
--- The pair is on the disk, and this is what is known of it. The first pair has the superblock.
+-- The pair is on the disk, and this is its description. The first pair has the superblock.
 pub record IsDescription (disk : Disk) (g : Gstate) (is_first : Bool) (p : Pair) (m : PairBeforeSlotsAreRead) : Type 0 where
   pub at : address_view m.at ≡ p.at
   pub content : content_at disk p.at ≡ Some p.content

@@ -1,4 +1,4 @@
--- The entries in the slots of a pair, and what they add to what is known of a directory.
+-- The entries in the slots of a pair, added to the scan of a directory.
 use Rattle.std.specs.Prelude.{ℕ, ◌≡◌, ◌==◌, ◌&&◌, Bool, true, false, if◌then◌else◌, List, [], ◌∷◌, ◌++◌, length, slice_get, Option, Some, None}
 use Rattle.std.specs.Option.{option_and_then, option_map}
 use Rattle.lfs_model.specs.declared.order.NameOrder.{NameOrder}
@@ -27,7 +27,7 @@ NamedReference = Name × EntryReference
 abbrev pub named_reference : Slot → NamedReference
 named_reference s = (s.name, struct_reference s.struct)
 
--- what an entry with this type of name and this struct names; none where the two don't suit
+-- what an entry with this type of name and this struct names; None if the struct doesn't suit the type
 abbrev pub raw_reference : ℕ → ℕ × List ℕ → Option EntryReference
 raw_reference kind part =
     if kind == file_name_type && part.0 == inline_type then Some InSlot
@@ -35,7 +35,7 @@ raw_reference kind part =
     else (if kind == directory_name_type && part.0 == directory_type then (if length part.1 == 8 then Some (Below (decoded_address part.1)) else None)
     else None))
 
--- the entry that a slot of a log holds, where the slot may be in a directory
+-- the entry in a slot of a log, if the slot may be in a directory
 abbrev pub raw_slot_entry : RawSlot → Option NamedReference
 raw_slot_entry s = option_and_then (λ name. option_and_then (λ struct.
     if is_valid_name name.1 then option_map (λ stand. (name.1, stand)) (raw_reference name.0 struct) else None) s.struct) s.name
@@ -44,7 +44,7 @@ raw_slot_entry s = option_and_then (λ name. option_and_then (λ struct.
 abbrev pub LacksEntryAt : List RawSlot → ℕ → Type 0
 LacksEntryAt slots index = (s : RawSlot) × ((slice_get slots index ≡ Some s) × (raw_slot_entry s ≡ None))
 
--- ---- one entry more
+-- ---- one more entry
 
 abbrev pub vertex_with_branch : Vertex → Option ℕ → Vertex
 vertex_with_branch v None = record v { leads = false }
@@ -55,12 +55,12 @@ vertex_with_entry firsts v InSlot = v
 vertex_with_entry firsts v (InList head size) = v
 vertex_with_entry firsts v (Below to) = vertex_with_branch v (address_index firsts to)
 
--- whether a name comes after the last one, which is empty where there is none
+-- whether a name comes after the last one, which is empty if there is none
 abbrev pub comes_after_name : NameOrder → Name → Name → Bool
 comes_after_name order [] name = true
 comes_after_name order (b ∷ last) name = is_less (name_cmp order (b ∷ last) name)
 
--- what is known with one entry more
+-- the scan with one more entry
 abbrev pub scan_with_entry : NameOrder → List (ℕ × ℕ) → Name × Vertex → NamedReference → Name × Vertex
 scan_with_entry order firsts (last, v) (name, stand) = (name, vertex_with_entry firsts (record v { rises = v.rises && comes_after_name order last name }) stand)
 
@@ -68,6 +68,6 @@ abbrev pub scan_with_entries : NameOrder → List (ℕ × ℕ) → Name × Verte
 scan_with_entries order firsts known [] = known
 scan_with_entries order firsts known (e ∷ es) = scan_with_entries order firsts (scan_with_entry order firsts known e) es
 
--- what is known before the first entry
+-- the scan before the first entry
 abbrev pub empty_scan : Name × Vertex
 empty_scan = ([], record { rises = true; leads = true; branches = [] })

@@ -1,4 +1,4 @@
--- An entry of the code as one of the definitions.
+-- The code's entries as the definitions see them.
 use Rattle.lfs_tag.specs.StructView.{struct_view}
 use Rattle.lfs_mount.specs.DirectoryEntries as entries
 use Rattle.lfs_mount.specs.declared.entry.NamedStruct.{NamedStruct}

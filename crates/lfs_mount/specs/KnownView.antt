@@ -1,4 +1,4 @@
--- What the code knows of a directory in an order of names: the last name, and a vertex of the definitions' graph.
+-- The code's scan of a directory, for one order of names: the last name, and a vertex of the definitions' graph.
 use Rattle.lfs_model.specs.format.Names.{Name}
 use Rattle.lfs_model.specs.declared.order.NameOrder.{NameOrder}
 use Rattle.lfs_mount.specs.Reaching.{Vertex}

@@ -1,4 +1,4 @@
--- The lists of files that slots of the code have.
+-- The files' lists in the code's slots.
 use Rattle.std.specs.Prelude.{ℕ, List, map}
 use Rattle.lfs_model.specs.format.Content.{RawSlot}
 use Rattle.lfs_tag.specs.declared.content.Slot.{Slot}

@@ -1,4 +1,4 @@
--- Blocks of files that are marked in a map of blocks.
+-- The blocks of files, marked in the block map.
 use Rattle.std.specs.Prelude.{Option, None, All, reverse, ℕ, ◌≡◌, ◌⊎◌, ◌<◌, List, [], ◌∷◌, Some, length, nat_eq, slice_get, slice_set}
 use Rattle.std.specs.List.{IsDistinct, filter_map, flat_map}
 use Rattle.std.specs.Option.{option_and_then}
@@ -9,12 +9,12 @@ use Rattle.lfs_mount.specs.DirectoryEntries.{NamedReference, InSlot, InList, Bel
 use Rattle.lfs_model.specs.layers.BlockSets.{BlockStates, IsFree}
 use Rattle.lfs_model.specs.layers.BlockSets.BlockState.{Used}
 
--- Each block was free, and is used afterwards. A block that comes twice isn't free the second time.
+-- Each block was free, and is used afterwards. A block that occurs twice isn't free the second time.
 abbrev pub MarksUsed : BlockStates → List ℕ → BlockStates → Type 0
 MarksUsed old [] new = old ≡ new
 MarksUsed old (b ∷ bs) new = IsFree old b × MarksUsed (slice_set old b Used) bs new
 
--- The first blocks were free. This one behind them wasn't, after they were marked.
+-- The blocks before this one were free, and this one wasn't once they were marked.
 abbrev pub MeetsTaken : BlockStates → List ℕ → ℕ → Type 0
 MeetsTaken old [] block = ⊥
 MeetsTaken old (b ∷ bs) block = ((b ≡ block) × ¬ IsFree old b) ⊎ (IsFree old b × MeetsTaken (slice_set old b Used) bs block)
@@ -24,7 +24,7 @@ pub record MarksIfFree (old : BlockStates) (before : Option ℕ) (b : ℕ) (new 
   pub free : after ≡ None → (before ≡ None) × IsFree old b × (new ≡ slice_set old b Used)
   pub taken : (block : ℕ) → after ≡ Some block → (before ≡ Some block) ⊎ ((before ≡ None) × (b ≡ block) × ¬ IsFree old b)
 
--- These blocks are used, each is in the list once, and all others are free.
+-- Each of these blocks is used and occurs once, and all other blocks are free.
 pub record HasUsedBlocks (sets : BlockStates) (bs : List ℕ) : Type 0 where
   pub distinct : IsDistinct nat_eq bs
   pub used : (i b : ℕ) → slice_get bs i ≡ Some b → slice_get sets b ≡ Some Used
@@ -37,7 +37,7 @@ list_of_entry (name, InList head size) = Some (head, size)
 list_of_entry (name, InSlot) = None
 list_of_entry (name, Below to) = None
 
--- the head and the size of each list, in the order of the slots
+-- the last block and the size of each list, in the order of the slots
 abbrev pub raw_slot_lists : List RawSlot → List (ℕ × ℕ)
 raw_slot_lists slots = filter_map (λ s. option_and_then list_of_entry (raw_slot_entry s)) slots
 
@@ -45,7 +45,7 @@ raw_slot_lists slots = filter_map (λ s. option_and_then list_of_entry (raw_slot
 abbrev pub blocks_last_first : Disk → ℕ × ℕ → List ℕ
 blocks_last_first disk l = reverse (blocks_to_head disk.blocks (block_count_for disk.block_size l.1) l.0)
 
--- the list of that head and size is well formed, and its blocks were free
+-- the list of this last block and size is well formed, and its blocks were free
 pub record MarksList (disk : Disk) (old : BlockStates) (l : ℕ × ℕ) (new : BlockStates) : Type 0 where
   pub list : IsSkipList disk.blocks disk.block_size l.0 l.1
   pub marked : MarksUsed old (blocks_last_first disk l) new

@@ -1,4 +1,4 @@
--- What headers say of the directories' pairs.
+-- The directories' pairs, by their headers.
 use Rattle.std.specs.Prelude.{ℕ, Bool, false, not, ◌==◌, ◌&&◌, if◌then◌else◌, List, [], ◌∷◌, Option, Some, None, ◌≡◌, nat_eq, true}
 use Rattle.std.specs.List.{IsDistinct}
 use Rattle.std.specs.Option.{option_map}
@@ -18,7 +18,7 @@ use Rattle.lfs_mount.specs.declared.pass.PairBeforeSlotsAreRead.{PairBeforeSlots
 abbrev pub header_tail_hard : PairHeader → Bool
 header_tail_hard h = is_hard_tail (option_map tail_view h.tail)
 
--- the id of the slot that a set move names in the pair at an address
+-- the id of the slot that a set move names, if it is in the pair at an address
 abbrev pub moved_id_at : Gstate → ℕ × ℕ → Option ℕ
 moved_id_at g at = if g.kind == 0x4ff && same_pair g.pair at then Some g.id else None
 
@@ -31,7 +31,7 @@ header_description g is_first h = record {
   moved = moved_id_at g (header_address h);
 }
 
--- what is known of these pairs, of which the first has the superblock
+-- the descriptions of these pairs, of which the first has the superblock
 abbrev pub header_descriptions : Gstate → Bool → List PairHeader → List PairBeforeSlotsAreRead
 header_descriptions g is_first [] = []
 header_descriptions g is_first (h ∷ hs) = header_description g is_first h ∷ header_descriptions g false hs
@@ -41,7 +41,7 @@ abbrev pub directory_beginnings : Bool → List PairHeader → List (ℕ × ℕ)
 directory_beginnings begins [] = []
 directory_beginnings begins (h ∷ hs) = if begins then header_address h ∷ directory_beginnings (not (header_tail_hard h)) hs else directory_beginnings (not (header_tail_hard h)) hs
 
--- These are the headers of the directories' pairs in a thread that is known. No two directories begin in the same block.
+-- These are the headers of the directories' pairs in a described thread. No two directories begin in the same block.
 pub record AreThreadDirectories (disk : Disk) (sets : BlockStates) (g : Gstate) (headers : List PairHeader) : Type 0 where
   pub apart : IsDistinct nat_eq (blocks_of_addresses (directory_beginnings true headers))
   pub known : DescribesThread disk sets (directory_beginnings true headers) (header_descriptions g true headers) g.sync
@@ -50,7 +50,7 @@ pub record AreThreadDirectories (disk : Disk) (sets : BlockStates) (g : Gstate) 
 abbrev pub IsHeaderThread : Disk → BlockStates → Gstate → List PairHeader → List Pair → Pair → List Pair → Type 0
 IsHeaderThread disk sets g headers chain p rest = IsDescribedThread disk sets (directory_beginnings true headers) (header_descriptions g true headers) g.sync chain p rest
 
--- A thread was read: its headers and the map are kept, and the map has its pairs' blocks only.
+-- A thread was read: its headers agree with the disk, and only its pairs' blocks are used in the map.
 pub record IsThreadRead (disk : Disk) (history : List CallEvent) (headers : List PairHeader) (sets : BlockStates) (g : Gstate) : Type 0 where
   pub kept : IsKeptOnDisk disk history headers sets
   pub thread : IsThread (content_at disk) (block_count disk) (header_pairs disk headers)

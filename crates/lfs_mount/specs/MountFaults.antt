@@ -1,4 +1,4 @@
--- The errors of a mount, as the tables have them.
+-- The errors of a mount, as a session returns them.
 use Rattle.std.specs.Prelude.{◌≡◌, ◌⊎◌}
 use Rattle.lfs_device.specs.declared.error.Error.{Error}
 use Rattle.lfs_device.specs.declared.error.Error.TheVariants.{Corrupt, Io, NoMemory}

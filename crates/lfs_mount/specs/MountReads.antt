@@ -1,4 +1,4 @@
--- How many reads the pairs of an image take.
+-- The number of reads that a mount of an image costs.
 use Rattle.std.specs.Prelude.{ℕ, ◌+◌, List, [], length, sum_by}
 use Rattle.std.specs.Option.{option_and_then, option_map_or}
 use Rattle.lfs_model.specs.format.Content.{content_after, empty_raw_content}
@@ -17,7 +17,7 @@ use Rattle.lfs_mount.specs.declared.pass.PairBeforeSlotsAreRead.{PairBeforeSlots
 abbrev pub list_reads : ℕ → ℕ × ℕ → ℕ
 list_reads block_size l = block_count_for block_size l.1
 
--- the head and the size of each list in a pair
+-- the last block and the size of each list in a pair
 abbrev pub described_lists : Disk → PairBeforeSlotsAreRead → List (ℕ × ℕ)
 described_lists disk member = option_map_or raw_slot_lists (option_and_then (λ c. raw_entry_slots member c.slots) (content_after empty_raw_content (block_entries (disk_block disk member.active)))) []
 

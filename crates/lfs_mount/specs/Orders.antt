@@ -1,4 +1,4 @@
--- Orders of names, and what is so in each.
+-- Sets of orders of names, and a result for each order.
 use Rattle.std.specs.Prelude.{Bool, Option}
 use Rattle.lfs_model.specs.declared.order.NameOrder.{NameOrder}
 use Rattle.lfs_model.specs.declared.order.NameOrder.TheVariants.{LongerFirst, ShorterFirst}

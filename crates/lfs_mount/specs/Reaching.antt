@@ -1,10 +1,10 @@
--- The search for directories from the root, where a directory is a number.
+-- The search for directories from the root, in which a directory is a number.
 use Rattle.std.specs.Prelude.{ℕ, zero, suc, ◌≡◌, ◌<◌, ◌&&◌, Bool, true, false, List, [], ◌∷◌, ◌++◌, length, All, Option, Some, None, slice_get, nat_eq}
 use Rattle.std.specs.List.{IsDistinct}
 use Rattle.std.specs.Option.{option_map_or}
 
--- What is known of a directory by itself: whether its names rise, whether each directory in it is one of the graph's, and the
--- numbers of these. It is sound where both are so.
+-- A directory by itself: whether its names are sorted (`rises`), whether each of its subdirectories is in the graph (`leads`),
+-- and their numbers. It is sound if both are true.
 pub record Vertex : Type 0 where
   pub rises : Bool
   pub leads : Bool
@@ -24,16 +24,16 @@ abbrev pub optional_branches : DirectoryGraph → Option ℕ → List ℕ
 optional_branches graph None = []
 optional_branches graph (Some v) = branches_at graph v
 
--- the directories found so far, and those that the one at place k leads to
+-- the directories found so far, and the subdirectories of the one at list index k
 abbrev pub found_with_branches : DirectoryGraph → ℕ → List ℕ → List ℕ
 found_with_branches graph k found = found ++ optional_branches graph (slice_get found k)
 
--- the directories found from the root, the first found first, after those at the first k places were looked into
+-- the directories found from the root, in the order in which they are found, once the subdirectories of the first k are added
 abbrev pub found_vertices : DirectoryGraph → ℕ → List ℕ
 found_vertices graph zero = 0 ∷ []
 found_vertices graph (suc k) = found_with_branches graph k (found_vertices graph k)
 
--- The search has ended: each directory that was found was looked into and is sound. None was found twice.
+-- The search has ended: the subdirectories of each directory found were added, each is sound, and none was found twice.
 pub record EndsSearchSoundly (graph : DirectoryGraph) (k : ℕ) : Type 0 where
   pub all : length (found_vertices graph k) ≡ k
   pub distinct : IsDistinct nat_eq (found_vertices graph k)
@@ -45,7 +45,7 @@ pub record AreFoundMarks (marks : List Bool) (found : List ℕ) : Type 0 where
   pub all : (i v : ℕ) → slice_get found i ≡ Some v → slice_get marks v ≡ Some true
   pub only : (v : ℕ) → slice_get marks v ≡ Some true → (i : ℕ) × (slice_get found i ≡ Some v)
 
--- the number stands at two places of the list
+-- the number occurs at two indices of the list
 pub record IsRepeated (xs : List ℕ) (x : ℕ) : Type 0 where
   pub i : ℕ
   pub j : ℕ
@@ -53,13 +53,13 @@ pub record IsRepeated (xs : List ℕ) (x : ℕ) : Type 0 where
   pub one : slice_get xs i ≡ Some x
   pub other : slice_get xs j ≡ Some x
 
--- these directories are found, too, each for the first time
+-- these directories are found as well, each for the first time
 pub record FindsDirectories (marks : List Bool) (found branches : List ℕ) (new_marks : List Bool) (new_found : List ℕ) : Type 0 where
   pub found_is : new_found ≡ found ++ branches
   pub marked : AreFoundMarks new_marks new_found
   pub len : length new_marks ≡ length marks
 
--- The marks are those of the directories that are found in the end, where each one was looked into.
+-- The marks are those of the directories that the search has found when it has ended.
 pub record AreReachedMarks (graph : DirectoryGraph) (marks : List Bool) : Type 0 where
   pub steps : ℕ
   pub finished : EndsSearchSoundly graph steps

@@ -17,13 +17,13 @@ use Rattle.lfs_mount.specs.declared.findings.ImageFindings.{ImageFindings}
 abbrev pub view_in_order : NameOrder → ThreadView → ThreadView
 view_in_order order t = record t { kept = record t.kept { disk = ordered_disk order t.kept.disk } }
 
--- at least one read was made since, and no more than a mount of the image takes
+-- at least one read since then, and at most as many as a mount of the image costs
 pub record ReadsLikeMount (disk : Disk) (history : List CallEvent) (t : ThreadView) : Type 0 where
   pub called : read_count history < read_count t.kept.history
   pub few : read_count t.kept.history ≤ read_count history + mount_reads disk t.kept.pairs
 
--- The thread of a device that was only read, without a fault, and where its root begins. In an order of names its image is
--- accepted, by few reads, or the disk breaks the rule that was found.
+-- The thread of a device that was only read, without a fault, and the index of its root. For each order of names, the image is
+-- accepted, with few reads, or the disk breaks the rule that was found.
 pub record IsAcceptedIn (disk : Disk) (history : List CallEvent) (t : ThreadView) (found : ImageFindings) : Type 0 where
   pub works : t.failed ≡ false
   pub disk_is : t.kept.disk ≡ disk
@@ -34,7 +34,7 @@ pub record IsAcceptedIn (disk : Disk) (history : List CallEvent) (t : ThreadView
   pub few : (order : NameOrder) → violation_in_order order found.violations ≡ None → ReadsLikeMount disk history t
   pub broken : (order : NameOrder) (violation : Violation) → violation_in_order order found.violations ≡ Some violation → Breaks (ordered_disk order disk) violation
 
--- The image is mounted in the thread's order of names, where it breaks no rule. The findings are those of the image.
+-- The image is mounted in the thread's order of names, in which it breaks no rule. The findings are those of the image.
 pub record IsMountedImage (disk : Disk) (history : List CallEvent) (t : ThreadView) (found : ImageFindings) : Type 0 where
   pub mounted : IsMountedOn (ordered_disk t.kept.disk.order disk) history t
   pub root : found.root ≡ count_before_root t.kept.pairs

@@ -1,4 +1,4 @@
--- The superblock's pairs, as they are read.
+-- The superblock's pairs, as a mount reads them.
 use Rattle.std.specs.Prelude.{ℕ, suc, ◌≡◌, ◌==◌, ◌&&◌, ◌||◌, Bool, true, false, if◌then◌else◌, List, [], ◌∷◌, ◌++◌, length, drop, Option, Some, None, codes}
 use Rattle.std.specs.Option.{option_and_then, option_map}
 use Rattle.std.specs.Str.{bytes_eq}
@@ -38,13 +38,13 @@ abbrev pub struct_if_fitting : AcceptedVersions → ℕ → ℕ → Option (List
 struct_if_fitting versions block_size count None = None
 struct_if_fitting versions block_size count (Some bytes) = if is_geometry_struct versions block_size count bytes then Some bytes else None
 
--- the struct in the first slot, where that is the superblock of a device of `count` blocks of this size
+-- the struct in the first slot, if that is the superblock of a device of `count` blocks of this size
 abbrev pub first_slot_struct : AcceptedVersions → ℕ → ℕ → List RawSlot → Option (List ℕ)
 first_slot_struct versions block_size count [] = None
 first_slot_struct versions block_size count (s ∷ slots) =
     if is_superblock_name s.name && has_name (codes "littlefs") s.name then struct_if_fitting versions block_size count (inline_bytes s.struct) else None
 
--- whether a struct has an accepted version, and after it the same bytes as the superblock's
+-- whether a struct has an accepted version, followed by the same bytes as in the superblock's struct
 abbrev pub repeats_superblock_struct : AcceptedVersions → List ℕ → List ℕ → Bool
 repeats_superblock_struct versions bytes own =
     length own == length bytes && (accepts_version versions (superblock_fields own).version && bytes_eq (drop 4 own) (drop 4 bytes))
@@ -53,14 +53,14 @@ abbrev pub repeats_if_struct : AcceptedVersions → List ℕ → Option (List �
 repeats_if_struct versions bytes None = None
 repeats_if_struct versions bytes (Some own) = if repeats_superblock_struct versions bytes own then Some true else None
 
--- whether the first slot is a superblock's; none where it is one with another struct
+-- whether the first slot is a superblock's; None if it is one with another struct
 abbrev pub first_repeats_superblock : AcceptedVersions → List ℕ → List RawSlot → Option Bool
 first_repeats_superblock versions bytes [] = Some false
 first_repeats_superblock versions bytes (s ∷ slots) = if is_superblock_name s.name then repeats_if_struct versions bytes (inline_bytes s.struct) else Some false
 
 -- ---- blocks
 
--- the superblock's struct in the slots that a block's log comes to, and whether they repeat one
+-- the superblock's struct in the first slot of a block's log, and whether that slot repeats one
 abbrev pub superblock_in_log : AcceptedVersions → ℕ → ℕ → List ℕ → Option (List ℕ)
 superblock_in_log versions block_size count block = option_and_then (λ c. first_slot_struct versions block_size count c.slots) (content_after empty_raw_content (block_entries block))
 
@@ -74,17 +74,17 @@ pub record BlockHasSuperblock (disk : Disk) (block : ℕ) (bytes : List ℕ) : T
 
 -- ---- pairs
 
--- the log of the first pair that has a slot begins with another entry, or comes to no superblock's struct in slot 0
+-- the log of the first pair that has a slot begins with another entry, or has no superblock's struct in slot 0
 abbrev pub BreaksFirstSuperblock : Disk → PairHeader → Violation → Type 0
 BreaksFirstSuperblock disk h (violation.FirstEntry pair) = (pair ≡ h.blocks) × ¬ BeginsWith (Some (disk_block disk h.active)) superblock_entry
 BreaksFirstSuperblock disk h (violation.Superblock pair) = (pair ≡ h.blocks) × (superblock_in_log disk.profile.versions disk.block_size (block_count disk) (disk_block disk h.active) ≡ None)
 BreaksFirstSuperblock disk h _ = ⊥
 
--- whether the superblock's chain may continue after the pair: it has at most one slot and a hard tail
+-- whether the superblock's chain may continue behind the pair: it has at most one slot, and a hard tail
 abbrev pub may_continue_after : PairHeader → Bool
 may_continue_after h = (h.slot_count == 0 || h.slot_count == 1) && is_hard_tail (option_map tail_view h.tail)
 
--- the number of the first pair that has a slot, where the pairs before it have hard tails
+-- the index of the first pair that has a slot, if the pairs before it have hard tails
 abbrev pub first_filled : List PairHeader → Option ℕ
 first_filled [] = None
 first_filled (h ∷ hs) = if h.slot_count == 0 then (if is_hard_tail (option_map tail_view h.tail) then option_map (λ k. suc k) (first_filled hs) else None) else Some 0

@@ -1,10 +1,10 @@
--- What is true of a disk where its image isn't mounted.
+-- What is true of a disk whose image isn't mounted.
 use Rattle.lfs_model.specs.format.Disk.{Disk}
 use Rattle.lfs_model.specs.layers.Violations.{Breaks}
 use Rattle.lfs_thread.specs.declared.mount_error.MountError.{MountError}
 use Rattle.lfs_thread.specs.declared.mount_error.MountError.TheVariants as mount
 
--- where an image breaks a rule, the disk breaks it
+-- if the error names a broken rule, the disk breaks it
 abbrev pub IsTrueViolation : Disk → MountError → Type 0
 IsTrueViolation disk (mount.Corrupt violation) = Breaks disk violation
 IsTrueViolation disk _ = Unit {0}

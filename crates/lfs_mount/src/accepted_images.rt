@@ -1,4 +1,4 @@
-// A device's image, where it is accepted.
+// The image of a device, if it is accepted.
 
 ghost use Rattle.std.specs.Prelude.{ℕ, Err, List, ◌≡◌, ◌≤◌, ◌<◌, ◌+◌, ◌%◌, ◌++◌, ◌∷◌, drop, length, sum_by, true, IfErr, IfNone, IfOk, IfSome, None, OnOk};
 ghost use Rattle.lfs_blocks.specs.Next.{IsNextFree};
@@ -37,26 +37,28 @@ use lfs_tag::MoveState;
 use lfs_thread::{MountError, Thread};
 use std::alloc::Global;
 
-/// Mounts a device if its image is accepted: it follows littlefs's SPEC.md, every file's block list
-/// is well formed, no block has two owners, and every directory is reached exactly once (or not at
-/// all, if the sync bit is set). Its version is one that the device's profile accepts. Only reads
-/// the device. The returned thread's block map marks the blocks of the image's pairs and files as
-/// used, and none as in flight.
+/// Mounts a device if its image is accepted: it follows littlefs's SPEC.md, every file's list is
+/// well formed, no block has two owners, and every directory is reached exactly once (or not at
+/// all, if the sync bit is set). Its version must be one that the device's profile accepts. Only
+/// reads the device. In the returned thread's block map, the blocks of the image's pairs and files
+/// are used, and none is in flight.
 ///
-/// Finds the order of the names in the directories. In littlefs's own code the longer name comes
-/// first if the other one is a prefix of it (`lfs_dir_find_match`). If both orders fit, the thread
-/// has that one. The findings say which orders fit, and with which pair the root directory begins.
+/// Finds the order of the names in the directories. In littlefs's own code the longer of two names
+/// comes first if the other is a prefix of it (`lfs_dir_find_match`); if both orders fit, the
+/// thread has that one. The findings say which orders fit, and at which pair the root directory
+/// begins.
 ///
-/// Errors: `Corrupt` exactly where the image is accepted in neither order, with a rule that it
-/// breaks. The rules of names are then those of the order of littlefs's own code. `Io` where a read
-/// failed, and `NoMemory` where memory isn't granted. The device comes back with an error.
+/// Errors: `Corrupt` only if the image is accepted in neither order, with a rule that it breaks in
+/// the order of littlefs's own code; such an image never returns Ok. `Io` if a read failed,
+/// `NoMemory` if memory isn't granted. The device is returned with the error.
 pub fn mount<D: BlockDevice>(alloc: Global, device: D) -> Result<CheckedImage<D>, (D, MountError)>
     ensures mounted { IfOk result (λ m. IsMountedImage (disk_of_device D.BlockDevice device) (D.history device) m.thread m.findings) }
     ensures longer { IfOk result (λ m. m.thread.kept.disk.order ≡ ShorterFirst → (ps : List ThreadPair) → ¬ IsAccepted (ordered_disk LongerFirst (disk_of_device D.BlockDevice device)) ps) }
     ensures broken { IfErr result (λ e. IsTrueViolation (ordered_disk LongerFirst (disk_of_device D.BlockDevice device)) e.1) }
     ensures corrupt { IfErr result (λ e. error_of_mount e.1 ≡ Error.Corrupt → (order : NameOrder) (ps : List ThreadPair) → ¬ IsAccepted (ordered_disk order (disk_of_device D.BlockDevice device)) ps) }
     ensures back { IfErr result (λ e. GivesDeviceBack D.BlockDevice device e.0 (error_of_mount e.1)) }
-    // Those of a fetch and one more for each pair, two more, and one for each block of a file's list.
+    // The fetches and one more read for each pair, two more, and one for each block of a file's
+    // list.
     ensures few { IfOk result (λ m. ReadsLikeMount (disk_of_device D.BlockDevice device) (D.history device) m.thread) }
 {
     let mut image = read_and_check(alloc, device)?;
@@ -86,12 +88,11 @@ pub fn mount_image<D: BlockDevice>(alloc: Global, device: D) -> Result<CheckedIm
     }
 }
 
-/// Reads the image of a device, and finds for each order of names a rule that it breaks, or none
-/// where it is accepted. The thread has no order yet: give it one with `set_order`.
+/// Reads the image of a device, and finds a rule that it breaks in each order of names, or None if
+/// it is accepted in that order. The caller sets the thread's order of names with `set_order`.
 ///
-/// Errors: `Corrupt` where the image breaks a rule in each order, which is the same in both. `Io`
-/// where a read failed, and `NoMemory` where memory isn't granted. The device comes back with an
-/// error.
+/// Errors: `Corrupt` if the image breaks a rule whatever the order of names. `Io` if a read failed,
+/// `NoMemory` if memory isn't granted. The device is returned with the error.
 pub fn read_and_check<D: BlockDevice>(
     alloc: Global,
     device: D,
@@ -118,9 +119,9 @@ pub fn read_and_check<D: BlockDevice>(
     }
 }
 
-// Checks the image whose thread was read, marks the blocks of its files, and finds where its root
-// begins, and for each order of names a rule that it breaks, or none. The map goes on at another
-// block than after an earlier mount.
+// Checks an image whose thread was read, and marks the blocks of its files as used. Returns the
+// index of the root's first pair, and for each order of names a rule that the image breaks, or
+// None. The next allocation begins at another block than after an earlier mount.
 fn check_image<D: BlockDevice>(
     alloc: Global,
     device: &mut D,
@@ -144,8 +145,8 @@ fn check_image<D: BlockDevice>(
     Ok(ImageFindings { root, violations })
 }
 
-// A number made of the image: how many blocks are used, and the pairs' revisions, which rise with
-// each mount that writes.
+// Returns a number that differs from mount to mount: how many blocks are used, plus the pairs'
+// revisions, which rise with each mount that writes.
 fn image_seed(map: &BlockMap, pairs: &[Pair]) -> u32
     ensures { result ≡ image_seed map.now pairs.now }
 {
@@ -156,8 +157,8 @@ fn image_seed(map: &BlockMap, pairs: &[Pair]) -> u32
     number
 }
 
-// The number mixed, as MurmurHash3 ends: numbers in equal steps, as those of mounts, come to blocks
-// as if by chance.
+// Mixes a number as MurmurHash3 ends. The numbers of mounts rise in equal steps; mixed, they fall
+// on blocks as if by chance.
 fn mixed_seed(number: u32) -> u32
     ensures { result ≡ mixed_seed number }
 {
@@ -166,8 +167,8 @@ fn mixed_seed(number: u32) -> u32
     second ^ (second >> 16)
 }
 
-// Lets the map hand out blocks from another one on after each mount, so that wear spreads, and
-// answers that block. The profile's number is mixed in.
+// Sets the map's next allocation to another block after each mount, so that wear spreads, and
+// returns that block. `own` is the profile's number, which is mixed in.
 fn start_allocation_elsewhere(map: &mut BlockMap, pairs: &[Pair], own: u32) -> Option<u32>
     ensures next { IfSome result (IsNextFree map.old (allocation_seed own map.old pairs.now % length map.old)) }
     ensures none { IfNone result ((block : ℕ) → ¬ (IsFree map.old block)) }
@@ -177,7 +178,7 @@ fn start_allocation_elsewhere(map: &mut BlockMap, pairs: &[Pair], own: u32) -> O
     map.start_search_at(seed)
 }
 
-// The pairs from an index on.
+// Returns the pairs from an index on.
 fn pairs_from_index(pairs: &[Pair], index: usize) -> &[Pair]
     requires { index ≤ length pairs.now }
     ensures { result.now ≡ drop index pairs.now }
@@ -185,8 +186,8 @@ fn pairs_from_index(pairs: &[Pair], index: usize) -> &[Pair]
     &pairs[index..]
 }
 
-// Checks what stands in the pairs of directories, marks the blocks of their files, and finds for
-// each order of names a rule that the directories break, or none.
+// Checks the slots of the directories' pairs, and marks the blocks of their files as used. Returns
+// for each order of names a rule that the directories break, or None.
 fn check_directories<D: BlockDevice>(
     alloc: Global,
     device: &mut D,

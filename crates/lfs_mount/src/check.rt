@@ -22,21 +22,21 @@ use lfs_device::BlockDevice;
 use lfs_thread::{MountError, PairAddressList};
 use std::alloc::Global;
 
-// Checks the slots of a thread whose headers are known, and marks the blocks of its files in `map`.
-// There the blocks of the pairs are used, and all others free.
+// Checks the slots of a thread whose headers were read, and marks the blocks of its files as used
+// in `map`. Before the call only the pairs' blocks are used there, and all others are free.
 //
 // `members` are the pairs from the root's first one on, in the thread's order. `places` are the
 // addresses of the directories. `sync` is the sync bit of the global state.
 //
-// The result holds where the superblock's pairs are right, and the move that the global state
-// names. Ok then says which rule the directories break in each order of names. In an order in which
-// they break none the image is accepted, and the map has its blocks.
+// The result supposes that the superblock's pairs and the move of the global state are right. It is
+// the rule that the directories break in each order of names. In an order in which they break none
+// the image is accepted, and its blocks are the used ones of the map.
 //
-// Errors: `Corrupt` where the image breaks a rule in each order. Then a slot holds no entry
+// Errors: `Corrupt` if the image breaks a rule whatever the order of names: a slot holds no entry
 // (`Entry`, `Move`), a file's list isn't well formed (`List`), or a block is owned twice
 // (`TwoOwners`; SPEC.md of littlefs, "Metadata types"; DESIGN.md, "CTZ skip-lists" and "The move
-// problem"). `NoMemory` where memory isn't granted, and `Io` where the device failed. After an error
-// nothing is known of the map.
+// problem"). `NoMemory` if memory isn't granted, `Io` if the device failed. After an error the map
+// is unspecified.
 pub(crate) fn check_thread<D: BlockDevice>(
     alloc: Global,
     device: &mut D,

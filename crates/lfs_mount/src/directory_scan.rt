@@ -1,4 +1,4 @@
-// What a mount learns of a directory while it reads its pairs.
+// The entries of a directory, as a mount reads its pairs one by one.
 
 ghost use Rattle.std.specs.Prelude.{◌≡◌, ◌⊎◌, map, OnOk, IfErr, IsErrOf, Some, None};
 ghost use Rattle.lfs_model.specs.declared.order.NameOrder.{NameOrder};
@@ -17,7 +17,7 @@ use lfs_tag::{Slot, Struct, name_cmp};
 use lfs_thread::PairAddressList;
 use std::alloc::Global;
 
-// Returns whether a name comes after the last one in an order of names. `last` is empty where there
+// Returns whether a name comes after the last one in this order of names. `last` is empty if there
 // is none.
 fn comes_after_name(order: NameOrder, last: &[u8], name: &[u8]) -> bool
     ensures { result ≡ comes_after_name order last.now name.now }
@@ -35,10 +35,10 @@ fn orders_after(last: &[u8], name: &[u8]) -> NameOrderSet
     }
 }
 
-// What is known of a directory by the entries that were read so far.
+// A directory, by the entries read so far.
 #[derive(Drop)]
 pub(crate) struct ScannedDirectory {
-    // The name of the last entry, or no bytes where there was none.
+    // The name of the last entry, or no bytes if there was none.
     last: Vec<u8>,
     directory: Directory,
 }
@@ -47,7 +47,7 @@ impl ScannedDirectory {
     ghost use Rattle.lfs_mount.specs.KnownView.{scan_view};
     ghost use Rattle.lfs_mount.specs.DirectoryView.{vertex_view};
 
-    // Makes what is known before the first entry of a directory, which is nothing.
+    // Starts a directory, of which no entry was read.
     pub fn begin_directory_scan(alloc: Global) -> ScannedDirectory
         ensures { (order : NameOrder) → scan_view order result ≡ empty_scan }
     {
@@ -71,7 +71,7 @@ impl ScannedDirectory {
         Ok(())
     }
 
-    // Adds one entry.
+    // Adds an entry.
     fn add_directory_entry(
         &mut self,
         places: &PairAddressList,
@@ -92,8 +92,7 @@ impl ScannedDirectory {
         Ok(())
     }
 
-    // Returns the directory, whose last entry was read. Nothing is known of the next directory
-    // then.
+    // Ends the directory and returns it. The next one is started.
     pub fn take_scanned_directory(&mut self, alloc: Global) -> Directory
         ensures directory { (order : NameOrder) → vertex_view order result ≡ (scan_view order self.old).1 }
         ensures nothing { (order : NameOrder) → scan_view order self.new ≡ empty_scan }
@@ -101,7 +100,8 @@ impl ScannedDirectory {
         std::mem::replace(self, ScannedDirectory::begin_directory_scan(alloc)).directory
     }
 
-    // Adds the entries in these slots of a pair. Corrupt exactly where one of the slots holds none.
+    // Adds the entries in these slots of a pair. `Corrupt` only if one of the slots holds no entry,
+    // `NoMemory` if memory isn't granted.
     pub fn scan_directory_slots(
         &mut self,
         places: &PairAddressList,

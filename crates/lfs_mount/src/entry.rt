@@ -9,14 +9,14 @@ ghost use Rattle.lfs_mount.specs.EntryView.{entry_view};
 
 use lfs_tag::{NameOrStruct, Slot, SlotNameKind, Struct, is_name};
 
-// An entry of a directory: its name and what it names.
+// An entry of a directory: its name and its struct.
 #[derive(Clone, Copy, Drop)]
 pub(crate) struct NamedStruct<'a> {
     pub name: &'a [u8],
     pub target: Struct<'a>,
 }
 
-// Returns what a struct says, where it suits the type of the name.
+// Returns the decoded struct, if it suits the type of the name.
 fn suited_struct<'a>(name: &NameOrStruct<'_>, structure: &NameOrStruct<'a>) -> Option<Struct<'a>>
     ensures { option_map (λ s. struct_reference (struct_view s)) result ≡ raw_reference name.now.kind (part_view structure.now) }
 {
@@ -31,9 +31,9 @@ fn suited_struct<'a>(name: &NameOrStruct<'_>, structure: &NameOrStruct<'a>) -> O
     }
 }
 
-// Reads the entry in a slot of a directory (SPEC.md of littlefs, "Metadata types"). Returns None
-// exactly where the slot has no name that a directory may have, or no struct that suits the type of
-// its name.
+// Returns the entry in a slot of a directory (SPEC.md of littlefs, "Metadata types"). Returns None
+// exactly if the slot's name isn't one that a directory may have, or its struct doesn't suit the
+// type of its name.
 pub(crate) fn tree_entry_in<'a>(slot: &Slot<'a>) -> Option<NamedStruct<'a>>
     ensures { option_map entry_view result ≡ raw_slot_entry (slot_view slot.now) }
 {
@@ -58,7 +58,8 @@ pub(crate) fn is_tree_entry(slot: &Slot<'_>) -> bool
     tree_entry_in(slot).is_some()
 }
 
-// Returns the index of the first slot that holds no entry, where there is one, else the slots' count.
+// Returns the index of the first slot that holds no entry, or the number of slots if each holds
+// one.
 pub(crate) fn first_non_entry(slots: &[Slot<'_>]) -> usize
     ensures holds { (other : ℕ) → LacksEntryAt (map slot_view slots.now) other → LacksEntryAt (map slot_view slots.now) result }
     ensures within { result ≤ length slots.now }

@@ -1,19 +1,19 @@
-// What a mount answers.
+// The results of a mount.
 
 use crate::orders::OrderViolations;
 use lfs_device::BlockDevice;
 use lfs_thread::Thread;
 
-/// What was found of an image beside its thread.
+/// The findings on an image, besides its thread.
 #[derive(Clone, Copy, Drop)]
 pub struct ImageFindings {
-    /// The number of the root directory's first pair.
+    /// The index in the thread of the root directory's first pair.
     pub root: usize,
-    /// For each order of names a rule that the image breaks in it. It is accepted in the others.
+    /// For each order of names a rule that the image breaks in it, or None if it is accepted.
     pub violations: OrderViolations,
 }
 
-/// An image that was read and checked.
+/// An image that was read and checked: its thread, and the findings.
 #[derive(Drop)]
 pub struct CheckedImage<D: BlockDevice> {
     pub thread: Thread<D>,

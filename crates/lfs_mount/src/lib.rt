@@ -1,6 +1,6 @@
 // SPDX-License-Identifier: BSD-3-Clause
-//! Decides which images are accepted. One pass goes over the metadata pairs, whose headers are in
-//! memory. Then a search among the directories, for each order of names, reads nothing.
+//! Decides which images are accepted: by one pass over the metadata pairs, whose headers are in
+//! memory, and then, for each order of names, a search through the directories that reads nothing.
 #![tactic(auto)]
 
 mod accepted_images;

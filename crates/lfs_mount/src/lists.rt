@@ -1,4 +1,4 @@
-// The lists of files, whose blocks are marked as used.
+// The blocks of files' lists, marked as used.
 
 ghost use Rattle.std.specs.Prelude.{◌≡◌, ◌≤◌, ◌<◌, ◌+◌, ◌^◌, ◌↔◌, Err, IsTrue, OnOk, length, slice_set, sum_by};
 ghost use Rattle.std.specs.Bool.{OnFalse, OnTrue};
@@ -26,8 +26,8 @@ use lfs_model::Violation;
 use lfs_tag::{Slot, Struct};
 use lfs_thread::MountError;
 
-// Marks a free block as used, and returns whether it was free. A block that the map doesn't have
-// isn't free.
+// Marks a free block as used. Returns false, and changes nothing, if the block isn't free, or if
+// the map doesn't have it.
 fn mark_if_free(map: &mut BlockMap, block: u32) -> bool
     ensures free { IsTrue result ↔ IsFree map.old block }
     ensures marked { OnTrue result (map.new ≡ slice_set map.old block Used) }
@@ -36,11 +36,10 @@ fn mark_if_free(map: &mut BlockMap, block: u32) -> bool
     block < map.block_count() && map.mark(block)
 }
 
-// Marks the blocks of a slot's list as used. The list has its last block at `list.0`, and `list.1`
-// bytes.
+// Marks the blocks of a slot's list as used. `list` is the list's last block and its size in bytes.
 //
-// Errors: `Corrupt` where the list isn't well formed, or where one of its blocks was marked before:
-// then it names the first one. Some of its blocks may be marked then. `Io` where a read failed.
+// Errors: `Corrupt` if the list isn't well formed, or if one of its blocks is used already; the
+// error names the first such block. Some of its blocks may then be marked. `Io` if a read failed.
 fn mark_slot_list<D: BlockDevice>(
     device: &mut D,
     map: &mut BlockMap,
@@ -75,7 +74,7 @@ fn mark_slot_list<D: BlockDevice>(
     }
 }
 
-// Returns the head and the size of the list that a slot's entry has, if it has one.
+// Returns the last block and the size of the list in a slot's entry, if it has one.
 fn list_of_slot(slot: &Slot<'_>) -> Option<(u32, u32)>
     ensures { result ≡ option_and_then list_of_entry (raw_slot_entry (slot_view slot.now)) }
 {
@@ -88,10 +87,11 @@ fn list_of_slot(slot: &Slot<'_>) -> Option<(u32, u32)>
     }
 }
 
-// Marks the blocks of all lists of a pair's slots as used. These are the slots that are kept.
+// Marks the blocks of all lists in these slots of a pair as used. The superblock's slot and the
+// moved one aren't among the slots.
 //
-// Errors: `Corrupt` where one of the lists isn't well formed, or where a block was marked before.
-// Some blocks may be marked then. `Io` where a read failed.
+// Errors: `Corrupt` if one of the lists isn't well formed, or if one of the blocks is used already.
+// Some blocks may then be marked. `Io` if a read failed.
 pub(crate) fn mark_slot_lists<D: BlockDevice>(
     device: &mut D,
     map: &mut BlockMap,

@@ -1,4 +1,4 @@
-// What the headers say of the directories' pairs.
+// The directories' pairs, by their headers alone.
 
 ghost use Rattle.std.specs.Prelude.{◌≡◌, IfErr, IfOk, nat_eq, true};
 ghost use Rattle.std.specs.List.{IsDistinct};
@@ -15,8 +15,7 @@ use lfs_tag::{MoveState, has_hard_tail};
 use lfs_thread::PairAddressList;
 use std::alloc::Global;
 
-// Returns the id of the slot that a set move names in the pair at an address, if it names one
-// there.
+// Returns the id of the slot that a set move names, if that slot is in the pair at this address.
 fn moved_slot_at(state: &MoveState, at: [u32; 2]) -> Option<u32>
     ensures { result ≡ moved_id_at (move_view state.now) (address_view at) }
 {
@@ -39,7 +38,7 @@ fn describe_header(state: &MoveState, is_first: bool, pair: &Pair) -> PairBefore
     }
 }
 
-// Returns what is known of these pairs, from the root's first one on.
+// Describes these pairs by their headers, from the root's first one on.
 pub(crate) fn describe_headers(
     alloc: Global,
     state: &MoveState,
@@ -56,7 +55,7 @@ pub(crate) fn describe_headers(
     Ok(members)
 }
 
-// Returns the addresses of the directories of these pairs, from the root's first pair on.
+// Returns the address of each directory's first pair, from the root's first pair on.
 pub(crate) fn directory_start_addresses(
     alloc: Global,
     pairs: &[Pair],

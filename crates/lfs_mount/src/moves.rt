@@ -1,4 +1,4 @@
-// The check of the move that a thread's global state sets.
+// The check of the move in a thread's global state.
 
 ghost use Rattle.std.specs.Prelude.{◌≡◌, ◌++◌, ◌∷◌, Err, IfErr, List, OnOk, false, map, true};
 ghost use Rattle.lfs_model.specs.format.Disk.{Disk};
@@ -17,7 +17,7 @@ use lfs_tag::MoveState;
 use lfs_tag::kinds::DELETE;
 use lfs_thread::MountError;
 
-// Returns whether one of the pairs is at an address.
+// Returns whether one of the pairs has this address.
 fn has_pair_at(address: [u32; 2], pairs: &[Pair]) -> bool
     ensures { result ≡ is_among_addresses (address_view address) (map header_address pairs.now) }
 {
@@ -29,12 +29,13 @@ fn has_pair_at(address: [u32; 2], pairs: &[Pair]) -> bool
     false
 }
 
-// Checks the move of a global state, as far as the headers of the directories' pairs show it
-// (SPEC.md of littlefs, "0x7ff LFS_TYPE_MOVESTATE"). Either no move is set, and its fields are
-// zero. Or the move is a delete of a slot in one of these pairs. Whoever reads the slots checks
-// that the slot is an entry there. Where it is one, the move is right.
+// Checks the move of a global state by the headers of the directories' pairs (SPEC.md of littlefs,
+// "0x7ff LFS_TYPE_MOVESTATE"). Either no move is set, and its fields are zero; or the move is a
+// delete of a slot in one of these pairs. The pass over the slots checks later that this slot is an
+// entry.
 //
-// Errors: `Corrupt` exactly where the move is neither, with the rule of the move. The image breaks it.
+// Errors: `Corrupt` exactly if the move is neither, with the rule of the move, which the image
+// breaks.
 pub(crate) fn check_move(state: &MoveState, pairs: &[Pair]) -> Result<(), MountError>
     ensures ok { OnOk result (is_move_inside (move_view state.now) (map header_address pairs.now) ≡ true) }
     ensures corrupt { IfErr result (λ e. (e ≡ MountError.Corrupt Violation.Move) × (is_move_inside (move_view state.now) (map header_address pairs.now) ≡ false)) }

@@ -1,4 +1,4 @@
-// Orders of names, and what is so in each.
+// Sets of orders of names, and a result for each order.
 
 ghost use Rattle.std.specs.Prelude.{◌≡◌, ◌&&◌, IfErr, IfOk, None, Ok, Some, is_some, true};
 ghost use Rattle.lfs_model.specs.declared.order.NameOrder.{NameOrder};
@@ -45,7 +45,7 @@ impl NameOrderSet {
     }
 }
 
-/// For each order of names a rule that an image breaks in it. None where the image is accepted.
+/// For each order of names a rule that an image breaks in it, or None if it is accepted.
 #[derive(Clone, Copy, Drop)]
 pub struct OrderViolations {
     pub longer_first: Option<Violation>,
@@ -53,11 +53,10 @@ pub struct OrderViolations {
 }
 
 impl OrderViolations {
-    /// Returns the order to take: the longer names first where all rules are kept in both orders, as
-    /// in littlefs's own code.
+    /// Returns the order in which the image is accepted. If it is accepted in both, that is the one
+    /// with the longer name first, as in littlefs's own code.
     ///
-    /// The error comes where they are kept in neither order. It is the rule that is broken with the
-    /// longer names first.
+    /// Errors: if it is accepted in neither, the rule that it breaks with the longer name first.
     pub fn preferred(self) -> Result<NameOrder, Violation>
         ensures kept { IfOk result (λ order. violation_in_order order self ≡ None) }
         ensures longer { result ≡ Ok ShorterFirst → is_some (violation_in_order LongerFirst self) ≡ true }

@@ -1,4 +1,4 @@
-// The pass over the pairs of the directories, each of which is read once.
+// The pass over the directories' pairs, which reads each pair once.
 
 ghost use Rattle.std.specs.Prelude.{◌≡◌, ◌≢◌, ◌≤◌, ◌<◌, ◌+◌, ◌++◌, ◌∷◌, ◌^◌, Bool, Err, List, All, IfErr, IfOk, None, OnOk, Some, length, map, sum_by};
 ghost use Rattle.lfs_model.specs.format.Disk.{ordered_disk};
@@ -33,18 +33,18 @@ use lfs_tag::{Content, Log, Slot};
 use lfs_thread::{MountError, PairAddressList};
 use std::alloc::Global;
 
-// What is known of a directory's pair before its slots are read.
+// The header of a directory's pair, as the pass needs it before it reads the slots.
 #[derive(Clone, Copy, Drop)]
 pub(crate) struct PairBeforeSlotsAreRead {
-    // The pair's address, as the thread names it.
+    // The pair's address, as the tail before it names it.
     pub at: [u32; 2],
     // The pair's active block.
     pub active: u32,
-    // Whether the tail is hard: then the next pair continues the directory.
+    // Whether the tail is hard, so that the next pair continues the directory.
     pub is_hard: bool,
-    // Whether slot 0 is the superblock, as in the root's first pair.
+    // Whether slot 0 is the superblock's, as in the root's first pair.
     pub has_superblock: bool,
-    // The id of the slot that a set move names, if it names one of this pair.
+    // The id of the slot that a set move names, if that slot is in this pair.
     pub moved: Option<u32>,
 }
 
@@ -52,7 +52,8 @@ impl PairBeforeSlotsAreRead {
     ghost use Rattle.std.specs.Prelude.{◌≡◌, ◌<◌, ◌^◌};
     ghost use Rattle.lfs_mount.specs.Taken.{entry_slot_number};
 
-    // Returns the number in the pair of a slot that is kept, by its index among those.
+    // Returns a slot's id in the pair, from its index among the entries: without the superblock's
+    // slot and the moved one.
     pub fn entry_slot_number(&self, index: usize) -> u32
         requires { index < 2 ^ 31 }
         ensures { result ≡ entry_slot_number self.now index }
@@ -66,9 +67,9 @@ impl PairBeforeSlotsAreRead {
     }
 }
 
-// Removes the slot that a set move names, where it is an entry.
+// Removes the slot that a set move names, if it names one of this pair.
 //
-// Errors: `Corrupt`, where it is no entry.
+// Errors: `Corrupt` if that slot is no entry.
 fn remove_moved_slot(
     slots: &mut Vec<Slot<'_>>,
     member: &PairBeforeSlotsAreRead,
@@ -94,7 +95,8 @@ fn remove_moved_slot(
     Ok(())
 }
 
-// Removes the superblock's slot. Corrupt exactly where there is no slot.
+// Removes the superblock's slot, if the pair has it. `Corrupt` exactly if there is no slot to
+// remove.
 fn remove_superblock_slot(slots: &mut Vec<Slot<'_>>, has_superblock: bool) -> Result<(), MountError>
     ensures ok { OnOk result (superblock_removed has_superblock (map slot_view slots.old.items) ≡ Some (map slot_view slots.new.items)) }
     ensures fewer { OnOk result (length slots.new.items ≤ length slots.old.items) }
@@ -110,10 +112,10 @@ fn remove_superblock_slot(slots: &mut Vec<Slot<'_>>, has_superblock: bool) -> Re
     Ok(())
 }
 
-// Returns the slots of a pair's log, without the superblock's and the one that a set move names.
+// Returns the slots of a pair's log without the superblock's and the one that a set move names.
 //
-// Errors: `Corrupt` where the log is malformed, the slot that the move names is no entry, or there
-// is no superblock to remove. `NoMemory` where memory for slots isn't granted.
+// Errors: `Corrupt` if the log is malformed, if the moved slot is no entry, or if there is no
+// superblock to remove. `NoMemory` if memory for slots isn't granted.
 fn read_entry_slots<'a>(
     alloc: Global,
     log: &Log<'a>,
@@ -136,7 +138,7 @@ fn read_entry_slots<'a>(
     Ok(slots)
 }
 
-// Reads the active block of a pair. There is no error `Corrupt`.
+// Reads the active block of a pair. The error is never `Corrupt`.
 fn read_active_block<D: BlockDevice>(
     alloc: Global,
     device: &mut D,
@@ -155,12 +157,11 @@ fn read_active_block<D: BlockDevice>(
     }
 }
 
-// Reads a pair of a directory by its active block. Its entries are added to what is known of the
-// directory, in each order of names, and the blocks of its files are marked.
+// Reads a pair of a directory, by its active block. Adds its entries to `known`, and marks the
+// blocks of its files as used.
 //
-// Errors: `Corrupt` where the pair's log is malformed, a slot holds no entry, a list isn't well
-// formed, or a block was marked before. `Io` where a read failed, and `NoMemory` where memory isn't
-// granted.
+// Errors: `Corrupt` if the pair's log is malformed, a slot holds no entry, a list isn't well
+// formed, or a block is used already. `Io` if a read failed, `NoMemory` if memory isn't granted.
 fn scan_pair<D: BlockDevice>(
     alloc: Global,
     device: &mut D,
@@ -191,11 +192,12 @@ fn scan_pair<D: BlockDevice>(
     Ok(())
 }
 
-// Reads the pairs of all directories, in the thread's order, and returns what is known of each
-// directory in each order of names. The map's used blocks are those of the thread's pairs.
+// Reads the pairs of all directories, in the thread's order, and returns the directories. Only the
+// blocks of the thread's pairs are used in the map before the call; those of the files are, too,
+// afterwards.
 //
-// Errors: `Corrupt` where a slot holds no entry, a file's list isn't well formed, or a block is owned
-// twice. `Io` where a read failed, and `NoMemory` where memory isn't granted.
+// Errors: `Corrupt` if a slot holds no entry, a file's list isn't well formed, or a block is owned
+// twice. `Io` if a read failed, `NoMemory` if memory isn't granted.
 pub(crate) fn scan_pairs<D: BlockDevice>(
     alloc: Global,
     device: &mut D,

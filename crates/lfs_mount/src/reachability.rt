@@ -14,14 +14,14 @@ use lfs_model::{NameOrder, Violation};
 use lfs_thread::MountError;
 use std::alloc::Global;
 
-// What is known of a directory by itself.
+// A directory, as the pass over its pairs found it.
 #[derive(Drop)]
 pub(crate) struct Directory {
-    // The orders in which the names of its entries rise.
+    // The orders of names in which the names of its entries ascend.
     pub rises_in: NameOrderSet,
-    // Whether each directory in it is one of the thread's.
+    // Whether each of its subdirectories is one of the thread's directories.
     pub leads: bool,
-    // The places of the directories in it, in the order of its entries.
+    // The list indices of its subdirectories, in the order of its entries.
     pub branches: Vec<u32>,
 }
 
@@ -50,11 +50,13 @@ fn mark_branches_found(
     Ok(None)
 }
 
-// Returns which directories are reached from the root, which is the first. The search looks at each
-// directory and at each branch once. `addresses` are those of the directories' first pairs.
+// Returns which directories are reached from the root, the first of the list. The search looks at
+// each directory and at each subdirectory once. `addresses` are those of the directories' first
+// pairs.
 //
-// Errors: `Corrupt` where the names of a directory that is reached don't rise in that order, where
-// an entry of it leads to no directory of the thread, or where a directory is reached twice.
+// Errors: `Corrupt` if the names of a reached directory aren't sorted in this order, if an entry of
+// it leads to no directory of the thread, or if a directory is reached twice. `NoMemory` if memory
+// isn't granted.
 fn reached_directories(
     alloc: Global,
     directories: &[Directory],
@@ -92,7 +94,7 @@ fn reached_directories(
     Ok(is_found)
 }
 
-// Returns the first directory that isn't reached.
+// Returns the index of the first directory that isn't reached.
 fn unreached_directory(is_reached: &[bool]) -> Option<usize>
     ensures unreached { IfSome result (λ place. slice_get is_reached.now place ≡ Some false) }
     ensures none { result ≡ None → All (λ reached. reached ≡ true) is_reached.now }
@@ -105,9 +107,10 @@ fn unreached_directory(is_reached: &[bool]) -> Option<usize>
     None
 }
 
-// Returns which rule the directories of a thread break in an order of names, or None where they
-// break none. The names of those that are reached from the root rise, and their entries lead to
-// directories of the thread. None is reached twice. Unless the sync bit is set, all are reached.
+// Returns a rule that the directories of a thread break in an order of names, or None if they break
+// none. The names of each directory that is reached from the root must be sorted, and its entries
+// must lead to directories of the thread. No directory may be reached twice. Unless the sync bit is
+// set, all must be reached.
 fn find_directory_violation(
     alloc: Global,
     directories: &[Directory],
@@ -137,8 +140,8 @@ fn find_directory_violation(
     }
 }
 
-// Returns for each order of names which rule the directories of a thread break in it. `addresses`
-// are those of the directories' first pairs.
+// Returns for each order of names a rule that the directories of a thread break in it, or None.
+// `addresses` are those of the directories' first pairs.
 pub(crate) fn find_directory_violations(
     alloc: Global,
     directories: &[Directory],

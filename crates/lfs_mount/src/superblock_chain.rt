@@ -1,4 +1,4 @@
-// The superblock's pairs, which come before the root's first pair.
+// The superblock's pairs, before the root's first pair.
 
 ghost use Rattle.std.specs.Prelude.{Err, ◌≡◌, ◌↔◌, ◌⊎◌, ◌<◌, ◌≤◌, ◌+◌, length, IsTrue, IfOk, IfErr, IfSome, IsErrOf, None, Some, map};
 ghost use Rattle.std.specs.Option.{option_map};
@@ -24,7 +24,7 @@ use std::alloc::Global;
 
 const MAGIC: &[u8] = b"littlefs";
 
-// Returns whether the log's first entry names the superblock.
+// Returns whether the log's first entry is the superblock's name.
 fn log_begins_superblock(log: &Log<'_>) -> bool
     ensures { IsTrue result ↔ BeginsWith (Some log.now) superblock_entry }
 {
@@ -58,7 +58,7 @@ fn has_name(slot: &Slot<'_>, bytes: &[u8]) -> bool
     }
 }
 
-// Returns the bytes of an inline struct.
+// Returns the bytes of an inline struct. None if the slot has no such struct.
 fn inline_bytes_in<'a>(slot: &Slot<'a>) -> Option<&'a [u8]>
     ensures { option_map (λ b. b.now) result ≡ inline_bytes (slot_view slot.now).struct }
 {
@@ -68,8 +68,8 @@ fn inline_bytes_in<'a>(slot: &Slot<'a>) -> Option<&'a [u8]>
     }
 }
 
-// Returns the superblock's struct in the first slot. Returns None where that slot is no superblock
-// of this geometry.
+// Returns the superblock's struct in the first slot. None if that slot isn't the superblock of a
+// device of this geometry.
 fn superblock_in_slots<'a>(geometry: &Geometry, slots: &[Slot<'a>]) -> Option<&'a [u8]>
     ensures { option_map (λ b. b.now) result ≡ first_slot_struct geometry.now.profile.versions geometry.now.block_size geometry.now.block_count (map slot_view slots.now) }
 {
@@ -85,7 +85,8 @@ fn superblock_in_slots<'a>(geometry: &Geometry, slots: &[Slot<'a>]) -> Option<&'
     }
 }
 
-// Returns whether a struct has an accepted version, and after it the same bytes as the superblock's.
+// Returns whether a struct has an accepted version, followed by the same bytes as in the
+// superblock's struct.
 fn repeats_superblock_struct(versions: AcceptedVersions, bytes: &[u8], own: &[u8]) -> bool
     requires { length bytes.now ≡ 24 }
     ensures { result ≡ repeats_superblock_struct versions bytes.now own.now }
@@ -98,7 +99,7 @@ fn repeats_superblock_struct(versions: AcceptedVersions, bytes: &[u8], own: &[u8
     }
 }
 
-// Returns whether the first slot is a superblock's. Corrupt exactly where it is one whose struct
+// Returns whether the first slot is a superblock's. `Corrupt` exactly if it is one whose struct
 // differs from `bytes` in more than an accepted version.
 fn slots_repeat_superblock(
     versions: AcceptedVersions,
@@ -121,7 +122,8 @@ fn slots_repeat_superblock(
     }
 }
 
-// Returns the superblock's struct in slot 0 of a log. Corrupt exactly where there is none.
+// Returns the superblock's struct in slot 0 of a log. `Corrupt` only if there is none, `NoMemory`
+// if memory isn't granted.
 fn superblock_from_log(alloc: Global, geometry: &Geometry, log: &Log<'_>) -> Result<Vec<u8>, Error>
     ensures ok { IfOk result (λ bytes. superblock_in_log geometry.now.profile.versions geometry.now.block_size geometry.now.block_count log.now ≡ Some bytes.items) }
     ensures corrupt { IsErrOf result Error.Corrupt → superblock_in_log geometry.now.profile.versions geometry.now.block_size geometry.now.block_count log.now ≡ None }
@@ -134,9 +136,9 @@ fn superblock_from_log(alloc: Global, geometry: &Geometry, log: &Log<'_>) -> Res
     }
 }
 
-// Returns whether the first slot that a block's log comes to is a superblock's. Corrupt exactly
-// where it is one whose struct differs from `bytes` in more than an accepted version, or where the
-// log is malformed.
+// Returns whether the first slot of a block's log is a superblock's. `Corrupt` only if it is one
+// whose struct differs from `bytes` in more than an accepted version, or if the log is malformed.
+// `NoMemory` if memory isn't granted.
 fn block_repeats_superblock(
     alloc: Global,
     versions: AcceptedVersions,
@@ -153,8 +155,8 @@ fn block_repeats_superblock(
     slots_repeat_superblock(versions, &content.slots, bytes)
 }
 
-// Reads the first pair that has a slot, and returns its superblock's struct. The log begins with the
-// superblock.
+// Reads the first pair that has a slot, and returns its superblock's struct. `Corrupt` if its log
+// doesn't begin with the superblock's entry, or if slot 0 isn't the superblock's.
 fn read_first_struct<D: BlockDevice>(
     alloc: Global,
     dev: &mut D,
@@ -182,9 +184,8 @@ fn read_first_struct<D: BlockDevice>(
     }
 }
 
-// Reads a pair, and returns whether its first slot is a superblock's. Corrupt exactly where it is one
-// whose struct differs from `bytes` in more than an accepted version, or where the log has no
-// content.
+// Reads a pair, and returns whether its first slot is a superblock's. `Corrupt` only if it is one
+// whose struct differs from `bytes` in more than an accepted version, or if the log is malformed.
 fn pair_repeats_superblock<D: BlockDevice>(
     alloc: Global,
     dev: &mut D,
@@ -217,8 +218,8 @@ fn can_chain_continue(pair: &Pair) -> bool
     (pair.slot_count == 0 || pair.slot_count == 1) && has_hard_tail(pair.tail)
 }
 
-// Returns the number of the first pair that has a slot. Returns None where there is none, or where
-// a pair before it has no hard tail.
+// Returns the index of the first pair that has a slot. Returns None if there is none, or if a pair
+// before it has no hard tail.
 fn first_filled_number(pairs: &[Pair]) -> Option<usize>
     ensures first { result ≡ first_filled pairs.now }
     ensures below { IfSome result (λ index. index < length pairs.now) }
@@ -234,21 +235,20 @@ fn first_filled_number(pairs: &[Pair]) -> Option<usize>
     None
 }
 
-// Returns how many pairs come before the root's first pair in the thread with these headers. These
-// are the superblock's chain without its last pair (SPEC.md of littlefs, "0x0ff
-// LFS_TYPE_SUPERBLOCK").
+// Returns how many pairs come before the root's first pair in the thread with these headers: the
+// superblock's chain without its last pair (SPEC.md of littlefs, "0x0ff LFS_TYPE_SUPERBLOCK").
 //
-// In the first pair that has a slot, the log begins with the superblock's entry. Slot 0 there has
-// the superblock's name, with a struct of an accepted version and of the device's geometry. The chain
-// continues after a pair with a hard tail that has no slot, or the superblock alone. It does so
-// only where the next pair that has a slot begins with a superblock. All superblocks have the same
-// struct but for an accepted version, and the root begins at the last one.
+// The log of the first pair that has a slot begins with the superblock's entry. Its slot 0 has the
+// superblock's name, and a struct of an accepted version and the device's geometry. The chain
+// continues behind a pair with a hard tail that has no slot, or the superblock alone, if the next
+// pair that has a slot begins with a superblock. All superblocks have the same struct except for an
+// accepted version. The root begins at the last one.
 //
-// Errors: `Corrupt` where the superblock isn't so, with the rule that the image breaks. `Io` where a
-// read failed, and `NoMemory` where memory for a block and its slots isn't granted. Nothing is
-// written. Each pair of the chain is read at most once, and so is the pair after it.
+// Errors: `Corrupt` if the superblock isn't like that, with the rule that the image breaks. `Io` if
+// a read failed, `NoMemory` if memory for a block and its slots isn't granted. Writes nothing.
+// Costs at most one read for each pair of the chain, and one for the pair behind it.
 //
-// The caller's condition: the headers are all those of the device's thread, in its order.
+// Requires that the headers are all those of the device's thread, in its order.
 pub(crate) fn superblock_chain_length<D: BlockDevice>(
     alloc: Global,
     dev: &mut D,

@@ -11,8 +11,8 @@ use std::alloc::Global;
 use std::marker::Model;
 
 /// The state of each block of a device: free, used or in flight. A block in flight is allocated,
-/// but no commit names it yet. The map replaces littlefs's lookahead buffer (DESIGN.md of littlefs,
-/// "The block allocator").
+/// but no commit names it yet. The map serves as littlefs's lookahead buffer does, for all blocks
+/// at once (DESIGN.md of littlefs, "The block allocator").
 ///
 /// In contracts the map is the list of the blocks' states, by block number.
 #[derive(Drop)]

@@ -27,8 +27,8 @@ impl BlockUse {
     }
 }
 
-/// The states of 64 consecutive blocks. Bit `k` of each word belongs to the block `k` behind the
-/// first.
+/// The states of 64 consecutive blocks. Bit `k` of each word is that of block `k`, counted from the
+/// first one.
 #[derive(Clone, Copy)]
 pub struct Marks {
     used: u64,

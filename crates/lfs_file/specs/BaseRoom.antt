@@ -1,4 +1,4 @@
--- How many blocks of an old list may be in flight, and the room for a list besides them.
+-- The most blocks of an old list in flight, and the room for a list besides them.
 use Rattle.std.specs.Prelude.{ℕ, ◌<◌, ◌≤◌, ◌+◌, ◌^◌, if◌then◌else◌, length}
 use Rattle.lfs_model.specs.layers.BlockSets.{BlockStates, used_count}
 use Rattle.lfs_model.specs.format.SkipLists.{block_count_for}

@@ -1,4 +1,4 @@
--- How often blocks are written.
+-- The number of writes of blocks.
 use Rattle.std.specs.Prelude.{ℕ, ◌≡◌, ◌+◌, List}
 use Rattle.lfs_model.specs.session.History.{CallEvent, erase_count, program_count}
 

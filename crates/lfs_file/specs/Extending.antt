@@ -1,4 +1,4 @@
--- What an extender's calls require, and their effects: `g` is what a contract sees of the device, `disk` are its blocks.
+-- The conditions and effects of an extender's calls: `g` is what a contract sees of the device, `disk` are its blocks.
 use Rattle.std.specs.Prelude.{ℕ, ◌≡◌, ◌≢◌, ◌≤◌, ◌<◌, ◌+◌, ◌++◌, ◌^◌, List, [], length, take, false, nat_eq, All}
 use Rattle.std.specs.List.{IsDistinct}
 use Rattle.lfs_device.specs.declared.device.BlockDevice.{Ghosts}

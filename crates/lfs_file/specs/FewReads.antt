@@ -1,4 +1,4 @@
--- How many reads it costs to extend a list.
+-- The number of reads that extending a list costs.
 use Rattle.std.specs.Prelude.{ℕ, zero, suc, ◌≡◌, ◌≤◌, ◌<◌, ◌+◌, ◌-◌, ◌*◌, ◌^◌, List}
 use Rattle.lfs_model.specs.session.History.{CallEvent, read_count}
 use Rattle.lfs_model.specs.format.SkipLists.{block_count_for, pointer_count}

@@ -8,7 +8,7 @@ use Rattle.lfs_tag.specs.FieldsView.{move_view}
 use Rattle.lfs_pair.specs.Pair.{header_address}
 use Rattle.lfs_thread.specs.Kept.{PairHeader}
 
--- the exclusive or of all pairs' deltas
+-- the XOR of all pairs' deltas
 abbrev pub gstate_of_headers : List PairHeader → Gstate
 gstate_of_headers headers = fold gstate_xor zero_gstate (map (λ h. move_view h.move_state) headers)
 

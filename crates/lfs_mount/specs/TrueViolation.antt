@@ -1,4 +1,4 @@
--- What is true of a disk whose image isn't mounted.
+-- The truth of a mount's error on its disk.
 use Rattle.lfs_model.specs.format.Disk.{Disk}
 use Rattle.lfs_model.specs.layers.Violations.{Breaks}
 use Rattle.lfs_thread.specs.declared.mount_error.MountError.{MountError}

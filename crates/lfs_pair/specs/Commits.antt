@@ -61,7 +61,7 @@ changed_log_content block changes = content_after_changes (content_after empty_r
 abbrev pub changed_pair_content : Disk → ℕ × ℕ → List ContentChange → Option RawContent
 changed_pair_content disk at changes = content_after_changes (raw_content disk at) changes
 
--- What a commit requires: the disk has the pair as its header says, the log allows each change, and each slot has a name
+-- The conditions of a commit: the disk has the pair as its header says, the log allows each change, and each slot has a name
 -- afterwards.
 pub record CanCommit (disk : Disk) (history : List CallEvent) (pair : Pair) (changes : List ContentChange) : Type 0 where
   pub address : IsPairAddress disk (header_address pair)
@@ -77,18 +77,19 @@ pub record HeaderSaysActive (disk : Disk) (pair : Pair) : Type 0 where
   pub holds : current_block disk (header_address pair) ≡ Some (disk_block disk pair.active)
   pub revision_is : pair.revision ≡ block_revision (disk_block disk pair.active)
 
--- What a commit requires of a pair whose active block has these bytes.
+-- The conditions of a commit to a pair whose active block has these bytes.
 pub record CanCommitWithBlock (disk : Disk) (history : List CallEvent) (pair : Pair) (changes : List ContentChange) (block : List ℕ) : Type 0 where
   pub can : CanCommit disk history pair changes
   pub holds : block ≡ block_bytes disk.blocks pair.active
 
--- What an append requires: what a commit does, the active block's bytes, and a buffer as long as a block.
+-- The conditions of an append: those of a commit, the active block's bytes, and a buffer as long as a block.
 pub record CanAppendChanges (disk : Disk) (history : List CallEvent) (pair : Pair) (block : List ℕ) (changes : List ContentChange) (len : ℕ) : Type 0 where
   pub can : CanCommit disk history pair changes
   pub holds : block ≡ block_bytes disk.blocks pair.active
   pub buf : len ≡ disk.block_size
 
--- What a compaction requires: the disk has the pair, the content can be written and fits, and the buffer is as long as a block.
+-- The conditions of a compaction: the disk has the pair, the content can be written and fits, and the buffer is as long as a
+-- block.
 pub record CanCompact (disk : Disk) (pair : Pair) (c : RawContent) (len : ℕ) : Type 0 where
   pub address : IsPairAddress disk (header_address pair)
   pub active : HeaderSaysActive disk pair
@@ -204,7 +205,7 @@ KeepsOutsidePair at old new = SameExceptBlocks (address_blocks at) old new
 abbrev pub OutsideStaysUnprogrammed : ℕ × ℕ → List CallEvent → List CallEvent → Type 0
 OutsideStaysUnprogrammed at old new = StayUnprogrammed (address_blocks at) old new
 
--- What a stop leaves: other blocks unchanged, and the pair with its old content or the new one.
+-- A stop leaves other blocks unchanged, and the pair with its old content or the new one.
 pub record LossLeavesNew (old : Disk) (at : ℕ × ℕ) (new : RawContent) (left : Blocks) : Type 0 where
   pub others : KeepsOutsidePair at old.blocks left
   pub content : HasOldContent old at (record old { blocks = left }) ⊎ HasNewContent old at new (record old { blocks = left })
@@ -217,7 +218,7 @@ pub record HasChangedContent (old : Disk) (at : ℕ × ℕ) (changes : List Cont
   pub logged : IsWellFormed new
   pub now : HasNewContent old at new disk
 
--- What a stop leaves of a commit: other blocks unchanged, and the pair with its old content or the changed one.
+-- A stop in a commit leaves other blocks unchanged, and the pair with its old content or the changed one.
 pub record LossLeavesChanged (old : Disk) (at : ℕ × ℕ) (changes : List ContentChange) (left : Blocks) : Type 0 where
   pub others : KeepsOutsidePair at old.blocks left
   pub content : HasOldContent old at (record old { blocks = left }) ⊎ HasChangedContent old at changes (record old { blocks = left })

@@ -14,7 +14,7 @@ use Rattle.lfs_pair.specs.FreshPair.{ErasedOneMore, HasFreshContent}
 use Rattle.lfs_pair.specs.Pair.{header_address}
 use Rattle.lfs_pair.specs.declared.pair.Pair.{Pair}
 
--- What a copy requires: what a commit does, a changed content that fits a pair, and two different blocks of the disk.
+-- The conditions of a copy: those of a commit, a changed content that fits a pair, and two different blocks of the disk.
 pub record CanCopyPair (disk : Disk) (history : List CallEvent) (pair : Pair) (fresh : ℕ × ℕ) (changes : List ContentChange) : Type 0 where
   pub commit : CanCommit disk history pair changes
   pub fits : RawContentFits disk.block_size disk.page commit.new

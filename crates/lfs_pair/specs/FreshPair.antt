@@ -13,7 +13,7 @@ use Rattle.lfs_pair.specs.declared.pair.Pair.{Pair}
 use Rattle.lfs_pair.specs.Writing.{HasOneCommit}
 use Rattle.lfs_pair.specs.Commits.{IsPairAddress, HasWrittenContent}
 
--- what making a new pair requires: two different blocks of the disk, and changes whose content fits a pair
+-- the conditions of making a new pair: two different blocks of the disk, and changes whose content fits a pair
 pub record CanMakeFresh (disk : Disk) (at : ℕ × ℕ) (changes : List ContentChange) : Type 0 where
   pub address : IsPairAddress disk at
   pub new : RawContent
@@ -21,7 +21,7 @@ pub record CanMakeFresh (disk : Disk) (at : ℕ × ℕ) (changes : List ContentC
   pub names : AreNamed new.slots
   pub fits : RawContentFits disk.block_size disk.page new
 
--- What writing a new pair requires: two different blocks of the disk, a content that can be written and fits, and a buffer as
+-- The conditions of writing a new pair: two different blocks of the disk, a content that can be written and fits, and a buffer as
 -- long as a block.
 pub record CanWriteFreshPair (disk : Disk) (at : ℕ × ℕ) (c : RawContent) (len : ℕ) : Type 0 where
   pub address : IsPairAddress disk at

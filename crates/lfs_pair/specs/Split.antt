@@ -23,7 +23,7 @@ pub record AreApart (at fresh : ℕ × ℕ) : Type 0 where
   pub second_first : at.1 ≢ fresh.0
   pub second_second : at.1 ≢ fresh.1
 
--- What a split requires: what a commit does, two blocks of the disk that aren't the pair's, and a content that can be cut into
+-- The conditions of a split: those of a commit, two blocks of the disk that aren't the pair's, and a content that can be cut into
 -- two parts that each fit a pair.
 pub record CanSplitPair (disk : Disk) (history : List CallEvent) (pair : Pair) (fresh : ℕ × ℕ) (changes : List ContentChange) : Type 0 where
   pub commit : CanCommit disk history pair changes
@@ -31,7 +31,7 @@ pub record CanSplitPair (disk : Disk) (history : List CallEvent) (pair : Pair) (
   pub apart : AreApart (header_address pair) fresh
   pub cut : AreSplittable disk.block_size disk.page commit.new.slots
 
--- What a split requires of a pair whose active block has these bytes.
+-- The conditions of a split of a pair whose active block has these bytes.
 pub record CanSplitWithBlock (disk : Disk) (history : List CallEvent) (pair : Pair) (fresh : ℕ × ℕ) (changes : List ContentChange) (block : List ℕ) : Type 0 where
   pub can : CanSplitPair disk history pair fresh changes
   pub holds : block ≡ block_bytes disk.blocks pair.active
@@ -93,7 +93,7 @@ KeepsOutsideBoth at fresh old new = SameExceptBlocks (addresses_blocks at fresh)
 abbrev pub OutsideBothStaysUnprogrammed : ℕ × ℕ → ℕ × ℕ → List CallEvent → List CallEvent → Type 0
 OutsideBothStaysUnprogrammed at fresh old new = StayUnprogrammed (addresses_blocks at fresh) old new
 
--- What a stop leaves of a split: the old pair with its old content, or both pairs with their parts.
+-- A stop in a split leaves the old pair with its old content, or both pairs with their parts.
 pub record LossLeavesSplit (old : Disk) (at fresh : ℕ × ℕ) (changes : List ContentChange) (left : Blocks) : Type 0 where
   pub others : KeepsOutsideBoth at fresh old.blocks left
   pub content : HasOldContent old at (record old { blocks = left }) ⊎ PairsHaveParts old at fresh changes (record old { blocks = left })

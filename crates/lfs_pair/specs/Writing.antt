@@ -69,7 +69,7 @@ pub record BytesGetCommit (b : PartialCommit) (at end : ℕ) (old new block : Li
   pub gets : BlockGetsCommit b at end old new
   pub same : new ≡ block
 
--- What a stop leaves of a commit that is programmed at an offset: the log without it or with it; at offset 0 there may be no log.
+-- A stop in the program of a commit at an offset leaves the log without it or with it; at offset 0 there may be no log.
 abbrev pub LossLeavesCommit : PartialCommit → ℕ → List ℕ → List ℕ → Type 0
 LossLeavesCommit b off old left = SameLog left old ⊎ (((off ≡ 0) × HasNoLog left) ⊎ LogGetsCommit b old left)
 
@@ -109,7 +109,7 @@ pub record IsWrittenAnew (revision : ℕ) (c : RawContent) (block : List ℕ) (b
   pub programs : program_count after ≡ program_count before + 1
   pub blanks : blank_count after ≡ blank_count before
 
--- What a stop leaves of a block that is erased and gets a content: a log with the old one's revision, no log, or the content.
+-- A stop while a block is erased and gets a content leaves a log with the old one's revision, no log, or the content.
 abbrev pub LossLeavesRewritten : ℕ → RawContent → List ℕ → List ℕ → Type 0
 LossLeavesRewritten revision c old left = SameRevision left old ⊎ (HasNoLog left ⊎ HasOneCommit revision c left)
 

@@ -39,8 +39,7 @@ pub struct Pair {
     pub active: u32,
     /// The offset in the active block where its last commit ends, in bytes.
     pub end: usize,
-    /// The last tag of the active block's log. The next tag is stored as its exclusive or with this
-    /// one.
+    /// The last tag of the active block's log. The next tag is stored as its XOR with this one.
     pub last: Tag,
     /// The revision of the active block.
     pub revision: u32,

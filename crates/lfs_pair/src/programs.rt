@@ -20,7 +20,7 @@ use lfs_tag::{CommitBuilder, Content, Tag};
 pub(crate) struct WrittenCommit {
     // The commit's end, in bytes from the block's start.
     pub end: usize,
-    // The commit's last tag. The next tag is stored as its exclusive or with this one.
+    // The commit's last tag. The next tag is stored as its XOR with this one.
     pub last: Tag,
 }
 

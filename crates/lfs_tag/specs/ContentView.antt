@@ -1,4 +1,4 @@
--- The code's content as the definitions see it: its values, without where their bytes are in memory.
+-- The code's content as the definitions see it: values, without their addresses in memory.
 use Rattle.std.specs.Prelude.{ℕ, suc, if◌then◌else◌, nat_le, List, [], ◌∷◌, map}
 use Rattle.std.specs.Option.{option_map}
 use Rattle.lfs_model.specs.format.Slots.{Attributes, address_view}

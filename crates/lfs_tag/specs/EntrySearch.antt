@@ -5,7 +5,8 @@ use Rattle.lfs_model.specs.format.Log.{LogEntry}
 use Rattle.lfs_model.specs.format.EntryTypes.{create_tag_type, is_attribute_removal}
 use Rattle.lfs_model.specs.format.Content.{entry_part}
 
--- What an entry says of the slot that has a given id after it: its part, as type and bytes, or its id before the entry.
+-- The effect of an entry on the slot that has a given id after it: it sets the slot's part, to a type and bytes, or the slot had
+-- this id before the entry.
 pub data SlotEffect : Type 0 where
   Holds : (part : Option (ℕ × List ℕ)) → SlotEffect
   Was : (id : ℕ) → SlotEffect

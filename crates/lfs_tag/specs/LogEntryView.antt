@@ -1,4 +1,4 @@
--- An entry as the definitions see it, without where it is in memory.
+-- An entry as the definitions see it, without its address in memory.
 use Rattle.lfs_tag.specs.declared.entry.Entry.{Entry}
 use Rattle.lfs_model.specs.format.Log.{LogEntry}
 

@@ -1,4 +1,4 @@
--- The effect of an entry as the definitions see it, without where its bytes are in memory.
+-- The effect of an entry as the definitions see it, without addresses in memory.
 use Rattle.std.specs.Option.{option_map}
 use Rattle.lfs_tag.specs.ContentView.{part_view}
 use Rattle.lfs_tag.specs.EntrySearch.{SlotEffect, Holds, Was}

@@ -33,8 +33,8 @@ pub struct Superblock {
     pub attr_max: u32,
 }
 
-/// A pair's delta of the global state, or the global state itself, which is the exclusive or of all
-/// deltas (DESIGN.md of littlefs, "The move problem").
+/// A pair's delta of the global state, or the global state itself, which is the XOR of all deltas
+/// (DESIGN.md of littlefs, "The move problem").
 #[derive(Clone, Copy, Debug, PartialEq, Eq, Drop)]
 pub struct MoveState {
     /// Whether the thread may hold an orphan: a pair that no directory leads to.

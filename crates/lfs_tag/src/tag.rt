@@ -28,7 +28,7 @@ impl Tag {
     /// The id of a tag that isn't about a slot.
     pub const NO_ID: u16 = 0x3ff;
 
-    /// The length of a tag without data that removes an attribute.
+    /// The length field of a tag that removes an attribute. No data follow such a tag.
     pub const REMOVED: u16 = 0x3ff;
 
     /// Makes a tag from its 32 bits.
@@ -61,8 +61,8 @@ impl Tag {
         }
     }
 
-    /// Decodes a stored tag: its exclusive or with the tag before it. `previous` has all bits set
-    /// for a block's first tag.
+    /// Decodes a stored tag: its XOR with the tag before it. `previous` has all bits set for a
+    /// block's first tag.
     pub fn decode(stored: u32, previous: Tag) -> Tag
         ensures { result ≡ bit_xor stored previous }
     {
@@ -71,7 +71,7 @@ impl Tag {
         }
     }
 
-    /// Returns the tag as it is stored: its exclusive or with the tag before it.
+    /// Returns the tag as it is stored: its XOR with the tag before it.
     pub fn encode(self, previous: Tag) -> u32
         ensures stored { result ≡ bit_xor self previous }
         ensures again { bit_xor result previous ≡ self }
@@ -94,7 +94,7 @@ impl Tag {
         (self.bits >> 20 & 0x7ff) as u16
     }
 
-    /// Returns the id of the slot, below 1,024.
+    /// Returns the id of the slot, below 1,024; 0x3ff stands for none.
     pub fn id(self) -> u16
         ensures { result ≡ tag_id self }
     {

@@ -12,7 +12,7 @@ use Rattle.lfs_pair.specs.Commits.{CanCommit, CommitsChanges, RefusesCommit}
 use Rattle.lfs_pair.specs.Split.{CanSplitPair, SplitsPair}
 use Rattle.lfs_thread.specs.Kept.{IsCacheCurrent}
 
--- What a commit requires, and each cached block has the bytes that the device has.
+-- The conditions of a commit, and each cached block has the bytes that the device has.
 pub record CanCommitCached {D : Type 0} (g : Ghosts D) (dev : D) (cache : CachedBlocks) (pair : Pair) (changes : List ContentChange) : Type 0 where
   pub can : CanCommit (disk_of_blocks (g.geometry dev) (g.blocks dev)) (g.history dev) pair changes
   pub current : IsCacheCurrent (g.blocks dev) cache
@@ -24,7 +24,7 @@ pub record CommitsCached {D : Type 0} (g : Ghosts D) (changes : List ContentChan
   pub full : result ≡ Ok Full → RefusesCommit g changes old new was now
   pub current : OnOk result (IsCacheCurrent (g.blocks new) cache)
 
--- What a split requires. Each cached block has the bytes that the device has, and the fresh pair's blocks aren't cached.
+-- The conditions of a split. Each cached block has the bytes that the device has, and the fresh pair's blocks aren't cached.
 pub record CanSplitCached {D : Type 0} (g : Ghosts D) (dev : D) (cache : CachedBlocks) (pair : Pair) (fresh : ℕ × ℕ) (changes : List ContentChange) : Type 0 where
   pub can : CanSplitPair (disk_of_blocks (g.geometry dev) (g.blocks dev)) (g.history dev) pair fresh changes
   pub current : IsCacheCurrent (g.blocks dev) cache

@@ -86,7 +86,7 @@ pub record JoinedOnDisk (old : KeptThread) (index : ℕ) (b : Behind) (fresh : �
   pub first : KeepsSuperblockFirst old.disk (thread_pair old index).at content disk
   pub anew : BeginsWithAnySuperblock (pair_behind old index b fresh) disk
 
--- What a stop leaves: the pair at the index with its old content, or with the changed one and the fresh pair behind it.
+-- A stop leaves the pair at the index with its old content, or with the changed one and the fresh pair behind it.
 pub record LossLeavesJoined (old : KeptThread) (index : ℕ) (b : Behind) (fresh : ℕ × ℕ) (changes : List ContentChange) (left : Blocks) : Type 0 where
   pub others : KeepsOutsideBoth (thread_pair old index).at fresh old.disk.blocks left
   pub content : HasOldPair old index (record old.disk { blocks = left })
@@ -104,7 +104,7 @@ reads_behind kind.Next = 3
 abbrev pub tail_of : PairHeader → List ContentChange
 tail_of source = tail_change (option_map tail_view source.tail) ∷ []
 
--- what writing the fresh pair requires
+-- the conditions of writing the fresh pair
 abbrev pub CanWriteBehind : Disk → List CallEvent → PairHeader → ℕ × ℕ → Behind → Type 0
 CanWriteBehind disk history source fresh kind.Empty = CanMakeFresh disk fresh (tail_of source)
 CanWriteBehind disk history source fresh kind.Slots = CanCopyPair disk history source fresh (PutMove zero_gstate ∷ [])

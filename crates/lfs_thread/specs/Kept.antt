@@ -1,4 +1,4 @@
--- What a thread keeps in memory, and a thread as contracts see it.
+-- A thread as it is kept in memory, and as contracts see it.
 use Rattle.std.specs.Prelude.{ℕ, ◌≡◌, Bool, nat_eq, unwrap_or, map, length, List, [], ◌∷◌, Option, Some}
 use Rattle.std.specs.List.{IsDistinct}
 use Rattle.lfs_device.specs.declared.device.BlockDevice.{Ghosts}
@@ -21,7 +21,7 @@ use Rattle.lfs_pair.specs.Commits.{IsPairAddress}
 abbrev pub PairHeader : Type 0
 PairHeader = header.Pair
 
--- What a thread keeps: the disk and its calls so far, the pairs in the thread's order, and the block map.
+-- The state that a thread keeps: the disk and its calls so far, the pairs in the thread's order, and the block map.
 pub record KeptThread : Type 0 where
   pub disk : Disk
   pub history : List CallEvent
@@ -61,7 +61,7 @@ abbrev pub AllBlocksUsed : BlockStates → List ℕ → Type 0
 AllBlocksUsed sets [] = Unit {0}
 AllBlocksUsed sets (b ∷ bs) = IsUsedBlock sets b × AllBlocksUsed sets bs
 
--- What is kept is what the disk has: the headers are those of its thread, and their blocks are used in the map.
+-- The state kept is that of the disk: the headers are those of its thread, and their blocks are used in the map.
 pub record IsKeptOnDisk (disk : Disk) (history : List CallEvent) (headers : List PairHeader) (sets : BlockStates) : Type 0 where
   pub each : AreHeaders disk history headers
   pub links : AreLinked (Some anchor_address) (header_pairs disk headers)

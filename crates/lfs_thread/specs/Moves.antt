@@ -55,7 +55,7 @@ pub record NextMovedOnDisk (old : KeptThread) (index : ℕ) (fresh : ℕ × ℕ)
   pub first : KeepsSuperblockFirst old.disk (thread_pair old index).at (pair_leading_to old index fresh).content disk
   pub anew : BeginsWithAnySuperblock (pair_moved_to old (index + 1) fresh) disk
 
--- What a stop leaves: the pair at the index with its old content, or the pair behind it relocated.
+-- A stop leaves the pair at the index with its old content, or the pair behind it relocated.
 pub record LossLeavesNextMoved (old : KeptThread) (index : ℕ) (fresh : ℕ × ℕ) (left : Blocks) : Type 0 where
   pub others : KeepsOutsideBoth (thread_pair old index).at fresh old.disk.blocks left
   pub content : HasOldPair old index (record old.disk { blocks = left })

@@ -16,7 +16,7 @@ pub record ChangesKeptParts {D X : Type 0} (g : Ghosts D) (most : ℕ) (bs : Lis
   pub current : OnOk result (IsCacheCurrent (g.blocks new.device) new.cache)
   pub order : new.order ≡ old.order
 
--- What holds after a step that is done, and after one whose changes don't fit.
+-- The claims that hold after a step that is done, and after one whose changes don't fit.
 pub record EndsByOutcome (result : Result Outcome Error) (HoldsIfDone HoldsIfFull : Type 0) : Type 0 where
   pub done : result ≡ Ok Done → HoldsIfDone
   pub full : result ≡ Ok Full → HoldsIfFull

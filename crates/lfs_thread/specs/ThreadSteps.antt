@@ -125,7 +125,7 @@ pub record RefusesChanges (old : KeptThread) (index : ℕ) (changes : List Conte
   pub too_large : ¬ FitsInPair old.disk.block_size old.disk.page content
   pub only : OnlyReadsThread old new
 
--- What a stop leaves of a commit: the pair with its old content or with the changed one.
+-- A stop in a commit leaves the pair with its old content or with the changed one.
 pub record LossLeavesPair (old : KeptThread) (index : ℕ) (changes : List ContentChange) (left : Blocks) : Type 0 where
   pub content : PairContent
   pub is : (content ≡ (thread_pair old index).content) ⊎ ((complete_after old index changes ≡ Some content) × FitsInPair old.disk.block_size old.disk.page content)
@@ -196,7 +196,7 @@ pub record SplitOnDisk (old : KeptThread) (index : ℕ) (changes : List ContentC
   pub back : content_at disk fresh ≡ Some (back_pair content cut fresh).content
   pub parts : PartsFit old index content cut fresh disk
 
--- What a stop leaves of a split: the old pair with its old content, or both pairs with their parts.
+-- A stop in a split leaves the old pair with its old content, or both pairs with their parts.
 pub record LossLeavesThreadSplit (old : KeptThread) (index : ℕ) (fresh : ℕ × ℕ) (changes : List ContentChange) (left : Blocks) : Type 0 where
   pub others : KeepsOutsideBoth (thread_pair old index).at fresh old.disk.blocks left
   pub content : HasOldPair old index (record old.disk { blocks = left })
@@ -249,8 +249,8 @@ pub record ThreadedInOnDisk (old : KeptThread) (index : ℕ) (fresh : ℕ × ℕ
   pub behind : content_at disk fresh ≡ Some (fresh_with_tail old index fresh).content
   pub first : KeepsSuperblockFirst old.disk (thread_pair old index).at content disk
 
--- What a stop leaves of putting a fresh pair into the thread: the pair at the index with its old content, or with the changed one
--- and the fresh pair behind it.
+-- A stop while a fresh pair is put into the thread leaves the pair at the index with its old content, or with the changed one and
+-- the fresh pair behind it.
 pub record LossLeavesThreaded (old : KeptThread) (index : ℕ) (fresh : ℕ × ℕ) (changes : List ContentChange) (left : Blocks) : Type 0 where
   pub others : KeepsOutsideBoth (thread_pair old index).at fresh old.disk.blocks left
   pub content : HasOldPair old index (record old.disk { blocks = left })

@@ -44,7 +44,7 @@ pub record UnloadedOnDisk (old : KeptThread) (index : ℕ) (fresh : ℕ × ℕ) 
   pub behind : content_at disk fresh ≡ Some (pair_behind_unloaded old index fresh).content
   pub first : KeepsSuperblockFirst old.disk (thread_pair old index).at (unloaded_pair old index fresh keep).content disk
 
--- What a stop leaves: the pair with its old content, or unloaded.
+-- A stop leaves the pair with its old content, or unloaded.
 pub record LossLeavesUnloaded (old : KeptThread) (index : ℕ) (fresh : ℕ × ℕ) (keep : ℕ) (left : Blocks) : Type 0 where
   pub others : KeepsOutsideBoth (thread_pair old index).at fresh old.disk.blocks left
   pub content : HasOldPair old index (record old.disk { blocks = left })

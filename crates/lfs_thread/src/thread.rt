@@ -170,8 +170,8 @@ impl<D: BlockDevice> Thread<D> {
         self.parts.device
     }
 
-    /// Returns the global state: the exclusive or of all pairs' deltas (DESIGN.md of littlefs, "The
-    /// move problem").
+    /// Returns the global state: the XOR of all pairs' deltas (DESIGN.md of littlefs, "The move
+    /// problem").
     pub fn state(&self) -> MoveState
         requires works { self.now.failed ≡ false }
         ensures { move_view result ≡ pairs_gstate self.now.kept.pairs }

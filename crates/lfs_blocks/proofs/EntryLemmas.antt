@@ -1,4 +1,4 @@
--- Entries of distinct blocks: what the calls of the map leave of them, and what is shown of that.
+-- A cache's entries, of distinct blocks, after its calls, and as contracts see them.
 use Rattle.std.proofs.Common.{ℕ, zero, suc, ◌≡◌, ◌+◌, ◌-◌, ◌≤◌, Bool, true, false, cond, not, nat_eq, List, [], ◌∷◌, length, take, Option, Some, None, refl, sym, ap, ◌∙◌, subst, arith, eqb-true, is_some, Vec, Global}
 use Rattle.std.specs.List.{AllByRecursion, IsDistinct, filter}
 use Rattle.std.specs.Bool.{OnFalse, OnTrue}

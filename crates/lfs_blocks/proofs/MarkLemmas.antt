@@ -1,4 +1,4 @@
--- The state that two bits show.
+-- The state of a block, by its two bits.
 use Rattle.std.proofs.Common.{◌≡◌, ◌≢◌, ℕ, ◌+◌, ◌-◌, ◌*◌, ◌%◌, ◌^◌, ◌<◌, ◌≤◌, max, bit_and, bit_or, sym, ap, ◌∙◌, ⊎_elim, arith, w64}
 use Rattle.std.proofs.lemmas.Bool.{cases_lt}
 use Rattle.std.specs.Int.{bit_at, bit_not, trailing_ones}

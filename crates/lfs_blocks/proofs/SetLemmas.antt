@@ -1,4 +1,4 @@
--- What marks show of the blocks of a device, and what a change of one block changes.
+-- The states of a device's blocks by their marks, and the effect of changing one.
 use Rattle.std.proofs.Common.{◌≡◌, ◌≢◌, ℕ, zero, suc, ◌+◌, ◌-◌, ◌*◌, ◌/◌, ◌%◌, ◌<◌, ◌≤◌, Bool, cond, List, Some, length, replicate, get_or, set, refl, sym, ap, ◌∙◌, ⊎_elim, arith}
 use Rattle.std.specs.List.{slice_get, count_by}
 use Rattle.std.proofs.lemmas.Bool.{cases_eq, cases_lt}

@@ -1,4 +1,4 @@
--- What a cache keeps where a block is forgotten.
+-- The blocks that stay cached when one is forgotten.
 use Rattle.std.proofs.Common.{ℕ, ◌≡◌, Bool, true, false, nat_eq, List, Some, None, refl, sym, subst, ◌∙◌, eqb-true, eq-eqb}
 use Rattle.lfs_model.proofs.Cache.{cached_bytes-without_other, cached_bytes-without_same}
 use Rattle.lfs_model.specs.layers.Cache.{CachedBlocks, cached_bytes, cache_without}

@@ -1,4 +1,4 @@
--- Steps back through a list, each by the highest pointer that does not overshoot, are few.
+-- A walk back through a list by the longest pointers that don't overshoot has few steps.
 use Rattle.std.proofs.Common.{ℕ, zero, suc, ◌≡◌, ◌+◌, ◌*◌, ◌-◌, ◌<◌, ◌≤◌, ◌^◌, min, ⊎_elim, sym, ap, subst, ◌∙◌, arith}
 use Rattle.lfs_file.proofs.Common.{mul_assoc, add-mul, pow-add, cases_lt, w32, trailing_zeros}
 use lib.Pow.{pow_mono}

@@ -1,4 +1,4 @@
--- What calls of a device one after the other say of it.
+-- The effect of calls of a device in a row.
 use Rattle.std.proofs.Common.{ℕ, ◌≡◌, ◌≢◌, Bool, List, [], ◌∷◌, Result, Ok, Err, inl, inr, refl, sym, subst, ◌∙◌, arith}
 use Rattle.std.specs.Prelude.{All}
 use Rattle.lfs_file.specs.FileCalls.{ReadsOrCorrupt}

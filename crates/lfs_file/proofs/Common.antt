@@ -1,4 +1,4 @@
--- The words of the definitions and the laws below that most proofs of this crate use.
+-- The definitions and laws that most proofs of this crate use.
 pub use Rattle.lfs_device.specs.DeviceCalls.{ChangesTheseBlocks, ReadsOnly, ReportsFaults}
 pub use Rattle.lfs_file.specs.BaseRoom.{in_flight_limit}
 pub use Rattle.lfs_file.specs.Bases.{IsListOrEmpty, blocks_of_list}

@@ -1,4 +1,4 @@
--- What calls of a device one behind the other say of its faults and of what they leave alone.
+-- The faults of calls of a device in a row, and the blocks that they leave alone.
 use Rattle.std.proofs.Common.{ℕ, ◌≡◌, Bool, List, ◌∷◌, Result, Ok, Err, refl, sym, subst, ◌∙◌, arith}
 use Rattle.lfs_file.proofs.Common.{ChangesTheseBlocks, ReadsOnly, ReportsFaults, Blocks, BlockStates, call_event, fault_count, Read, LossLeavesAtWorst-read, HoldsAtLosses-read_count, OnlyReadsSince-trans, began, goes_on, GrowingList, unwritten_block, IsTakenNotPending, HasBlocksTaken, KeepsTakenBytes, KeepsTakenBlocks, CallKeepsUsed, KeepsUsedBlocks, KeepsUsedBytes}
 use Rattle.lfs_device.specs.DeviceCalls.{ReportsIoNoMemory}

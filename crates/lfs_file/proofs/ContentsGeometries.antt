@@ -1,4 +1,4 @@
--- A geometry is known by its three numbers and its profile.
+-- A geometry is determined by its three numbers and its profile.
 use Rattle.std.proofs.Common.{ℕ, ◌≡◌, ap, subst}
 use Rattle.std.proofs.Math.Bool.{Bool-set}
 use Rattle.std.proofs.Math.Bridge.{le_prop}

@@ -1,4 +1,4 @@
--- Contents in memory that are written, also where they move to a list.
+-- Writes to contents in memory, also if they move to a list.
 use Rattle.std.proofs.Common.{ℕ, ◌≢◌, ap₂, refl, subst, inl, ◌≡◌, ◌+◌, ◌-◌, ◌≤◌, ⊎_elim, Bool, true, false, [], if◌then◌else◌, List, ◌++◌, length, take, drop, max, min, replicate, sym, ap, ◌∙◌, arith, length-append, append_assoc}
 use Rattle.lfs_file.proofs.Common.{cases_lt, append-nil, take_all, drop_all, length-replicate, length-take-le, replicate-append-replicate, take_at, take-append-le, take-take, written_contents, zero_padded, take-add, Blocks, BlockStates, IsFree, IsInFlight, AreListBlocks, IsSkipList, blocks_to_head, block_count_for, bytes_before_block, list_bytes, GrowingList, DiskHasList, IsAllBuffered, IsRestAt, growing_bytes, lacks_last_block, blocks_data, lasting_blocks, unwritten_rest_block, unwritten_block, growing_size_with, growing_size, IsListOrEmpty, blocks_of_list, buffered_bytes, IsUnfinishedTo, in_flight_limit, block_count_for-more}
 use Rattle.lfs_model.specs.format.Blocks.{overwritten_at as in_block}

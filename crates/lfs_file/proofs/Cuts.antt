@@ -1,4 +1,4 @@
--- A finished list that is cut.
+-- Cuts of a stored list.
 use Rattle.std.proofs.Common.{ℕ, ◌≡◌, ◌≢◌, inl, inr, ⊎_elim, get_or, List, [], take, drop, sym, ◌∙◌, subst, arith, length-drop}
 use Rattle.std.specs.Prelude.{All, Contains}
 use Rattle.lfs_file.proofs.Common.{take-take, length-take, All-contains, All-contains_itself, All-take, Blocks, SameExceptBlocks, BlockStates, IsFree, IsInFlight, IsSkipList, IsTakenNotPending, IsListOrEmpty, blocks_of_list, IsFinishedList, ReleasesInFlight}

@@ -1,4 +1,4 @@
--- A list in hand that ends.
+-- The completion of a draft.
 use Rattle.std.proofs.Common.{ℕ, ◌≡◌, ◌≢◌, ◌⊎◌, inl, inr, ⊎_elim, Bool, true, false, if◌then◌else◌, nat_eq, get_or, List, [], take, drop, Some, refl, sym, ap, ◌∙◌, subst, arith}
 use Rattle.std.specs.Prelude.{All, Contains}
 use Rattle.std.specs.List.{IsDistinct}

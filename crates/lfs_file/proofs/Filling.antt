@@ -1,4 +1,4 @@
--- What a list's bytes are when a block of it fills.
+-- The bytes of a list when a block of it is filled.
 use Rattle.std.proofs.Common.{ℕ, zero, suc, get_or, subst, ◌^◌, ◌≡◌, ◌≢◌, ◌+◌, ◌*◌, ◌-◌, ◌<◌, ◌≤◌, List, [], ◌∷◌, ◌++◌, length, take, drop, refl, sym, ap, ◌∙◌, arith, append_assoc, length-append, length-drop}
 use Rattle.std.specs.Prelude.{All}
 use Rattle.std.specs.List.{IsDistinct}

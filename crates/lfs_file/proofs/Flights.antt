@@ -1,4 +1,4 @@
--- How many blocks are in flight, and what a write makes of the contents.
+-- The number of blocks in flight, and the contents after a write.
 use Rattle.std.proofs.Common.{ℕ, ◌≡◌, ◌≢◌, ◌+◌, ◌*◌, ◌-◌, ◌≤◌, inl, inr, ⊎_elim, Bool, true, false, if◌then◌else◌, List, [], ◌++◌, length, take, drop, max, min, replicate, refl, sym, ap, ◌∙◌, subst, arith, length-append, length-drop}
 use Rattle.std.specs.Prelude.{Contains}
 use Rattle.lfs_file.proofs.Common.{drop-append-add, cases_eq, cases_lt, Contains-append_left, Contains-append_right, append-nil, take_all, drop_all, length-replicate, length-take, length-take-le, replicate-append-replicate, take_at, drop-drop, Blocks, HasBlockSizes, BlockStates, in_flight_count, written_contents, zero_padded, blocks_to_head, block_count_for, list_bytes, GrowingList, DiskHasList, growing_bytes, blocks_data, lasting_blocks, unwritten_block, growing_size_with, KeepsTakenBytes, IsListOrEmpty, blocks_of_list, SharesFirstBlocks, IsFinishedList, stored_list_bytes, in_flight_limit, length_back, block_count_for-more}

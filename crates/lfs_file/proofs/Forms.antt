@@ -1,4 +1,4 @@
--- Each call of a writer leaves its contents where its form says, and its held number has room for their blocks.
+-- Each call of a writer leaves its contents in the form that is stated, and the blocks that it reserves are enough.
 use Rattle.std.proofs.Common.{ℕ, ◌≡◌, ◌≢◌, ◌+◌, ◌*◌, ◌-◌, ◌<◌, ◌≤◌, ⊎_elim, Bool, true, false, not, if◌then◌else◌, max, min, List, ◌∷◌, ◌++◌, length, take, drop, replicate, Option, Some, None, is_some, refl, sym, ap, ◌∙◌, subst, arith, length-append, length-drop}
 use Rattle.std.specs.Prelude.{nat_le, nat_lt, ◌==◌, ◌||◌}
 use Rattle.lfs_file.proofs.Common.{eqb-true, eqb-false, ltb-true, ne_eqb, eq-eqb, cases_eq, lt-leb, le-leb, length-take, length-replicate, inline_limit, block_count_for, FileWriter, reserved_for_writer, written_writer, truncated_writer, written_contents, write_position, zero_padded, ContentsForm, InMemory, Finished, InHand, form_size, form_written_within, shortened_form, written_form, truncated_form, IsWriterForm, block_count_for-more}

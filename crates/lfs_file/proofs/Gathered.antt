@@ -1,4 +1,4 @@
--- A file's bytes gathered from its blocks, the last part first.
+-- A file's bytes, gathered from its blocks, the last part first.
 use Rattle.std.proofs.Common.{ℕ, suc, ◌≡◌, ◌+◌, ◌*◌, ◌-◌, ◌<◌, ◌≤◌, ◌^◌, min, List, ◌++◌, length, take, drop, slice_index, slice_range, sym, ap, subst, ◌∙◌, arith, append_assoc, length-drop}
 use Rattle.lfs_file.proofs.Common.{drop_at, drop-drop, length-take-le, drop-put_mid, take-add, Blocks, HasBlockSizes, block_bytes, word_at, pointer_count, bytes_before_block, blocks_to_head, block_count_for, IsSkipList, IsBytePlace, list_bytes, part_of_bytes}
 use Rattle.lfs_file.proofs.Sizes.{placed, place_before, place-lt, pointer_count-le}

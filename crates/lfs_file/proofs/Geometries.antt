@@ -1,4 +1,4 @@
--- A list under the geometry of a device.
+-- A list for the geometry of a device.
 use Rattle.std.proofs.Common.{ℕ, ◌≡◌, ◌≤◌, ◌+◌, ◌-◌, sym, ap, subst, ◌∙◌, arith}
 use Rattle.lfs_device.specs.declared.geometry.Geometry.{Geometry}
 use Rattle.lfs_file.proofs.Common.{Blocks, HasBlockSizes, AreListBlocks, IsSkipList, block_count_for}

@@ -1,4 +1,4 @@
--- Growth in steps.
+-- Extending a list in steps.
 use Rattle.std.proofs.Common.{ℕ, ◌≡◌, ◌+◌, ◌⊎◌, inl, inr, ⊎_elim, get_or, List, ◌++◌, length, take, drop, Option, Some, None, refl, sym, ap, ◌∙◌, subst, arith, append_assoc, length-drop}
 use Rattle.std.specs.Prelude.{All, Contains}
 use Rattle.lfs_file.proofs.Common.{slice_get, take_all, take_at, take-append-drop, drop-append-add, All-append, Contains-append_left, Blocks, BlockState, BlockStates, IsFree, IsInFlight, Free, InFlight, Used, CallEvent, LossLeavesAtWorst, HoldsAtLosses, goes_on_by, AllCallsSince-weaker, GrowingList, lasting_blocks, GrowsInFree, IsTakenNotPending, KeepsTakenBytes, TakenStayUnprogrammed, ChangesOnlyFree}

@@ -1,4 +1,4 @@
--- A list in hand that has grown, over its base.
+-- A draft whose new list was extended.
 use Rattle.std.proofs.Common.{ℕ, ◌≡◌, ◌+◌, ◌++◌, List, length, sym, subst}
 use Rattle.lfs_device.specs.declared.geometry.Geometry.{Geometry}
 use Rattle.lfs_file.proofs.Common.{Blocks, BlockStates, written_contents, growing_bytes, unwritten_block, GrowingList, growing_size, KeepsTakenBytes, SharesFirstBlocks, CanEndOver, ChangesOnlyFree, unfinished_bytes}

@@ -1,4 +1,4 @@
--- A list in hand that is begun, grows and ends.
+-- A draft that is started, extended and completed.
 use Rattle.std.proofs.Common.{ℕ, false, ◌≡◌, ◌≢◌, ◌+◌, ◌≤◌, inl, inr, ⊎_elim, nat_eq, get_or, List, [], ◌++◌, length, take, drop, Some, refl, sym, ap, ◌∙◌, subst, arith, length-drop}
 use Rattle.std.specs.Prelude.{All, Contains}
 use Rattle.std.specs.List.{IsDistinct}

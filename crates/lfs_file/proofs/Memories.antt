@@ -1,4 +1,4 @@
--- Bytes in memory: over those that a buffer begins with.
+-- Bytes in memory, written over the first bytes of a buffer.
 use Rattle.std.proofs.Common.{ℕ, ◌≡◌, ◌+◌, ◌*◌, ◌-◌, ◌≤◌, ◌<◌, max, List, ◌++◌, length, take, drop, replicate, refl, sym, ap, ap₂, ⊎_elim, ◌∙◌, arith, length-append}
 use Rattle.lfs_file.proofs.Common.{cases_lt, append-nil, take_at, drop_all, drop-take, take-append-le, take-append-drop, take-take, length-replicate, length-take-le, take-append-add, overwritten_at, pointer_count}
 use Rattle.lfs_model.specs.session.Writers.{written_contents as with_bytes}

@@ -1,4 +1,4 @@
--- Of two lists of blocks, those that only one has.
+-- The blocks that only one of two lists has.
 use Rattle.std.proofs.Common.{ℕ, ◌≡◌, ◌≢◌, ◌+◌, ◌≤◌, ◌⊎◌, inl, inr, ⊎_elim, Bool, true, false, cond, nat_eq, List, [], ◌∷◌, refl, sym, ap, subst, ◌∙◌, arith, eqb-true}
 use Rattle.std.specs.Prelude.{All, Contains}
 use Rattle.lfs_file.proofs.Common.{All-contains_itself, number_occurrences-Contains, number_occurrences}

@@ -1,4 +1,4 @@
--- Which blocks of lists are used.
+-- The used blocks among those of lists.
 use Rattle.std.proofs.Common.{ℕ, ◌≡◌, ⊎_elim, true, List, [], ◌++◌, refl, sym, ap, ◌∙◌, subst}
 use Rattle.std.specs.Prelude.{Contains}
 use Rattle.lfs_file.proofs.Common.{Contains-append_cases, Contains-append_right, Blocks, BlockStates, SharesFirstBlocks, CanEndOver, KeepsUsedBlocks, GrowingList, lasting_blocks, unwritten_block, KeepsTakenBytes, blocks_of_list, AreUsedAmong, KeepsStoredBlocks, contents_blocks, stored_blocks, CanEndUnfinished}

@@ -1,4 +1,4 @@
--- Blocks to which later ones have pointers, by the rows in which they are known.
+-- The blocks that later blocks' pointers name, by the rows in which they are cached.
 use Rattle.std.proofs.Common.{ℕ, zero, suc, ◌≡◌, ◌≢◌, ◌≤◌, ◌<◌, ◌+◌, ◌-◌, ◌^◌, ⊎_elim, replicate, slice_index, add-one, refl, sym, ap, subst, arith, List}
 use Rattle.lfs_file.proofs.Common.{cases_lt, get_or-replicate, pow-suc, one-le-pow, pow_mono, mul-le, bit_at-trailing_zeros, w32, trailing_zeros, pointer_count, ArePointersKnown, OnlyBelowKnown, ArePointedKnown, IsKnownIndex, index_row, AreKnownBlocks}
 use Rattle.std.specs.Int.Count.{trailing_of_zero}

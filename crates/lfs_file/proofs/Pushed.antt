@@ -1,4 +1,4 @@
--- A list that grows by blocks that were taken for it.
+-- A list that is extended in blocks allocated for it.
 use Rattle.std.proofs.Common.{ℕ, ◌≡◌, ◌≢◌, ◌+◌, inl, inr, ⊎_elim, get_or, List, ◌++◌, length, take, drop, Some, refl, sym, ap, ◌∙◌, subst, arith, length-append}
 use Rattle.std.specs.Prelude.{All, Contains}
 use Rattle.lfs_file.proofs.Common.{take_at, drop-append-add, All-append, Contains-append_right, Blocks, SameExceptBlocks, BlockStates, IsFree, IsInFlight, in_flight_count, Free, InFlight, CallEvent, LossLeavesAtWorst, HoldsAtLosses, StayUnprogrammed, blocks_to_head, AllCallsSince-weaker, length_back, ChangesTheseBlocks, KeepsTakenBlocks, GrowingList, lasting_blocks, unwritten_block, GrowsInFree, IsTakenNotPending, HasBlocksTaken, KeepsTakenBytes, TakenStayUnprogrammed, TakesFreeBlocks}

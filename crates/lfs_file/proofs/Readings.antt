@@ -1,4 +1,4 @@
--- Reads after reads.
+-- Reads in a row.
 use Rattle.std.proofs.Common.{◌≡◌, ℕ, List, refl, sym, subst}
 use Rattle.lfs_file.proofs.Common.{Blocks, SameExcept, CallEvent, LossLeavesAtWorst, HoldsAtLosses, HoldsAtLosses-read_count, LossLeavesAtWorst-read, SameExcept-refl, goes_on_by, AllCallsSince-weaker}
 use Rattle.lfs_model.specs.session.History.{OnlyReadsSince}

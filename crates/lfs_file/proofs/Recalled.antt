@@ -1,4 +1,4 @@
--- Reads that go on from a block that was found.
+-- Reads that continue from a cached block.
 use Rattle.std.proofs.Common.{ℕ, ◌≡◌, ◌+◌, ◌*◌, ◌-◌, ◌<◌, ◌≤◌, ◌^◌, min, List, Result, Ok, Err, subst, arith}
 use Rattle.std.specs.Prelude.{OnOk}
 use Rattle.lfs_file.proofs.Common.{Blocks, IsBytePlace, block_count_for, blocks_to_head, CallEvent, read_count, AreKnownBlocks, IsKnownIndex, ReadsKnownList}

@@ -1,4 +1,4 @@
--- What it means that blocks are taken out of flight.
+-- Blocks that are released while they are in flight.
 use Rattle.std.proofs.Common.{ℕ, zero, suc, ◌≡◌, ◌≢◌, ◌+◌, ◌-◌, ◌<◌, ◌≤◌, ⊎_elim, cond, get_or, set, List, [], ◌∷◌, length, drop, Some, slice_index, refl, sym, ap, ◌∙◌, subst, arith, add-one, drop-cons}
 use Rattle.lfs_file.proofs.Common.{slice_get, cases_eq, length-set, All-cons, slice_get-get_or, Blocks, block_bytes, BlockState, BlockStates, IsInFlight, IsUsedBlock, is_used, used_count, Free, InFlight, Used, AreListBlocks, blocks_to_head, word_at, slice_get-set_same, slice_get-set_other, ReleasesInFlight, length_back}
 use Rattle.std.proofs.lemmas.List.Sums.{sum_by-set}

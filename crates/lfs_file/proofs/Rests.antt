@@ -1,4 +1,4 @@
--- The bytes of an extender that do not fill a block.
+-- The bytes of an extender's partial block.
 use Rattle.std.proofs.Common.{Global, Vec, ℕ, ◌≡◌, ◌<◌, ◌+◌, ◌-◌, ◌*◌, ◌^◌, length, drop, sym, subst, arith, length-drop}
 use Rattle.lfs_file.proofs.Common.{length-take-le, pointer_count, IsExtender, growing_view, CountsAgree, OnlyBelowKnown, GrowingList, IsRestShort, growing_size}
 use Rattle.lfs_file.specs.declared.block.FullBlocks.{FullBlocks}

@@ -1,4 +1,4 @@
--- What a writer holds is room for its next write, for a truncation, and for ending its list.
+-- The blocks that a writer reserves are enough for its next write, for a truncation, and for completing its draft.
 use Rattle.std.proofs.Common.{ℕ, ◌≡◌, ◌+◌, ◌*◌, ◌<◌, ◌≤◌, ⊎_elim, Bool, true, false, if◌then◌else◌, max, min, List, ◌∷◌, length, sym, ap, subst, arith}
 use Rattle.std.specs.Prelude.{◌==◌}
 use Rattle.lfs_file.proofs.Common.{cases_lt, inline_limit, block_count_for, FileWriter, reserved_for_writer, truncated_writer, written_writer, write_position, ContentsForm, InMemory, Finished, InHand, form_size, form_written_within, IsWriterForm, truncation_room, write_room}

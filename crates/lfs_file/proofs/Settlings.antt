@@ -1,4 +1,4 @@
--- Blocks of a list that take another state, one after another.
+-- Blocks of a list that change their states, one after another.
 use Rattle.std.proofs.Common.{ℕ, suc, ◌≡◌, ◌≢◌, ◌+◌, ◌-◌, ◌<◌, ◌⊎◌, inl, inr, ⊎_elim, get_or, set, List, [], ◌∷◌, length, drop, Some, Result, Err, slice_index, refl, sym, ap, ◌∙◌, subst, arith}
 use Rattle.lfs_file.proofs.Common.{slice_get, cases_eq, length-set, slice_get-get_or, All-cons, All-contains, Blocks, BlockState, BlockStates, IsUsedBlock, Free, InFlight, Used, blocks_to_head, slice_get-set_same, slice_get-set_other, head_of_back, SettlesList, SetsState}
 use Rattle.lfs_device.specs.declared.error.Error.{Error}

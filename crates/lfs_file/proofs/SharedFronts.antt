@@ -1,4 +1,4 @@
--- What two lists of blocks share.
+-- The blocks that two lists share.
 use Rattle.std.proofs.Common.{ℕ, zero, suc, ◌≡◌, ◌≢◌, ◌+◌, ◌-◌, ◌<◌, ◌≤◌, nat_eq, ⊎_elim, get_or, List, [], ◌∷◌, ◌++◌, take, drop, Some, slice_index, refl, sym, ap, ◌∙◌, subst, arith, length-drop}
 use Rattle.std.specs.Prelude.{All, Contains}
 use Rattle.lfs_file.proofs.Common.{slice_get, cases_lt, get_or-take, take-append-drop, take_more, All-contains, Contains-append_cases, Contains-append_left, Blocks, block_bytes, BlockStates, IsUsedBlock, Free, Used, AreListBlocks, blocks_to_head, word_at, number_occurrences-Contains, number_occurrences, length_back, SettlesList, SetsState, IsSharedCount}

@@ -1,4 +1,4 @@
--- How many bytes the blocks of a list hold, by the number of ones of an index.
+-- The number of bytes in a list's blocks, by the number of ones of an index.
 use Rattle.std.proofs.Common.{ℕ, zero, suc, ◌≡◌, ◌+◌, ◌*◌, ◌-◌, ◌/◌, ◌%◌, ◌<◌, ◌≤◌, ◌^◌, refl, sym, ap, ap₂, subst, ◌∙◌, arith}
 use Rattle.std.proofs.Common.{⊎_elim, add-one, if◌then◌else◌, ◌==◌, false}
 use Rattle.lfs_file.proofs.Common.{nat_tests, mul-le, cases_lt, pointer_count, block_capacity, bytes_before_block, IsBytePlace, block_count_for}

@@ -1,4 +1,4 @@
--- Used blocks, which stand apart from each list in hand.
+-- Used blocks aren't written by a draft.
 use Rattle.std.proofs.Common.{ℕ, ◌≡◌, List, Some, refl, sym, ◌∙◌, subst}
 use Rattle.lfs_file.proofs.Common.{Blocks, SameExceptBlocks, BlockStates, IsInFlight, IsUsedBlock, Free, InFlight, Used, CallEvent, LossLeavesAtWorst, HoldsAtLosses, StayUnprogrammed, AllCallsSince-weaker, goes_on_by, GrowingList, unwritten_block, IsTakenNotPending, HasBlocksTaken, KeepsTakenBytes, TakenStayUnprogrammed, KeepsUsedBlocks, KeepsUsedBytes, ReleasesInFlight, ChangesOnlyFree}
 use Rattle.lfs_file.specs.Hand.{UsedStayUnprogrammed}

@@ -1,4 +1,4 @@
--- What a list that grows shows on a disk, and on one where the same bytes are in its blocks.
+-- A list being extended, on a disk, and on one that has the same bytes in the list's blocks.
 use Rattle.std.proofs.Common.{ℕ, true, ◌≡◌, ◌≢◌, ◌+◌, ◌*◌, ◌-◌, ◌<◌, List, [], ◌∷◌, ◌++◌, length, take, drop, refl, sym, ap, ap₂, subst, ◌∙◌, arith, length-append}
 use Rattle.std.specs.Prelude.{All}
 use Rattle.lfs_file.proofs.Common.{recursion_from_All, Same, back_same, data_same, Blocks, HasBlockSizes, block_bytes, AreListBlocks, bytes_before_block, blocks_to_head, pointer_count, ListHasBytes, HasBufferedBytes, GrowingList, DiskHasList, IsAllBuffered, IsRestAt, IsRestShort, growing_blocks, growing_bytes, lacks_last_block, blocks_data, lasting_blocks, rest_block, unwritten_rest_block, growing_size_with, AreKnownBlocks}

@@ -1,4 +1,4 @@
--- What it means that blocks are taken from a map.
+-- Blocks that are allocated from a map.
 use Rattle.std.proofs.Common.{ℕ, ◌≡◌, ◌≢◌, ◌+◌, ◌<◌, ◌⊎◌, inl, inr, ⊎_elim, nat_eq, get_or, set, List, [], ◌∷◌, ◌++◌, length, Some, refl, sym, ap, ◌∙◌, subst, arith, length-append}
 use Rattle.std.specs.Prelude.{All, Contains}
 use Rattle.lfs_file.proofs.Common.{slice_get, cases_eq, cases_lt, ne_eqb, eqb-false, length-set, get_or_at, get_or_append_left, All-append, All-cons, IsDistinct-from_apart, apart_from_distinct, slice_get_within, BlockStates, IsFree, IsInFlight, in_flight_count, used_count, Free, InFlight, slice_get-set_same, slice_get-set_other, ChangesOnlyFree, TakesFreeBlocks}

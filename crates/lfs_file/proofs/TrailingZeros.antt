@@ -1,4 +1,4 @@
--- The zeros after a number, by the powers of two that divide it.
+-- The trailing zeros of a number, by the powers of two that divide it.
 use Rattle.std.proofs.Common.{ℕ, zero, suc, ◌≡◌, ◌+◌, ◌*◌, ◌-◌, ◌/◌, ◌%◌, ◌<◌, ◌≤◌, ◌^◌, ⊎_elim, refl, sym, ap, ap₂, subst, ◌∙◌, arith}
 use Rattle.lfs_file.proofs.Common.{cases_lt, mul_assoc, add-mul, pow-suc, one-le-pow, mul-le, pow-add, w32, trailing_zeros}
 use lib.Count.{count_trailing_zeros, under}

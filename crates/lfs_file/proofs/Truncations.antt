@@ -1,4 +1,4 @@
--- What a truncation makes of the contents, and which form it leaves.
+-- The contents after a truncation, and their form.
 use Rattle.std.proofs.Common.{ℕ, ◌≡◌, ◌≢◌, ◌+◌, ◌*◌, ◌-◌, ◌<◌, ◌≤◌, ⊎_elim, Bool, true, false, if◌then◌else◌, max, min, List, [], length, take, replicate, sym, ap, ◌∙◌, arith}
 use Rattle.std.specs.Prelude.{nat_le, nat_lt, ◌==◌}
 use Rattle.lfs_file.proofs.Common.{cases_eq, cases_lt, eq-eqb, ne_eqb, le-leb, lt-leb, append-nil, length-replicate, length-take-le, take_all, block_count_for, written_contents, zero_padded, truncation_room, ContentsForm, InMemory, Finished, InHand, form_size, form_written_within, shortened_form, truncated_form}

@@ -1,4 +1,4 @@
--- The way from a list's last block to its first one, as it is noted and as it is counted.
+-- The walk from a list's last block to its first, as it is noted and as it is counted.
 use Rattle.std.proofs.Common.{ℕ, zero, suc, ◌≡◌, ◌+◌, ◌*◌, ◌-◌, ◌<◌, ◌≤◌, ◌^◌, ⊎_elim, nat_lt, true, false, List, ◌++◌, length, take, drop, slice_index, slice_set, refl, sym, ap, subst, ◌∙◌, arith}
 use Rattle.lfs_file.proofs.Common.{pow-suc, cases_lt, nat_tests, drop_at, drop-drop, length-take-le, w32, from_le_bytes, trailing_zeros, Blocks, block_bytes, AreListBlocks, blocks_to_head, word_at, HasNotedPointers, IsIndexVisited, HasNotedWalk, visit_count}
 use Rattle.std.proofs.lemmas.List.{get_or-set_same, get_or-set_other}

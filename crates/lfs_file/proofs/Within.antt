@@ -1,4 +1,4 @@
--- Bytes that are written in memory, in the block that waits for them.
+-- Writes in memory, to the partial block.
 use Rattle.std.proofs.Common.{ℕ, suc, ◌≡◌, ◌+◌, ◌<◌, true, List, ◌++◌, length, drop, refl, sym, ap, ◌∙◌, subst, arith, length-append, append_assoc}
 use Rattle.lfs_file.proofs.Common.{and_parts, ltb-true, Blocks, HasBlockSizes, BlockStates, block_capacity, block_count_for, blocks_to_head, written_contents, block_count_for-more, IsRestAt, growing_bytes, blocks_data, growing_size, unwritten_rest_block, unwritten_block, AreUsedAmong, contents_blocks, HaveBytesInForm, contents_form, written_form, stored_list_bytes, CanEndUnfinished, unfinished_bytes, unfinished_length}
 use Rattle.lfs_device.specs.declared.geometry.Geometry.{Geometry}

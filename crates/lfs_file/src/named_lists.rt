@@ -67,7 +67,8 @@ fn set_list_from<D: BlockDevice>(
 }
 
 /// Settles a stored list in the map, once a commit names it: its blocks become used, and those of
-/// the file's list `before` alone become free. Blocks of both lists must be used before the call.
+/// the file's list `before` alone become free. Blocks that both lists have must be used before the
+/// call.
 ///
 /// A list of no bytes has no block. The blocks that the lists share at their beginnings aren't
 /// read, and each other one is read at most twice.

@@ -1,4 +1,4 @@
--- A pair that breaks a rule: the thread's pairs break it.
+-- If a pair breaks a rule, the thread's pairs break it.
 use Rattle.std.proofs.Common.{ℕ, zero, suc, ◌≡◌, ◌⊎◌, inl, inr, ◌+◌, ◌<◌, ◌≤◌, ◌==◌, ◌&&◌, Bool, true, false, cond, not, List, [], ◌∷◌, ◌++◌, length, take, drop, filter, Option, Some, None, refl, sym, ap, subst, ◌∙◌, arith, append-nil, slice_get, nat_eq, eqb-true, flat_map, option_and_then, option_map}
 use Rattle.lfs_mount.proofs.Common.{cons_option, and_parts, take-append-drop, take_more, flat_map-append, filter_map-append, recursion_from_All, get_or_from_slice_get, option_and_then_some, same_Some, slice_get_within, BlockStates, RawContent, RawSlot, content_after, empty_raw_content, complete_content, raw_content, complete_slot, complete_slots, Disk, disk_block, block_count, block_entries, AreWellFormed, IsFormedSlot, all_unmoved_slots, struct_blocks, used_blocks, block_count_for, blocks_to_head, Name, Branch, Ctz, Gstate, Inline, Slot, Struct, is_superblock, address_view, same_pair, Pair, pairs_blocks, unmoved_entries, pairs_gstate, moved_id, count_before_root, slots_not_moved, superblock_first, HasValidMove, IsFormedList, IsEntry, PairsBreak, Contains-number_occurrences, complete_parts, Each, count_append, each_counted, number_occurrences, logged, AreByteBlocks, BreaksDescribedPair, BreaksEntryList, BreaksList, BreaksMovedSlot, raw_block_slots, IsDescribedThread, AreDescriptions, IsDescription, raw_slot_entry, struct_reference, named_reference, HasUsedBlocks, raw_slot_lists, blocks_last_first, list_of_entry, Vertex, ScansPair, entry_slot_number, unmoved_raw_slots, superblock_removed, raw_entry_slots}
 use Rattle.std.specs.List.{IsDistinct}

@@ -1,4 +1,4 @@
--- What a search meets where a thread's directories are no tree: which rule they break, and at which directory.
+-- A search through directories that aren't a tree: the rule that they break, and the directory.
 use Rattle.std.proofs.Common.{ℕ, suc, ◌≡◌, ◌+◌, ◌<◌, Bool, true, false, List, [], ◌∷◌, ◌++◌, length, map, get_or, Option, Some, None, refl, sym, ap, subst, ◌∙◌, arith, slice_get, option_map, nat_eq, Less, AllPairs, add-one, true≢false}
 use Rattle.std.specs.Prelude.{All}
 use Rattle.std.specs.List.{IsDistinct}

@@ -1,4 +1,4 @@
--- What calls of a device one behind the other say of it.
+-- The effect of calls of a device in a row.
 use Rattle.std.proofs.Common.{◌≡◌, ◌⊎◌, ◌∙◌, inl, inr, refl, sym, ap, Result, Ok, Err, arith}
 use Rattle.lfs_mount.proofs.Common.{ReadsOnly, fault_count, OnlyReadsSince-trans, ReadsReportingFaults}
 use Rattle.lfs_device.specs.declared.device.BlockDevice.{Ghosts}

@@ -1,4 +1,4 @@
--- The thread of an accepted image, from what a pass and a search have found.
+-- The thread of an accepted image, from the results of the pass and the search.
 use Rattle.std.proofs.Common.{ℕ, zero, suc, ◌≡◌, inl, inr, Bool, true, false, List, [], ◌∷◌, ◌++◌, Option, Some, None, refl, sym, ap, subst, subst₂, ◌∙◌, arith, nat_eq, flat_map}
 use Rattle.std.specs.Prelude.{All}
 use Rattle.std.specs.List.{IsDistinct}

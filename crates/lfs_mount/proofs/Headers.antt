@@ -1,4 +1,4 @@
--- What the disk holds of a pair that a header describes.
+-- The content on the disk of a pair that a header describes.
 use Rattle.std.proofs.Common.{ℕ, zero, suc, ◌≡◌, ◌<◌, Bool, true, false, cond, List, [], ◌∷◌, length, slice_get, Option, Some, None, sym, ap, subst, ◌∙◌, option_and_then, option_map}
 use Rattle.std.specs.Prelude.{unwrap_or}
 use Rattle.lfs_mount.proofs.Common.{same_Some, slice_get-map, RawContent, complete_slots, complete_content, content_after, content_at, current_block, empty_raw_content, Disk, disk_block, block_count, CallEvent, block_entries, zero_gstate, Pair, is_hard_tail, completed_parts, tail_view, move_view, header_address, PairHeader, AreHeaders, IsHeader, header_pairs}

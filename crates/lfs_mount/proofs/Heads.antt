@@ -1,4 +1,4 @@
--- How many pairs of the superblock's chain stand in front of the root's first one.
+-- The number of pairs of the superblock's chain before the root's first one.
 use Rattle.std.proofs.Common.{ℕ, zero, suc, ◌≡◌, ◌⊎◌, inl, inr, ◌==◌, ◌&&◌, ◌||◌, ◌+◌, ◌-◌, ◌<◌, ◌≤◌, Bool, true, false, cond, List, [], ◌∷◌, ◌++◌, length, drop, slice_get, slice_index_or, Option, Some, None, refl, sym, ap, ap₂, subst, ◌∙◌, arith, eqb-true, option_and_then, option_map}
 use Rattle.lfs_mount.proofs.Common.{and_from, and_parts, length-map, same_Some, slice_get_read, slice_get_within, Blocks, current_block, Disk, disk_block, block_count, CallEvent, Slot, Inline, address_view, Pair, first_address, has_no_entry, is_hard_tail, has_superblock, superblock_first, count_before_root, pairs_from_root, RepeatsSuperblockStruct, IsSuperblock, PairsBreak, Each, tail_view, AreHeaders, PairHeader, header_pairs, FirstHasStruct, HasSuperblockAlone, HasNoEntries, AreThreadHeaders, BreaksFirstSuperblock, HasChain, first_filled, first_repeats_superblock, first_slot_struct}
 use Rattle.std.proofs.lemmas.Bool.{and_right, eqb-false}

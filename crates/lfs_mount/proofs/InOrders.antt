@@ -1,4 +1,4 @@
--- What is read of a disk's pairs doesn't depend on the order of its names.
+-- The content of a disk's pairs doesn't depend on the order of its names.
 use Rattle.std.proofs.Common.{ℕ, List, [], ◌∷◌}
 use Rattle.lfs_mount.proofs.Common.{ordered_disk, Disk, BlockStates, CallEvent, Gstate, IsSuperblock, AreHeaders, PairHeader, IsHeader, IsKeptOnDisk, header_pairs, AreThreadHeaders, BreaksFirstSuperblock, HasChain, IsThreadRead}
 use Rattle.lfs_model.specs.declared.order.NameOrder.{NameOrder}

@@ -1,4 +1,4 @@
--- The lists of slots, marked one behind the other.
+-- The lists of slots, marked one after the other.
 use Rattle.std.proofs.Common.{ℕ, ◌≡◌, ◌+◌, List, [], ◌∷◌, ◌++◌, map, take, Option, Some, None, refl, sym, ap, subst, ◌∙◌, arith, slice_get, option_and_then, append-nil, flat_map}
 use Rattle.lfs_mount.proofs.Common.{cons_option, take_more, map-append, flat_map-append, filter_map-append, All-append, All-cons, All-from_recursion, recursion_from_All, each_left, each_right, slice_get_within, get_or_from_slice_get, BlockStates, RawSlot, Disk, IsSkipList, slot_view, raw_slot_entry, MarksUsed, MarksList, MarksLists, list_of_entry, raw_slot_lists, blocks_last_first, lists_view}
 use Rattle.lfs_tag.specs.declared.content.Slot.{Slot}

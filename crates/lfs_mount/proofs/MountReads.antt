@@ -1,4 +1,4 @@
--- How many reads the check of an image takes, by what its thread shows.
+-- The number of reads that the check of an image costs, by its thread.
 use Rattle.std.proofs.Common.{ℕ, ◌≡◌, ◌≤◌, ◌<◌, ◌+◌, not, Bool, true, false, cond, List, [], ◌∷◌, ◌++◌, length, drop, filter, Some, sym, ap, subst, ◌∙◌, arith, refl, length-append}
 use Rattle.std.specs.Prelude.{All, sum_by}
 use Rattle.lfs_mount.proofs.Common.{cons_option, flat_map, flat_map-append, same_Some, AreByteBlocks, BlockStates, Disk, disk_block, CallEvent, Name, Branch, Ctz, Gstate, Inline, Slot, Struct, is_superblock, AreLinked, Pair, anchor_address, pairs_gstate, slots_not_moved, unmoved_entries, moved_id, IsAccepted, IsTreeEntry, PairHeader, header_pairs, AreDescriptions, IsDescription, empty_scan, struct_reference, HasChain, list_of_entry, IsThreadRead, IsHeaderThread, header_descriptions, ScansPairs, scan_unless_soft, DirectoryGraph, Vertex, list_reads, described_lists, mount_reads, pair_reads, ScansPair, superblock_removed, unmoved_raw_slots}

@@ -1,4 +1,4 @@
--- A thread that was read, checked, and is kept again.
+-- A thread that was read and checked, and put together again.
 use Rattle.std.proofs.Common.{ℕ, ◌≡◌, ◌++◌, List, [], ◌∷◌, ap₂, length, Err, refl, sym, ap, subst, ◌∙◌, arith, false}
 use Rattle.std.specs.Prelude.{Contains}
 use Rattle.lfs_device.specs.declared.device.BlockDevice.{Ghosts}

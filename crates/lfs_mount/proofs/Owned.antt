@@ -1,4 +1,4 @@
--- Blocks can be marked one by one exactly where no block is owned twice.
+-- Blocks can be marked one by one exactly if no block is owned twice.
 use Rattle.std.proofs.Common.{Bool, true, false, cond, eqb-true, ℕ, zero, suc, ◌≡◌, ◌≤◌, ◌+◌, ◌<◌, ⊎_elim, inl, inr, List, [], ◌∷◌, ◌++◌, length, set, Some, refl, sym, ap, subst, ◌∙◌, arith, slice_get, nat_eq, append_assoc, append-nil}
 use Rattle.std.specs.Prelude.{All, Contains}
 use Rattle.std.specs.List.{IsDistinct}

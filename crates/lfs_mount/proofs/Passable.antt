@@ -1,4 +1,4 @@
--- Pairs that keep the rules can be taken.
+-- The pass accepts pairs that keep the rules.
 use Rattle.std.proofs.Common.{ℕ, zero, suc, ◌≡◌, Bool, true, false, cond, List, [], ◌∷◌, remove, filter, slice_get, Option, Some, None, is_some, refl, sym, ap, ap₂, subst, ◌∙◌, option_and_then, flat_map, not}
 use Rattle.std.specs.Prelude.{All}
 use Rattle.lfs_mount.proofs.Common.{same_Some, Disk, disk_block, block_entries, Name, BlockStates, RawSlot, RawContent, complete_slots, complete_content, content_after, empty_raw_content, raw_content, AreWellFormed, Slot, Gstate, is_superblock, Pair, superblock_first, slots_not_moved, unmoved_entries, moved_id, IsTreeEntry, complete_parts, Each, logged, Vertex, DirectoryGraph, NamedReference, raw_slot_entry, scan_after_slots, MarksLists, ScansPair, unmoved_raw_slots, superblock_removed, IsDescription, AreDescriptions, AreByteBlocks, scan_unless_soft, graph_with_directory, ScansPairs}

@@ -1,4 +1,4 @@
--- How many reads lists and pairs take.
+-- The number of reads that lists and pairs cost.
 use Rattle.std.proofs.Common.{ℕ, ◌≡◌, ◌+◌, ◌<◌, List, [], ◌∷◌, length, set, take, get_or, Option, Some, None, sym, ap, ◌∙◌, slice_get, option_and_then, append-nil}
 use Rattle.std.specs.Prelude.{sum_by}
 use Rattle.lfs_mount.proofs.Common.{option_map_or, length-set, take_more, BlockStates, Used, RawContent, Disk, Name, lists_view, MarksUsed, raw_slot_lists, Vertex, list_reads, described_lists, pair_reads, ScansPair, raw_entry_slots}

@@ -1,4 +1,4 @@
--- The thread of an accepted image can be taken: where a pass fails, the image isn't accepted.
+-- The pass accepts the thread of an accepted image: if the pass fails, the image isn't accepted.
 use Rattle.std.proofs.Common.{ℕ, zero, suc, ◌≡◌, inl, inr, ◌+◌, ◌<◌, ◌==◌, ◌&&◌, Bool, true, false, cond, List, [], ◌∷◌, ◌++◌, length, remove, reverse, slice_get, Option, Some, None, refl, sym, ap, subst, ◌∙◌, arith, nat_eq, flat_map, eqb-true}
 use Rattle.std.specs.Prelude.{All}
 use Rattle.std.specs.List.{IsDistinct}

@@ -1,4 +1,4 @@
--- Pairs that can be taken keep the rules, and what is known of them draws the directories.
+-- Pairs that the pass accepts keep the rules, and their scan describes the directories.
 use Rattle.std.proofs.Common.{ℕ, zero, suc, ◌≡◌, ◌==◌, ◌&&◌, not, Bool, true, false, cond, List, [], ◌∷◌, map, drop, remove, filter, slice_get, Option, Some, None, is_some, refl, sym, ap, ap₂, subst, ◌∙◌, arith, option_and_then}
 use Rattle.std.specs.Prelude.{All}
 use Rattle.lfs_mount.proofs.Common.{filter_map, cons_option, same_Some, All-head, All-tail, Disk, disk_block, block_entries, Name, BlockStates, RawSlot, RawContent, complete_slots, complete_content, content_after, empty_raw_content, Slot, Gstate, is_superblock, same_pair, Pair, superblock_first, slots_not_moved, unmoved_entries, is_hard_tail, moved_id, IsTreeEntry, AreComplete, complete_parts, completed_parts, Each, entry_is_other, Vertex, DirectoryGraph, NamedReference, named_reference, raw_slot_entry, scan_with_entries, scan_with_entry, empty_scan, scan_after_slots, MarksLists, list_of_entry, raw_slot_lists, ScansPair, unmoved_raw_slots, superblock_removed, raw_entry_slots, IsDescription, AreDescriptions, scan_unless_soft, graph_with_directory, ScansPairs, flat_map, block_count, content_at, anchor_address, AreLinked, IsThread, pairs_gstate, count_before_root, pairs_from_root, pair_directories, all_directories, Ends, IsDirectoryGraph, IsThreadGraph, directory_addresses}

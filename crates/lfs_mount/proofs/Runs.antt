@@ -1,4 +1,5 @@
--- From the pairs of a thread to its graph, pair by pair from the front: the run of pairs in hand, and the pairs to come.
+-- From the pairs of a thread to its graph, pair by pair from the front: the pairs of the current directory, and those that
+-- follow.
 use Rattle.std.proofs.Common.{if◌then◌else◌, ℕ, zero, suc, ◌≡◌, Bool, true, false, cond, List, [], ◌∷◌, ◌++◌, length, map, Some, refl, ap, subst, ◌∙◌, slice_get, append_assoc}
 use Rattle.std.specs.Prelude.{All}
 use Rattle.lfs_mount.proofs.Common.{same_Some, length-map, Name, is_valid_name, Slot, Gstate, Pair, ThreadDirectory, is_hard_tail, unmoved_entries, directories_with_pair, pair_directories, Each, Ends, Vertex, DirectoryGraph, DescribesSlots, IsDirectoryGraph, NamedReference, named_reference, scan_with_entries, empty_scan, directory_addresses}

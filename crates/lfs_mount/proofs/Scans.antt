@@ -1,4 +1,4 @@
--- What a scan of slots finds: they are entries of a directory, or they aren't.
+-- The result of a scan of slots: they are entries of a directory, or one of them isn't.
 use Rattle.std.proofs.Common.{ℕ, suc, ◌≡◌, ◌/◌, ◌^◌, ◌<◌, ◌==◌, ◌&&◌, ◌||◌, ⊎_elim, Bool, true, false, cond, List, [], ◌∷◌, length, map, Option, Some, None, refl, sym, ap, ap₂, subst, subst₂, ◌∙◌, arith, eqb-true, eq-eqb, option_and_then, option_map, true≢false}
 use Rattle.std.specs.Prelude.{All}
 use Rattle.lfs_mount.proofs.Common.{and_parts, or_cases, All-head, All-tail, All-cons, same_Some, Name, is_valid_name, Slot, inline_type, directory_type, RawSlot, complete_slot, complete_slots, kind_of_type, decoded_struct, IsFormedSlot, AreWellFormed, IsTreeEntry, AreComplete, complete_parts, Vertex, LacksEntryAt, InSlot, InList, Below, struct_reference, NamedReference, named_reference, raw_slot_entry, scan_with_entry, scan_with_entries, scan_after_slots}

@@ -1,4 +1,4 @@
--- How many slots a block's log comes to.
+-- The number of slots of a block's log.
 use Rattle.std.proofs.Common.{ℕ, ◌≡◌, ◌+◌, ◌-◌, ◌<◌, ◌≤◌, ◌^◌, List, [], ◌∷◌, length, replicate, Some, ap, ◌∙◌, arith}
 use Rattle.lfs_mount.proofs.Common.{length-replicate, length-set, option_and_then_some, same_Some, RawSlot, RawContent, content_after, empty_raw_content, block_entries}
 use Rattle.std.proofs.lemmas.List.{length-append}

@@ -1,4 +1,4 @@
--- What is known of directories names places that there are.
+-- The list indices in a scan are those of directories.
 use Rattle.std.proofs.Common.{ℕ, suc, ◌≡◌, ◌<◌, ◌&&◌, Bool, true, false, cond, List, [], ◌∷◌, ◌++◌, length, Option, Some, None, refl, sym, ap, subst, ◌∙◌, arith, option_map, option_and_then}
 use Rattle.std.specs.Prelude.{All}
 use Rattle.lfs_mount.proofs.Common.{same_Some, length-map, All-from_recursion, BlockStates, RawSlot, Disk, block_count, Name, Slot, Gstate, same_pair, Pair, ThreadDirectory, directories_with_pair, is_hard_tail, unmoved_entries, pairs_gstate, pairs_from_root, pair_directories, all_directories, Each, each_append, pairs_behind, Vertex, DirectoryGraph, vertex_view, graph_view, address_index, comes_after_name, InSlot, InList, Below, NamedReference, raw_slot_entry, vertex_with_branch, scan_with_entry, empty_scan, scan_after_slots, scan_unless_soft, graph_with_directory, ScansPairs, AreDescriptions}

@@ -1,4 +1,4 @@
--- A content written into an erased block, as its first commit.
+-- A content, written into an erased block as its first commit.
 use Rattle.std.proofs.Common.{ℕ, ◌≡◌, ◌+◌, ◌≤◌, Bool, false, List, [], ◌∷◌, Some, inl, inr, refl, sym, ap, ◌∙◌, subst, arith, option_map}
 use Rattle.lfs_pair.proofs.Common.{Blocks, block_bytes, SameExcept, IsValidGeometry, RawContent, empty_raw_content, encoded_size, aligned_end, RawContentFits, content_entries, AreNamed, IsWellFormed, CallEvent, call_event, Erase, AllCallsSince, HoldsAtLosses, ErasesCleanly, LeftByLoss, appended_content, began, goes_on, goes_on_by, HoldsAtLosses-weaker, AllCallsSince-until, AllCallsSince-only, SameExcept-trans, PartialCommit, padded_commit_end, commit_with_entries, LogGetsCommit, HasOneCommit, LossLeavesCommit, LossLeavesRewritten, DiffersInBlock}
 use Rattle.lfs_model.specs.layers.LoggedContent.{IsStorable}

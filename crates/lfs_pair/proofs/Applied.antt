@@ -1,4 +1,4 @@
--- Changes taken one by one.
+-- Changes, applied one by one.
 use Rattle.std.proofs.Common.{ℕ, zero, suc, ◌≡◌, ◌+◌, ◌<◌, Bool, true, List, [], ◌∷◌, ◌++◌, length, take, drop, map, get_or, Option, Some, None, refl, ap, ◌∙◌, arith}
 use Rattle.lfs_pair.proofs.Common.{list_all, and_parts, append-nil, flat_map-append, RawContent, content_after, ContentChange, change_entries, entries_of_changes, option_and_then}
 use Rattle.lfs_model.proofs.WrittenAnew.{then, content_after-append}

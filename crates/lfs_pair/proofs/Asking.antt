@@ -1,4 +1,4 @@
--- A question about blank bytes changes nothing.
+-- Asking whether bytes are blank changes nothing.
 use Rattle.std.proofs.Common.{ℕ, ◌≡◌, ◌≤◌, ◌+◌, List, true, inl, inr, refl, sym, ap, subst, arith}
 use Rattle.lfs_device.specs.declared.device.BlockDevice.{Ghosts}
 use Rattle.lfs_pair.proofs.Common.{ChangesTheseBlocks, Blocks, SameExceptBlocks, block_bytes, CallEvent, StayUnprogrammed, HoldsAtLosses, blank_count, erase_count, program_count, read_count, LeftByLoss, began, goes_on, goes_on_by, SameExcept-refl, SameExceptBlocks-refl, ContentChange, RawContent, Disk, address_blocks, AppendFits, IsEndUnprogrammed, LossLeavesNew, OnlyAsksBlank, DiffersInBlock}

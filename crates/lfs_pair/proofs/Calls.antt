@@ -1,4 +1,4 @@
--- What calls behind calls do to a device.
+-- The effect of calls of a device in a row.
 use Rattle.std.proofs.Common.{arith, ap, inl, inr, Err, ℕ, ◌≡◌, ◌≤◌, ◌+◌, ◌⊎◌, Bool, List, [], ◌∷◌, refl, sym, ◌∙◌, subst}
 use Rattle.lfs_device.specs.declared.device.BlockDevice.{Ghosts}
 use Rattle.lfs_pair.proofs.Common.{ReadsOnly, ChangesTheseBlocks, Blocks, SameExcept, SameExceptBlocks, CallEvent, Erase, call_event, read_count, began, goes_on, goes_on_by, HoldsAtLosses-read_count, HoldsAtLosses-weaker, StayUnprogrammed-wider, SameExcept-refl, SameExcept-trans, SameExceptBlocks-refl, SameExceptBlocks-trans, SameExceptBlocks-wider, ChangesReadingFew, address_blocks}

@@ -1,4 +1,4 @@
--- What a pair holds after a commit, and what a stop on the way leaves of it.
+-- The content of a pair after a commit, and after a stop in it.
 use Rattle.std.proofs.Common.{ℕ, zero, suc, get_or, ◌≡◌, ◌≢◌, ◌⊎◌, ◌+◌, ◌%◌, ◌^◌, ◌<◌, ◌≤◌, Bool, true, false, cond, List, [], ◌∷◌, ◌++◌, length, Option, Some, None, flat_map, refl, sym, ap, ◌∙◌, subst, arith, inl, inr, length-append}
 use Rattle.std.specs.Prelude.{nat_lt, slice_get, unwrap_or}
 use Rattle.lfs_pair.proofs.Common.{list_all, lt-ltb, ltb-true, Blocks, SameExcept, block_bytes, Disk, disk_block, LogEntry, block_revision, block_entries, BeginsWith, RawContentFits, content_entries, IsWellFormed, flat_map-append, RawContent, has_commit, current_block, raw_content, content_after, empty_raw_content, ContentChange, content_with_changes, entries_of_changes, is_storable, appended_content, StayUnprogrammed-wider, SameExceptBlocks-refl, option_and_then, PartialCommit, earlier_commits, CallEvent, AreUnprogrammed, StayUnprogrammed, IsTrueHeader, is_second_active, active_block_at, header_address, LogGetsCommit, HasOneCommit, LossLeavesCommit, LossLeavesRewritten, DiffersInBlock, HeaderSaysActive, IsPairAddress, HasNewContent, HasOldContent, KeepsFirstEntry, LossLeavesChanged, LossLeavesNew, HasWrittenContent, changed_log_content, changed_pair_content}

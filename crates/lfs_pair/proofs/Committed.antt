@@ -1,4 +1,4 @@
--- What a commit's pages make of a block, and what a stop while they are programmed leaves.
+-- A block after a commit's pages were programmed, and after a stop in that.
 use Rattle.std.proofs.Common.{ℕ, ◌≡◌, ◌+◌, ◌≤◌, true, List, [], ◌∷◌, ◌++◌, length, Option, inl, inr, sym, ap, ◌∙◌, subst, arith, length-append}
 use Rattle.lfs_pair.proofs.Common.{lt-ltb, Blocks, block_bytes, overwritten_at, SameExcept, LogEntry, has_commit, SameLog, PartialCommit, IsCommitOffset, earlier_commits, padded_commit_end, LogGetsCommit, LossLeavesCommit, DiffersInBlock}
 use Rattle.lfs_model.specs.format.Log.{chain_of}

@@ -1,4 +1,4 @@
--- The words of the definitions and the laws below that most proofs of this crate use.
+-- The definitions and laws that most proofs of this crate use.
 pub use Rattle.lfs_device.specs.DeviceCalls.{ChangesTheseBlocks, ReadsOnly}
 pub use Rattle.lfs_device.specs.DeviceDisk.{disk_of_blocks}
 pub use Rattle.lfs_model.proofs.Appended.{appended_content}

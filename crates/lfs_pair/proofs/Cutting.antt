@@ -1,4 +1,4 @@
--- Where slots are cut.
+-- The cut of slots into two parts.
 use Rattle.std.proofs.Common.{ℕ, zero, suc, ◌≡◌, ◌+◌, ◌*◌, ◌-◌, ◌^◌, ◌<◌, ◌≤◌, inl, inr, List, [], ◌∷◌, length, take, drop, map, min, get_or, sum_by, sym, subst, arith, length-drop, drop_of_length-le}
 use Rattle.lfs_pair.proofs.Common.{cases_lt, length-map, length-take-le, pair_capacity, slots_limit, RawSlot, slot_size_raw, IsFittingSplit, IsHalfCut}
 use Rattle.std.proofs.lemmas.List.Sums.{sum_by-cons, sum_by-take-drop, sum_by-take-le}

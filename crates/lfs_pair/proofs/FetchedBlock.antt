@@ -1,4 +1,4 @@
--- Which block of a pair a fetch takes, after it has read both revisions.
+-- The block of a pair that a fetch finds active, once it has read both revisions.
 use Rattle.std.proofs.Common.{ℕ, ◌≡◌, Bool, true, false, cond, List, Some, refl, sym, ap, ◌∙◌, subst, Ok, Err}
 use Rattle.std.specs.Prelude.{IfOk, Result}
 use Rattle.lfs_pair.proofs.Common.{option_and_then, RawContent, has_commit, is_later, current_block, content_after, empty_raw_content, raw_content, Disk, disk_block, CallEvent, block_entries, block_revision, address_view, HeaderDescribesLog, active_block_at}

@@ -1,4 +1,4 @@
--- Which block of a pair holds, and which one does after a write.
+-- The active block of a pair, before and after a write.
 use Rattle.std.proofs.Common.{ℕ, ◌≡◌, ◌+◌, ◌-◌, ◌%◌, ◌^◌, ◌<◌, Bool, true, false, cond, not, ◌&&◌, ◌||◌, List, Some, None, refl, sym, ap, subst, ◌∙◌, arith}
 use Rattle.lfs_pair.proofs.Common.{option_and_then, Disk, disk_block, block_entries, block_revision, has_commit, is_later, current_block, content_after, empty_raw_content, raw_content, is_second_active}
 use Rattle.std.proofs.lemmas.Option.{same_Some}

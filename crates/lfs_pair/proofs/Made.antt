@@ -1,4 +1,4 @@
--- What changes make can be written again.
+-- A changed content can be written again.
 use Rattle.std.proofs.Common.{◌≡◌, Bool, true, false, cond, List, Some, None}
 use Rattle.std.specs.Prelude.{is_some}
 use Rattle.lfs_pair.proofs.Common.{list_all, IsWellFormed, RawContent, content_after, ContentChange, entries_of_changes, is_storable, content_with_changes}

@@ -1,4 +1,4 @@
--- A content cut into the parts of two pairs, and what a stop on the way there leaves.
+-- A content, cut into the parts of two pairs, and a stop while they are written.
 use Rattle.std.specs.Prelude.{All}
 use Rattle.std.proofs.Common.{ℕ, zero, suc, get_or, ◌≡◌, ◌≢◌, ◌+◌, ◌≤◌, ◌<◌, ◌==◌, ◌&&◌, ◌^◌, false, List, [], ◌∷◌, Some, length, take, drop, sum_by, sym, ap, ◌∙◌, subst, arith, inl, inr}
 use Rattle.lfs_pair.proofs.Common.{cases_lt, ne_eqb, disk_of_blocks, Blocks, block_bytes, Disk, pair_capacity, slots_limit, AllCallsSince, CallEvent, RawSlot, RawContent, current_block, raw_content, LogEntry, AreNamed, AreWellFormed, IsWellFormed, RawContentFits, slot_size_raw, ContentChange, AllCallsSince-until, nothing_logged, SameExceptBlocks-trans, SameExceptBlocks-wider, AreElsewhere, current_block-stays, raw_content-stays, header_address, BeginsWith, HasNewContent, HasOldContent, KeepsFirstEntry, LossLeavesNew, KeepsOutsidePair, changed_log_content, changed_pair_content, IsFittingSplit, ErasedOneMore, IsWrittenAnew, CanSplitPair, LossLeavesSplit}

@@ -1,4 +1,4 @@
--- Entries put into a commit one after the other.
+-- Entries, pushed into a commit one after the other.
 use Rattle.std.proofs.Common.{ℕ, zero, suc, ◌≡◌, ◌+◌, ◌<◌, ◌≤◌, ◌∙◌, List, [], ◌∷◌, ◌++◌, length, take, map, get_or, sym, ap, subst, arith, append_assoc}
 use Rattle.std.specs.List.{flat_map}
 use Rattle.lfs_pair.proofs.Common.{append-nil, length-map, length-take-le, flat_map-append, LogEntry, RawSlot, AreWellFormed, attribute_entries, log_entry, entries_of_slots, PartialCommit, attribute_view, commit_with_entries}

@@ -1,4 +1,4 @@
--- What a pair holds where nothing is written to its two blocks.
+-- A pair keeps its content if nothing is written to its two blocks.
 use Rattle.std.specs.Prelude.{All}
 use Rattle.std.proofs.Common.{ℕ, ◌≡◌, ◌≢◌, Bool, true, false, cond, List, Some, sym, ap, ap₂, ◌∙◌, subst}
 use Rattle.lfs_pair.proofs.Common.{Blocks, SameExceptBlocks, Disk, disk_block, block_revision, CallEvent, StayUnprogrammed, RawContent, AreElsewhere, current_block-stays, raw_content-stays, IsTrueHeader, HeaderDescribesLog, is_second_active, active_block_at, header_address, HeaderSaysActive, HasWrittenContent}

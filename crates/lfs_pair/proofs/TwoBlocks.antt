@@ -1,4 +1,4 @@
--- What a pair holds, by which of its two blocks was written.
+-- The content of a pair, by which of its two blocks was written.
 use Rattle.std.proofs.Common.{ℕ, ◌≡◌, ◌≢◌, ◌⊎◌, ◌+◌, ◌%◌, ◌^◌, ◌<◌, ◌==◌, Bool, true, false, cond, List, [], ◌∷◌, refl, sym, ap, ◌∙◌, subst, arith, eq-eqb, inl, inr}
 use Rattle.std.specs.Prelude.{All}
 use Rattle.lfs_pair.proofs.Common.{ne_eqb, option_and_then, Blocks, SameExcept, block_bytes, Disk, disk_block, block_revision, block_entries, SameLog, SameRevision, HasNoLog, has_commit, is_later, raw_content, content_after, empty_raw_content, is_second_active, active_block_at, IsPairAddress, KeepsOutsidePair, SameExceptBlocks-refl}

@@ -1,4 +1,4 @@
--- A commit's pages in a block.
+-- The checksum entry of a commit's pages in a block.
 use Rattle.std.proofs.Common.{◌≡◌, ℕ, zero, suc, ◌+◌, ◌*◌, ◌/◌, ◌%◌, ◌^◌, ◌<◌, ◌≤◌, Bool, true, false, cond, ltb, leb, ◌||◌, ◌⊎◌, inl, inr, List, length, take, drop, get_or, bit_xor, Option, Some, None, IfSome, refl, sym, ap, ◌∙◌, arith}
 use Rattle.std.specs.Int.Bits.{xor_zero_l}
 use Rattle.lfs_tag.proofs.Common.{nat_tests, xor_shr, IsValidTag, tag_type, tag_length, tag_class, tag_chunk, tag_data_size, tag_before_next, make_tag, LogEntry, tag_at, is_page, no_id, four_bytes_at, checksum_type, PartialCommit, checksum_start, padded_commit_end}

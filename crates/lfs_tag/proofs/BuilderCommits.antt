@@ -1,4 +1,4 @@
--- The bytes of a commit are that commit.
+-- The bytes of a commit are read back as that commit.
 use Rattle.std.proofs.Common.{◌≡◌, subst, ℕ, ◌+◌, ◌-◌, ◌/◌, ◌^◌, ◌<◌, ◌≤◌, true, false, eqb, leb, ◌||◌, ◌⊎◌, inl, inr, List, [], ◌∷◌, ◌++◌, length, take, drop, slice_range, bit_xor, Some, refl, sym, ap, eq-eqb, ◌∙◌, arith, add-zero, append_assoc, length-append}
 use Rattle.lfs_tag.proofs.Common.{xor_assoc, xor_zero_r, nat_tests, drop-drop, length-drop, sum_by-cons, take-append_seam, drop-append_seam, IsValidTag, tag_type, tag_length, tag_class, tag_data_size, tag_before_next, LogEntry, entry_end, is_checksum_entry, IsCommit, encoded_entries, encoded_size, carried_tag, AreStorableEntries}
 use Rattle.std.specs.Int.Bits.{xor_self}

@@ -1,4 +1,4 @@
--- What the buffer holds at the end is the commit's pages.
+-- A finished builder's buffer begins with the commit's pages.
 use Rattle.std.proofs.Common.{◌≡◌, ℕ, ◌+◌, ◌-◌, ◌≤◌, ◌<◌, ◌^◌, List, ◌++◌, length, take, bit_xor, Option, IfSome, refl, ap, ◌∙◌, arith, replicate}
 use Rattle.lfs_tag.proofs.Common.{length-replicate, overwritten_at, PartialCommit, checksum_start, padded_commit_end, checksum_tag, checksummed_bytes, BuildsCommit}
 use Rattle.byteorder.specs.Endian.{big_bytes, little_bytes}

@@ -1,4 +1,4 @@
--- One entry more in a commit.
+-- One more entry in a commit.
 use Rattle.std.proofs.Common.{◌≡◌, false, ℕ, ◌+◌, ◌-◌, ◌≤◌, ◌^◌, List, [], ◌∷◌, ◌++◌, length, take, min, bit_xor, Option, Some, None, refl, sym, ap, ◌∙◌, arith, append_assoc, length-append}
 use Rattle.lfs_tag.proofs.Common.{append-nil, sum_by-cons, overwritten_at, tag_before_next, LogEntry, is_checksum_entry, encoded_entries, encoded_size, PartialCommit, commit_adding_entry, entries_start, checksum_start, carried_tag, revision_bytes, checksummed_bytes, IsStorableEntry, AreStorableEntries, BuildsCommit}
 use Rattle.std.proofs.lemmas.List.Sums.{sum_by_push}

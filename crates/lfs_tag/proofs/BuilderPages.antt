@@ -1,4 +1,4 @@
--- A commit's pages, put into a block.
+-- A commit's pages, programmed into a block.
 use Rattle.std.proofs.Common.{◌≡◌, ℕ, ◌+◌, ◌-◌, ◌^◌, ◌<◌, ◌≤◌, true, false, ltb, List, [], ◌∷◌, ◌++◌, length, take, drop, bit_xor, Option, Some, None, IfSome, unwrap_or, refl, sym, ap, subst, ◌∙◌, arith, append_assoc, length-append, replicate}
 use Rattle.lfs_tag.proofs.Common.{le-ltb, drop-drop, length-take-le, length-replicate, drop-append_seam, tag_before_next, tag_length, LogEntry, with_commit, IsCommit, commit_at, block_entries, is_page, overwritten_at, encoded_entries, encoded_size, four_bytes_at, checksum_type, PartialCommit, entries_start, checksum_start, padded_commit_end, checksum_tag, carried_tag, revision_bytes, checksummed_bytes, AreStorableEntries, commit_none, commit_complete, chain_on, chain_none}
 use Rattle.std.proofs.lemmas.List.{take-append-drop}

@@ -1,4 +1,4 @@
--- The words of the definitions and the laws below that most proofs of this crate use.
+-- The definitions and laws that most proofs of this crate use.
 pub use Rattle.lfs_model.proofs.Chains.{chain_none, chain_on, chain_sound, commit_complete, commit_none, commit_space, lies, stop}
 pub use Rattle.lfs_model.proofs.Checksums.{AreBytes, crc-append}
 pub use Rattle.lfs_model.specs.format.Blocks.{overwritten_at}

@@ -1,4 +1,4 @@
--- The order that has the longer names first, by the bytes that two names share.
+-- The order with the longer name first, by the bytes that two names share.
 use Rattle.std.proofs.Common.{ℕ, zero, suc, ◌≡◌, ◌<◌, ◌≤◌, ◌⊎◌, inl, inr, [], ◌∷◌, length, take, refl, ap, ◌∙◌, nat_cmp, Ordering, Less, Equal, Greater, arith}
 use Rattle.lfs_tag.proofs.Common.{ordering_then, slice_cmp, Name}
 use Rattle.std.specs.Ordering.{MatchOrdering}

@@ -1,4 +1,4 @@
--- How many slots a log has, by its entries.
+-- The number of slots of a log, by its entries.
 use Rattle.std.proofs.Common.{◌≡◌, ℕ, ◌+◌, ◌-◌, true, false, eqb, leb, ltb, max, List, [], ◌∷◌, length, replicate, sym, ap, ◌∙◌, Some, arith, length-append}
 use Rattle.lfs_tag.proofs.Common.{nat_tests, option_and_then_some, same_Some, length-replicate, tag_type, tag_id, tag_class, LogEntry, create_tag_type, RawSlot, RawContent, empty_slot, padded_slots, content_after_entry, content_after, empty_raw_content, count_after}
 use Rattle.std.proofs.lemmas.List.{length-set}

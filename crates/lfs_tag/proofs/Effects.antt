@@ -1,4 +1,4 @@
--- What one entry does to the slots, by its kind.
+-- The effect of one entry on the slots, by its kind.
 use Rattle.std.proofs.Common.{◌≡◌, ◌≢◌, ℕ, ◌<◌, ◌≤◌, Bool, true, false, ◌&&◌, not, cond, eqb, ltb, leb, is_some, List, length, insert, remove, Option, Some, None, refl, sym, ap, ◌∙◌, arith, inl, inr, ◌⊎◌}
 use Rattle.lfs_tag.proofs.Common.{option_map, cases_lt, eqb-true, nat_tests, same_Some, get_or_past, tag_type, tag_id, tag_class, LogEntry, RawSlot, RawContent, empty_slot, slot_of_id, slot_changed_at, padded_slots, entry_part, attributes_after, slots_after, content_after_entry, is_known_tag, has_needed_id, is_attribute_removal, create_tag_type, delete_tag_type}
 use Rattle.std.proofs.lemmas.Bool.{ltb-true, leb-true}

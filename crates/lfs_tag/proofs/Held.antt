@@ -1,4 +1,4 @@
--- What an attribute's type holds, and which slot is which, after one entry.
+-- A slot's attributes, and the ids of slots, after one entry.
 use Rattle.std.proofs.Common.{◌≡◌, ◌≢◌, ℕ, zero, suc, ◌+◌, ◌-◌, ◌<◌, Bool, true, false, not, cond, eqb, ltb, List, [], ◌∷◌, find, length, replicate, Some, None, refl, sym, ap, ◌∙◌, arith, inl, inr, get_or-set_same, get_or-set_other}
 use Rattle.lfs_tag.proofs.Common.{option_map, cases_lt, cases_order, nat_tests, get_or_past, length-append, length-replicate, Attributes, RawSlot, empty_slot, slot_of_id, slot_changed_at, padded_slots, attributes_with, attributes_without, attribute_bytes}
 use Rattle.std.proofs.lemmas.List.{get_or_append_left, get_or-append_right}

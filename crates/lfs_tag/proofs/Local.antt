@@ -1,4 +1,4 @@
--- What lies in the front of a block stays when the rest changes.
+-- Entries and commits in the front of a block stay when the bytes behind it change.
 use Rattle.std.proofs.Common.{◌≡◌, ℕ, ◌+◌, ◌-◌, ◌^◌, ◌<◌, ◌≤◌, Bool, true, false, cond, ltb, leb, List, [], ◌∷◌, ◌++◌, length, take, drop, bit_xor, ◌||◌, ◌/◌, Option, Some, None, refl, sym, ap, subst, ◌∙◌, arith, length-append}
 use Rattle.lfs_tag.proofs.Common.{le-ltb, nat_tests, xor_shr, length-drop, tag_data_size, LogEntry, with_commit, tag_at, entry_end, IsCommit, AreAdjacent, commit_at, longest_sequence, lies, commit_none, commit_space, commit_complete, chain_on, chain_none, chain_sound}
 use Rattle.std.proofs.lemmas.List.{drop-append-le, take-append-le}

@@ -1,4 +1,4 @@
--- The ranks after a log's entries are those of its slots, and the first wanted one is the answer.
+-- The comparisons after a log's entries are those of its slots, and the first slot searched for is the result.
 use Rattle.std.proofs.Common.{◌≡◌, ℕ, zero, suc, ◌+◌, ◌-◌, ◌<◌, ◌≤◌, ◌^◌, Bool, true, false, ◌&&◌, not, cond, eqb, ltb, leb, List, [], ◌∷◌, ◌++◌, length, map, drop, replicate, set, get_or, drop-cons, Option, Some, None, refl, sym, ap, subst, ◌∙◌, arith, inl, inr}
 use Rattle.lfs_tag.proofs.Common.{option_and_then, option_map_or, cases_lt, nat_tests, option_and_then_some, same_Some, map-append, map-set, length-map, get_or_past, tag_type, tag_id, tag_class, LogEntry, block_entries, Name, is_equal, RawSlot, RawContent, empty_slot, slot_of_id, slot_changed_at, padded_slots, entry_part, attributes_after, content_after_entry, content_after, empty_raw_content, create_tag_type, comparison_with_slot, comparisons_after, first_wanted_slot, IsNameLookup, lookup_of_comparisons}
 use Rattle.std.specs.declared.cmp.Ordering.{Ordering}

@@ -1,4 +1,4 @@
--- A search back finds what the slots hold.
+-- A search from the newest entry back finds the parts that slots have.
 use Rattle.std.proofs.Common.{◌≡◌, ◌≢◌, ◌⊎◌, ℕ, suc, ◌+◌, ◌-◌, ◌/◌, ◌%◌, ◌^◌, ◌<◌, ◌≤◌, Bool, true, false, ◌&&◌, ◌||◌, not, cond, eqb, ltb, leb, List, [], ◌∷◌, ◌++◌, reverse, length, insert, remove, Option, Some, None, refl, sym, ap, subst, ◌∙◌, arith, inl, inr}
 use Rattle.lfs_tag.proofs.Common.{option_and_then, option_map, cases_lt, cases_order, nat_tests, option_and_then_some, same_Some, Attributes, tag_type, tag_id, tag_class, tag_chunk, LogEntry, block_entries, RawSlot, RawContent, empty_slot, slot_of_id, slot_changed_at, padded_slots, entry_part, attributes_after, attributes_with, attributes_without, attribute_bytes, content_after_entry, content_after, empty_raw_content, is_attribute_removal, create_tag_type, part_bytes, found_in_entries, searched_count}
 use Rattle.std.proofs.lemmas.Bool.{cases_eq}

@@ -1,4 +1,4 @@
--- What is kept of a log without its slots is kept of its content.
+-- The summary of a log is that of its content.
 use Rattle.std.proofs.Common.{◌≡◌, ℕ, zero, suc, ◌+◌, ◌-◌, Bool, true, false, ◌&&◌, not, cond, eqb, leb, ltb, is_some, List, [], ◌∷◌, ◌++◌, length, map, replicate, insert, remove, Option, Some, None, refl, sym, ap, ap₂, ◌∙◌}
 use Rattle.lfs_tag.proofs.Common.{option_map, option_and_then, list_all, map-append, length-map, same_Some, tag_type, tag_id, tag_class, LogEntry, block_entries, RawSlot, RawContent, empty_slot, slot_of_id, slot_changed_at, padded_slots, entry_part, attributes_after, slots_after, content_after_entry, content_after, empty_raw_content, is_known_tag, has_needed_id, create_tag_type, delete_tag_type, slot_mark, is_complete_mark, outline_after, empty_outline}
 use Rattle.lfs_model.specs.format.Slots.{Slot, PairContent}

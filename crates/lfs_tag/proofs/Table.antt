@@ -1,4 +1,4 @@
--- A table of what eight steps make of each byte.
+-- A table of the results of eight steps for each byte.
 use Rattle.std.proofs.Common.{◌≡◌, ℕ, zero, suc, ◌+◌, ◌*◌, ◌/◌, ◌%◌, ◌^◌, ◌<◌, Bool, true, false, ◌&&◌, cond, eqb, List, [], ◌∷◌, length, get_or, refl, sym, ap, ◌∙◌, arith, zero-add}
 use Rattle.lfs_tag.proofs.Common.{bit_xor, xor_zero_r, xor_shifted, xor_assoc, eqb-true, xor_comm, xor_shr, xor_mod, crc_after_bit}
 use Rattle.std.proofs.Math.Nat.{pow-suc}

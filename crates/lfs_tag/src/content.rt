@@ -72,7 +72,7 @@ pub struct Content<'a> {
     pub move_state: MoveState,
 }
 
-/// Why the content of a log couldn't be read.
+/// The reason why the content of a log couldn't be read.
 #[derive(Clone, Copy, Debug, PartialEq, Eq, Drop)]
 pub enum ContentError {
     /// An entry's type isn't one of the format's, its length doesn't match its type, or its id

@@ -1,4 +1,4 @@
--- The pairs of a thread, read in turn.
+-- The pairs of a thread, read one after the other.
 use Rattle.std.proofs.Common.{ℕ, zero, suc, ◌≡◌, ◌≢◌, ◌⊎◌, inl, inr, ◌↔◌, ◌+◌, ◌<◌, ◌≤◌, nat_eq, true, false, List, [], ◌∷◌, ◌++◌, length, Option, Some, None, refl, sym, ap, subst, ◌∙◌, arith, set, replicate}
 use Rattle.std.specs.Prelude.{Contains, is_some, slice_get}
 use Rattle.lfs_thread.proofs.Common.{option_and_then, option_map, eqb_tells, slice_get_within, map-append, length-set, ReadsOnly, Blocks, Free, InFlight, Used, BlockStates, IsFree, IsInFlight, IsUsedBlock, Disk, block_count, CallEvent, OnlyReadsSince, PairContent, complete_content, content_at, raw_content, Pair, anchor_address, AreLinked, tail_target, pairs_blocks, slice_get-set_same, slice_get-set_other, Contains-number_occurrences, completed_parts, goes_on_by, number_occurrences, count_here, once_from_distinct, distinct_from_once, tail_view, IsPairAddress, header_address, PairHeader, disk_pair_at, header_pairs, IsHeader, AllBlocksUsed, IsKeptOnDisk, ThreadBeginsWith, IsThreadBeginning}

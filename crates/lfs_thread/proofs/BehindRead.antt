@@ -1,4 +1,4 @@
--- A step of a pair behind a read of its block.
+-- A step of a pair after its block was read.
 use Rattle.std.proofs.Common.{ℕ, ◌≡◌, ◌≤◌, ◌+◌, List, Result, inl, inr, refl, sym, ap, ap₂, subst, ◌∙◌, arith}
 use Rattle.lfs_device.specs.declared.device.BlockDevice.{Ghosts}
 use Rattle.lfs_device.specs.declared.error.Error.{Error}

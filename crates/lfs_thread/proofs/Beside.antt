@@ -1,4 +1,4 @@
--- What is kept of a thread, where no block of its pairs changes.
+-- A thread stays as it is kept if no block of its pairs changes.
 use Rattle.std.proofs.Common.{ℕ, ◌≡◌, ◌≤◌, List, [], ◌∷◌, length, Some, None, refl, sym, ap, ap₂, subst, ◌∙◌, arith}
 use Rattle.std.specs.Prelude.{unwrap_or}
 use Rattle.lfs_thread.proofs.Common.{option_and_then, disk_of_blocks, Blocks, block_bytes, BlockStates, IsUsedBlock, CachedBlocks, complete_content, Disk, CallEvent, zero_gstate, AreLinked, anchor_address, pairs_blocks, Contains-number_occurrences, number_occurrences, count_here, IsSameAt, raw_same, header_address, AllBlocksUsed, AreHeaders, PairHeader, IsCacheCurrent, disk_pair_at, header_pairs, kept_of_device, disk_of_device, KeepsPairBlocks}

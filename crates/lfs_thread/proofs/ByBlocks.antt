@@ -1,4 +1,4 @@
--- Addresses found by their lesser block.
+-- Addresses, found by their lesser block.
 use Rattle.std.proofs.Common.{◌+◌, ◌++◌, ◌≢◌, ◌≤◌, ◌<◌, ◌^◌, length, map, subst, nat_cmp, nat_eq, ℕ, zero, suc, ◌≡◌, ◌⊎◌, inl, inr, ⊎_elim, Bool, true, false, cond, ◌&&◌, ◌==◌, List, [], ◌∷◌, Option, Some, None, refl, sym, ap, ap₂, ◌∙◌, arith, slice_get, option_map, min, max, eq-eqb, eqb-true, length-append, true≢false}
 use Rattle.std.proofs.lemmas.Bool.{cases_eq, cases_lt, and_parts, or_cases, or_left, or_right, and_from}
 use Rattle.std.specs.Prelude.{All}

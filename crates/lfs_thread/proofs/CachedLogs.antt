@@ -1,4 +1,4 @@
--- cached Blocks, where others change.
+-- Cached blocks, when other blocks change.
 use Rattle.std.proofs.Common.{ℕ, ◌≡◌, ◌≢◌, ◌⊎◌, inl, inr, nat_eq, true, false, cond, eqb-true, List, Option, Some, None, Result, Ok, Err, rules, refl, sym, ap, subst, ◌∙◌}
 use Rattle.std.specs.Prelude.{IfErr, IfOk, IfSome, IsSome, OnErr, OnOk, unwrap_or}
 use Rattle.std.specs.Cmp.{nat_eq_equiv}

@@ -1,4 +1,4 @@
--- The block of a pair that is cached.
+-- A pair whose active block is cached.
 use Rattle.std.proofs.Common.{ℕ, ◌≡◌, ◌<◌, ◌≤◌, ◌^◌, ◌+◌, true, false, List, [], ◌∷◌, ◌++◌, length, Option, None, Some, Result, Ok, Err, ◌⊎◌, inl, inr, rules, refl, sym, ap, subst, ◌∙◌, arith}
 use Rattle.lfs_thread.proofs.Common.{option_map, ElementsAreBytes, length-map, map-append, flat_map-append, BlockStates, IsUsedBlock, CachedBlocks, cached_bytes, cache_without, cached_bytes-without_other, Disk, disk_block, block_count, CallEvent, read_count, block_entries, content_after, current_block, empty_raw_content, PairContent, Tail, Pair, anchor_address, pairs_blocks, AreLinked, is_hard_tail, tail_target, complete_length, completed_parts, tail_view, move_view, active_block_at, header_address, is_second_active, ChangesReadingFew, AllBlocksUsed, PairHeader, IsHeader, IsKeptOnDisk, disk_pair_at, header_pairs, kept_view, IsContentLog, reads_unless_cached, FreshInFlight, thread_pair}
 use Rattle.std.specs.Prelude.{IfErr}

@@ -1,4 +1,4 @@
--- Blocks that come into the thread.
+-- Blocks that are added to the thread.
 use Rattle.std.proofs.Common.{ℕ, ◌≡◌, ◌≢◌, ◌+◌, ◌≤◌, Bool, true, false, cond, nat_eq, List, [], ◌∷◌, length, Option, Some, None, refl, sym, ap, subst, ◌∙◌, arith, set, slice_get, eqb-true}
 use Rattle.std.specs.Prelude.{IfNone, IfSome}
 use Rattle.lfs_thread.proofs.Common.{ne_eqb, slice_get_within, length-set, BlockStates, Free, InFlight, Used, IsFree, IsInFlight, IsUsedBlock, Disk, CallEvent, slice_get-set_same, slice_get-set_other, number_occurrences, count_here, IsPairAddress, pairs_blocks, PairHeader, AllBlocksUsed, IsKeptOnDisk, header_pairs, FreshInFlight, map_using}

@@ -1,4 +1,4 @@
--- The words of the definitions and the laws below that most proofs of this crate use.
+-- The definitions and laws that most proofs of this crate use.
 pub use Rattle.lfs_device.specs.Bytes.{ElementsAreBytes}
 pub use Rattle.lfs_device.specs.DeviceCalls.{ReadsOnly}
 pub use Rattle.lfs_device.specs.DeviceDisk.{disk_of_blocks}

@@ -1,4 +1,4 @@
--- The pair behind another one goes.
+-- A drop of the pair behind another one.
 use Rattle.std.proofs.Common.{ℕ, suc, ◌≡◌, ◌+◌, ◌<◌, ◌≤◌, List, [], ◌∷◌, ◌++◌, length, Some, refl, sym, ap, ap₂, subst, ◌∙◌, arith, get_or, set, remove, append_assoc, length-append}
 use Rattle.lfs_thread.proofs.Common.{same_Some, map-append, length-map, length-set, flat_map-append, set-append_seam, disk_of_blocks, Blocks, Free, BlockStates, Disk, CallEvent, ContentChange, raw_content, content_at, complete_content, Pair, AreLinked, tail_target, pairs_blocks, fits_pair, slice_get-set_other, number_occurrences, count_here, once_from_distinct, header_address, IsPairAddress, CommitsChanges, KeepsOutsidePair, OutsideStaysUnprogrammed, superblock_entry, superblock_anew, PairHeader, kept_view, disk_pair_at, header_pairs, IsHeader, AllBlocksUsed, IsKeptOnDisk, thread_pair, pairs_with_content, CanDropNext, IsNextDropped, map_freeing, KeepsSuperblockFirst}
 use Rattle.lfs_device.specs.declared.geometry.Geometry.{Geometry}

@@ -1,4 +1,4 @@
--- The delta of the global state that pairs have.
+-- The global state, and the deltas of pairs.
 use Rattle.std.proofs.Common.{ℕ, ◌≡◌, ◌+◌, ◌<◌, List, [], ◌∷◌, ◌++◌, length, map, take, get_or, refl, sym, ap, ap₂, ◌∙◌, add-one}
 use Rattle.lfs_thread.proofs.Common.{fold, map-append, Disk, CallEvent, Gstate, gstate_xor, zero_gstate, Pair, pairs_gstate, completed_parts, move_view, header_address, PairHeader, AreHeaders, IsHeader, disk_pair_at, header_pairs}
 use Rattle.std.proofs.Math.Seq.{take-suc}

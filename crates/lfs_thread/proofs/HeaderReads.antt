@@ -1,4 +1,4 @@
--- How many reads the headers of a thread take.
+-- The number of reads that a thread's headers cost.
 use Rattle.std.proofs.Common.{ℕ, ◌≡◌, ◌+◌, ◌++◌, ◌∙◌, List, [], ◌∷◌, refl, sym, ap, ap₂, arith}
 use Rattle.std.specs.Prelude.{sum_by}
 use Rattle.std.proofs.lemmas.List.Sums.{sum_by-cons, sum_by_push}

@@ -1,4 +1,4 @@
--- What a step does to a thread, said of the same thread with its names in an order.
+-- The effect of a step on a thread, whatever the order of its names.
 use Rattle.std.proofs.Common.{◌≡◌, ◌∙◌, ℕ, false, List, Some, subst, ap, inl, inr, refl, Result, Ok, Err}
 use Rattle.std.specs.Prelude.{OnOk, is_err}
 use Rattle.lfs_device.specs.declared.error.Error.{Error}

@@ -1,4 +1,4 @@
--- A pair comes into the thread: a fresh one stands beside it, and then the tail of another names it.
+-- A pair is added to the thread: it is written first, and then another pair's tail names it.
 use Rattle.std.proofs.Common.{ℕ, suc, nat_eq, ◌≡◌, ◌+◌, ◌<◌, ◌≤◌, List, [], ◌∷◌, ◌++◌, length, Option, Some, refl, sym, ap, ap₂, subst, ◌∙◌, arith, set, insert, remove}
 use Rattle.lfs_thread.proofs.Common.{same_Some, map-append, length-map, length-set, flat_map-append, set-append_seam, Blocks, BlockStates, Free, IsDistinct, IsUsedBlock, option_and_then, Disk, CallEvent, PairContent, ContentChange, Pair, AreLinked, anchor_address, complete_content, raw_content, raw_content-stays, tail_target, pairs_blocks, pairs_split, AllBlocksUsed, AreApart, AreElsewhere, CommitsChanges, IsHeader, IsKeptOnDisk, IsPairAddress, KeepsOutsidePair, OutsideStaysUnprogrammed, PairHeader, changed_pair_content, complete_after, content_after_changes, count_here, disk_pair_at, header_address, header_pairs, kept_view, map_freeing, number_occurrences, once_from_distinct, thread_pair}
 use Rattle.lfs_thread.specs.Joins.{headers_without, map_without, pairs_joined, source_index}

@@ -1,4 +1,4 @@
--- Which rule a thread breaks.
+-- The rule that a thread breaks.
 use Rattle.std.proofs.Common.{ℕ, ◌≡◌, ◌≢◌, ◌⊎◌, inl, inr, ◌<◌, List, length, refl, sym, subst, ◌∙◌, set}
 use Rattle.lfs_device.specs.declared.error.Error.{Error}
 use Rattle.lfs_device.specs.declared.error.Error.TheVariants as error

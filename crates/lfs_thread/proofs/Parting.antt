@@ -1,4 +1,4 @@
--- A pair of the thread is split.
+-- A split of a pair of the thread.
 use Rattle.std.proofs.Common.{ℕ, zero, suc, ◌≡◌, ◌⊎◌, inl, inr, ◌+◌, ◌-◌, ◌<◌, true, List, [], ◌∷◌, ◌++◌, length, take, drop, Option, Some, None, refl, sym, ap, ap₂, subst, ◌∙◌, arith, set, insert}
 use Rattle.lfs_thread.proofs.Common.{option_and_then, option_map, same_Some, map-append, length-map, flat_map-append, set-append_seam, Blocks, BlockStates, IsUsedBlock, disk_of_blocks, Disk, CallEvent, Slot, PairContent, FitsInPair, Gstate, Tail, zero_gstate, AreWellFormed, IsWellFormed, nothing_logged, BeginsWith, superblock_entry, ContentChange, RawSlot, RawContent, current_block, raw_content, content_at, content_after, complete_content, complete_slots, empty_raw_content, block_entries, Pair, AreLinked, tail_target, pairs_blocks, number_occurrences, once_from_distinct, complete_parts, complete_take, completed_from, fits_pair, header_address, IsPairAddress, CanCommit, HasOldContent, KeepsFirstEntry, changed_pair_content, content_after_changes, superblock_anew, KeepsOutsideBoth, KeptThread, PairHeader, kept_view, disk_pair_at, header_pairs, IsHeader, AllBlocksUsed, IsKeptOnDisk, thread_pair, CanSplitAt, map_using, pairs_split, HasSplit, SplitOnDisk, PartsFit, HasOldPair, LossLeavesThreadSplit}
 use Rattle.std.proofs.lemmas.List.Edits.{insert-append_right}

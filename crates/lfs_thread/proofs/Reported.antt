@@ -1,4 +1,4 @@
--- What a call says of the device, in the words of the thread.
+-- The errors of a call and its effect on the device, in terms of the thread.
 use Rattle.std.proofs.Common.{ℕ, List, ◌≡◌, ◌≢◌, ◌⊎◌, ◌∙◌, refl, sym, ap, ap₂, subst, Result, Ok, Err}
 use Rattle.std.specs.Prelude.{All, IfErr}
 use Rattle.std.proofs.lemmas.List.Elements.{All-drop, All-take}

@@ -1,4 +1,4 @@
--- A fresh pair beside the thread, and then in it.
+-- A fresh pair, before a tail names it and after.
 use Rattle.std.proofs.Common.{ℕ, arith, length-append, ◌≡◌, ◌⊎◌, inl, inr, get_or, ◌+◌, ◌<◌, ◌≤◌, List, [], ◌∷◌, length, Some, refl, sym, ap, ap₂, subst, ◌∙◌, set, insert, remove}
 use Rattle.lfs_thread.proofs.Common.{same_Some, map-append, flat_map-append, Blocks, option_and_then, fits_pair, BeginsWith, superblock_entry, BlockStates, IsUsedBlock, Disk, disk_of_blocks, LossLeavesAtWorst, CallEvent, HoldsAtLosses, OnlyReadsSince, LeftByLoss, AllCallsSince-behind, HoldsAtLosses-weaker, HoldsAtLosses-worst, goes_on_by, PairContent, FitsInPair, ContentChange, RawContent, current_block, raw_content, content_at, complete_content, Pair, pairs_blocks, header_address, IsWellFormed, CanCommit, CommitsChanges, HasChangedContent, HasOldContent, KeepsFirstEntry, LossLeavesChanged, changed_pair_content, KeepsOutsidePair, OutsideStaysUnprogrammed, AreApart, KeepsOutsideBoth, superblock_anew, AreElsewhere, raw_content-stays, KeptThread, PairHeader, kept_view, disk_pair_at, header_pairs, IsHeader, AllBlocksUsed, IsKeptOnDisk, CleanLossLeaves, thread_pair, empty_anchor, RefusesThreading, complete_after, CanThreadIn, HasSuperblock, HasOldPair, KeepsSuperblockFirst, map_using, tail_target, pair_revision, length-map, length-set, map_freeing, Used}
 use Rattle.std.proofs.lemmas.List.Edits.{length-insert}

@@ -1,4 +1,4 @@
--- The fresh pair of a step is written: whether it may be, and what it has then.
+-- The fresh pair of a step is written: its conditions, and its content.
 use Rattle.std.proofs.Common.{ℕ, ◌≡◌, ◌+◌, ◌%◌, ◌^◌, ◌<◌, ◌≤◌, ◌==◌, ◌&&◌, true, false, cond, List, [], ◌∷◌, ◌++◌, Option, Some, None, sym, ap, ap₂, subst, ◌∙◌, arith, not, slice_get, flat_map}
 use Rattle.lfs_thread.proofs.Common.{ne_eqb, same_Some, map-append, Blocks, option_map, tail_view, completed_from, completed_parts, fits_raw, nothing_logged, superblock_anew, BeginsWith, superblock_entry, BlockStates, Disk, block_count, disk_block, CallEvent, FitsInPair, Gstate, LogEntry, PairContent, Tail, zero_gstate, null_address, AreNamed, AreWellFormed, IsAllowedTail, ContentChange, PutMove, PutTail, content_with_changes, content_after_changes, does_first, does_nothing, puts_tail, RawContent, empty_raw_content, raw_content, complete_content, current_block, tail_if_any, Pair, AreLinked, anchor_address, tail_target, AreHeaders, CanCopyPair, HasSuperblock, IsHeader, IsKeptOnDisk, IsPairAddress, IsPairCopied, KeepsOutsidePair, PairHeader, disk_pair_at, header_address, header_pairs, kept_view, pair_revision, tail_change, thread_pair, KeptThread}
 use Rattle.lfs_model.specs.format.Content.{current_of_two, has_commit, is_later}

@@ -1,4 +1,4 @@
-// Why the image of a device isn't mounted.
+// The reason why the image of a device isn't mounted.
 
 ghost use Rattle.std.specs.Prelude.{◌≡◌};
 ghost use Rattle.lfs_thread.specs.MountErrors.{mount_error_for};
@@ -7,7 +7,7 @@ use lfs_device::Error;
 use lfs_model::Violation;
 use std::alloc::{AllocError, AllocFailed};
 
-/// Why the image of a device isn't mounted.
+/// The reason why the image of a device isn't mounted.
 #[derive(Clone, Copy, Debug, PartialEq, Eq)]
 pub enum MountError {
     /// The image breaks this rule.

@@ -47,9 +47,10 @@ use std::marker::Model;
 /// All metadata pairs of a device, in the thread's order, kept in memory from one commit to the
 /// next. A block map and a cache of the blocks read last are kept with them.
 ///
-/// A pair's index is its position in the thread, from 0 on. After an error of a step the thread has
-/// failed: the device may differ from what is kept, so the caller reads the thread again. In
-/// contracts a thread that hasn't failed is what the device holds.
+/// A pair's index is its position in the thread, from 0 on and below [`len`](Thread::len). Most
+/// calls require a thread that hasn't failed. After an error of a step the thread has failed: the
+/// device may differ from what is kept, so the caller reads the thread again. In contracts a thread
+/// that hasn't failed is what the device holds.
 #[derive(Drop)]
 pub struct Thread<D: BlockDevice> {
     // Nothing here depends on the order of the names.
@@ -496,8 +497,8 @@ impl<D: BlockDevice> Thread<D> {
     }
 
     /// Drops the pair behind the one at `index` from the thread. The changes are committed to the
-    /// pair at `index`; its tail must then be the dropped pair's. The dropped pair's blocks are
-    /// free afterwards.
+    /// pair at `index`; its tail must then name what the dropped pair's tail names. The dropped
+    /// pair's blocks are free afterwards.
     ///
     /// Returns `Full` and errors as [`commit_pair_changes`](Thread::commit_pair_changes) does.
     pub fn drop_next(
@@ -663,7 +664,8 @@ impl<D: BlockDevice> Thread<D> {
         self.parts.map.next_start()
     }
 
-    /// Returns whether a block is free: neither used nor in flight.
+    /// Returns whether a block is free: neither used nor in flight. Requires a block below the
+    /// device's number of blocks.
     pub fn is_free(&self, block: u32) -> bool
         requires { block < length self.now.kept.map }
         ensures { IsTrue result ↔ IsFree self.now.kept.map block }
@@ -671,7 +673,8 @@ impl<D: BlockDevice> Thread<D> {
         self.parts.map.is_free(block)
     }
 
-    /// Returns whether a block is used. A block in flight isn't.
+    /// Returns whether a block is used. A block in flight isn't. Requires a block below the
+    /// device's number of blocks.
     pub fn is_used(&self, block: u32) -> bool
         requires { block < length self.now.kept.map }
         ensures { IsTrue result ↔ IsUsedBlock self.now.kept.map block }

@@ -1,5 +1,5 @@
--- What a session's call promises: how it replies and ends, what a loss of power leaves, which blocks it leaves alone, and how
--- many reads it takes.
+-- The promises of a session's call: how it replies and ends, what a power loss leaves, which blocks it leaves alone, and how
+-- many reads it makes.
 use Rattle.std.specs.Prelude.{ℕ, ◌≡◌, true, false, List, Result, Ok, is_err}
 use Rattle.lfs_device.specs.declared.error.Error.{Error}
 use Rattle.lfs_model.specs.crash.Frame.{KeepsOthers, asks_session, is_look_up, searched_directories}
@@ -19,24 +19,24 @@ use Rattle.lfs_fs.specs.CallEnds.{MeetsReplyRules}
 use Rattle.lfs_fs.specs.SessionView.{StepsOrFails, SessionView, system_state}
 use Rattle.lfs_fs.specs.LookUps.{NoReadsIfCached}
 
--- where nothing was to recover, the operation left alone what it isn't about
+-- if nothing was to recover, the operation leaves alone what it isn't about
 abbrev pub SparesOthers : SystemState → Operation → SystemState → Type 0
 SparesOthers from op to = (s : Session) → from.state ≡ Healthy s → (ps qs : List Pair) → IsAccepted from.disk ps → IsAccepted to.disk qs → pairs_gstate ps ≡ zero_gstate
     → KeepsOthers from.disk ps s op to.disk qs
 
--- after an accepted stat the directories that it searched are cached, if they are small
+-- after a stat that isn't refused the searched directories are cached, if they are few and small
 abbrev pub StatCaches : Operation → Result Reply Error → SessionView → Type 0
 StatCaches op r new = (path : List ℕ) (reply : Reply) → op ≡ ops.Stat path → r ≡ Ok reply → is_refusal reply ≡ false → (s : Session) → (system_state new).state ≡ Healthy s → (ps : List Pair) → IsAccepted new.tree.disk ps
     → AreFewSmall ps (searched_directories op) → HasCachedDirectories new.tree (searched_directories op)
 
--- How often a call reads: never where the session has the reply, seldom in a look-up.
+-- How often a call reads: never if the session knows the reply, and at most once for each pair in a look-up.
 pub record BoundsCallReads (old : SessionView) (op : Operation) (r : Result Reply Error) (new : SessionView) : Type 0 where
   pub asked : asks_session op ≡ true → new ≡ old
   pub few : ReadsOnceAlways (system_state old) op (system_state new)
   pub none : is_look_up op ≡ true → NoReadsIfCached old.tree op new.tree
   pub hand : StatCaches op r new
 
--- A call that ends in that reply or error.
+-- The operation, called in `old`, ends in that reply or error and in `new`.
 pub record IsCall (old : SessionView) (op : Operation) (r : Result Reply Error) (new : SessionView) : Type 0 where
   pub answers : StepsOrFails old op r new
   pub ends : MeetsReplyRules old op r new

@@ -1,4 +1,4 @@
--- How a session's call ends: what a reply and an error mean for the session and its device.
+-- How a session's call ends: what its reply or error says of the session and its device.
 use Rattle.std.specs.Prelude.{◌≡◌, true, false, Some, Result, Ok, is_err}
 use Rattle.lfs_device.specs.declared.error.Error.{Error}
 use Rattle.lfs_model.specs.crash.Frame.{refused_before_search, needs_session_alone}
@@ -9,8 +9,9 @@ use Rattle.lfs_model.specs.session.Session.{Session}
 use Rattle.lfs_model.specs.session.State.{Healthy, is_remount}
 use Rattle.lfs_fs.specs.SessionView.{SessionView, system_state, refusal_by_checks}
 
--- A session that has failed replies `Failed` to all but a remount. A reply, a refusal among them, comes without a fault of the
--- device. An operation that takes nothing gets a reply. A refusal that comes at once leaves all as it is.
+-- A failed session replies `Failed` to each operation except a remount. During a call that replies, if only by a refusal, no
+-- device call failed. An operation that needs neither the device nor memory always replies. A refusal that needs no look-up
+-- changes nothing.
 pub record MeetsReplyRules (old : SessionView) (op : Operation) (r : Result Reply Error) (new : SessionView) : Type 0 where
   pub failed : old.tree.failed ≡ true → is_remount op ≡ false → r ≡ Ok (ops.Refused Failed)
   pub no_fault : is_err r ≡ false → fault_count new.tree.history ≡ fault_count old.tree.history

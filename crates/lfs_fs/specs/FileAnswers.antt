@@ -1,4 +1,4 @@
--- What a session says of an open file.
+-- What a session returns of an open file.
 use Rattle.std.specs.Prelude.{ℕ, ◌≡◌, ◌⊎◌, true, false, length, Some, None, Result, Ok, Err}
 use Rattle.std.specs.Option.{option_map}
 use Rattle.lfs_device.specs.declared.error.Error.{Error}
@@ -12,12 +12,13 @@ abbrev pub file_position : SessionView → OpenFile → ℕ
 file_position h (Reading r) = r.position
 file_position h (Writing w) = w.position
 
--- the size of a file in bytes, with what its writer hasn't synced
+-- the size of a file in bytes, unsynced changes included
 abbrev pub file_size : SessionView → OpenFile → ℕ
 file_size h (Reading r) = length (file_bytes (shown_tree h.tree r.path))
 file_size h (Writing w) = length w.contents
 
--- The number that the open file has, by such a definition; or the session has failed, or no file is open there.
+-- The result is the `number` of the open file `fd`; or it is `Failed` of a failed session, or `BadFile` if no such file is
+-- open.
 abbrev pub FileAnswersOf : (SessionView → OpenFile → ℕ) → SessionView → ℕ → Result ℕ Error → Type 0
 FileAnswersOf number h fd (Ok n) = (h.tree.failed ≡ false) × (option_map (number h) (file_numbered h.files fd) ≡ Some n)
 FileAnswersOf number h fd (Err e) = ((h.tree.failed ≡ true) × (e ≡ Failed)) ⊎ ((h.tree.failed ≡ false) × (file_numbered h.files fd ≡ None) × (e ≡ BadFile))

@@ -1,4 +1,4 @@
--- What contracts see of the open files.
+-- The open files in contracts.
 use Rattle.std.specs.Prelude.{ℕ, ◌+◌, ◌*◌, Bool, false, if◌then◌else◌, List, [], ◌∷◌, ◌++◌, length, map, nat_lt, Option, Some, None, is_none, is_some, slice_get, slice_set, sum_by}
 use Rattle.std.specs.List.{list_any, position_or_len}
 use Rattle.std.specs.Option.{option_flatten, option_map}
@@ -34,7 +34,7 @@ abbrev pub last_change_end : Option UnsavedContents → Option ℕ
 last_change_end None = None
 last_change_end (Some u) = u.last_end
 
--- the bytes of a writer: those of the file, where none were changed
+-- the contents of a writer: its draft, or those of the file if there is none
 abbrev pub writer_bytes : Disk → Tree → Path → Option UnsavedContents → List ℕ
 writer_bytes disk tree path None = file_bytes (tree path)
 writer_bytes disk tree path (Some u) = contents_bytes disk.blocks disk.block_size u.contents
@@ -118,22 +118,22 @@ abbrev pub file_with_known : KnownBlocks → OpenFile → OpenFile
 file_with_known known (file.Reading r) = file.Reading (record r { known = known })
 file_with_known known (file.Writing w) = file.Writing w
 
--- how many blocks are held for contents of so many bytes that were changed
+-- how many free blocks are reserved for a draft of so many bytes
 abbrev pub contents_reserve : Profile → ℕ → Bool → ℕ → ℕ
 contents_reserve profile block_size turned size = 2 + (if turned then 2 else 1) * list_block_count profile block_size size
 
--- how many blocks are held for a writer, by its size
+-- how many free blocks are reserved for a writer, by its size
 abbrev pub writer_reserve : Profile → ℕ → Writer → ℕ
 writer_reserve profile block_size w = if is_none w.unsaved then 0 else contents_reserve profile block_size (is_unsaved_turned w.unsaved) w.size
 
 abbrev pub writers_reserve : Profile → ℕ → RuntimeFiles → ℕ
 writers_reserve profile block_size files = sum_by (writer_reserve profile block_size) (writers_among files)
 
--- a writer has changes that aren't in the tree
+-- a writer has changes that aren't synced
 abbrev pub has_unsaved : RuntimeFiles → Bool
 has_unsaved files = list_any (λ w. is_some w.unsaved) (writers_among files)
 
--- a file is open at such a path
+-- the file is open, at a path that meets the predicate
 abbrev pub is_open_where : (Path → Bool) → Option OpenFile → Bool
 is_open_where p None = false
 is_open_where p (Some (file.Reading r)) = p r.path

@@ -1,4 +1,4 @@
--- What contracts see of the flags of an open.
+-- The flags of an open in contracts.
 use Rattle.std.specs.Prelude.{◌==◌, ◌||◌, not}
 use Rattle.std.specs.Int.RustNames.{bit_and}
 use Rattle.lfs_model.specs.session.Operations.{FlagsOfOpen}

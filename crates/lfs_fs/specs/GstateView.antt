@@ -1,4 +1,4 @@
--- What contracts see of a global state that is returned.
+-- A returned global state in contracts.
 use Rattle.std.specs.Prelude.{ℕ, ◌==◌, if◌then◌else◌, List, Option, Some, None}
 use Rattle.std.specs.Option.{option_map}
 use Rattle.lfs_model.specs.format.Slots.{Gstate, address_view}
@@ -11,6 +11,6 @@ moved_view moving = option_map (λ m. (address_view m.0, m.1)) moving
 abbrev pub returned_gstate_reply : answered.Gstate → ops.Reply
 returned_gstate_reply g = ops.GstateIs g.sync (moved_view g.moving)
 
--- the definition's reply
+-- the reply with the global state of a disk
 abbrev pub disk_reply_gstate : Gstate → ops.Reply
 disk_reply_gstate g = ops.GstateIs g.sync (if g.kind == 0x4ff then Some (g.pair, g.id) else None)

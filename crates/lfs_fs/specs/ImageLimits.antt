@@ -16,27 +16,27 @@ use Rattle.lfs_fs.specs.SessionView.{BeginsByMount, SessionView}
 
 -- ---- a session that is only read
 
--- A session that works was only read, by calls that didn't fail. Nothing has changed but the cached blocks.
+-- A session that hasn't failed only read its device, and no call failed. Nothing has changed except the cached blocks.
 pub record OnlyReadsSession (old new : SessionView) : Type 0 where
   pub works : old.tree.failed ≡ false
   pub tree : OnlyReadsTree old.tree new.tree
   pub files : new.files ≡ old.files
 
--- A failed session returns `Failed`, and stays as it is. Another one has failed by this error of a read.
+-- Either the session had failed before, returns `Failed` and stays as it is; or it has failed now, by the error of a read.
 abbrev pub FailedByRead : SessionView → SessionView → Error → Type 0
 FailedByRead old new e = ((old.tree.failed ≡ true) × (e ≡ Failed) × (new ≡ old)) ⊎ ((old.tree.failed ≡ false) × FailedByReading old.tree new.tree × HasErrorCause old.tree new.tree e)
 
 -- ---- a mount by the limits of the image
 
--- A mount began the session over the disk's image. Its profile is the given one with the limits of the image's superblock.
+-- The session was mounted from the disk. Its profile is the given one with the limits of the image's superblock.
 pub record BeginsLimited (disk : Disk) (history : List CallEvent) (profile : Profile) (h : SessionView) : Type 0 where
   pub fields : SuperblockFields
   pub superblock : image_fields h.tree.pairs ≡ Some fields
   pub limits : h.tree.disk.profile ≡ profile_with_limits fields profile
   pub begun : BeginsByMount (ordered_disk h.tree.disk.order (profiled_disk h.tree.disk.profile disk)) history h
 
--- The device comes back with an error. It was only read, and by each order of names and each profile it is the same disk. `Io`
--- comes with a fault of the device, and any other error with none.
+-- The call returns the device with an error. The device was only read, and is the same disk, whatever the order of names and
+-- the profile. The error is `Io` exactly if a device call failed.
 pub record ReturnsUnchangedDevice {D : Type 0} (g : Ghosts D) (old back : D) (error : Error) : Type 0 where
   pub disk : (order : NameOrder) (profile : Profile) → ordered_disk order (profiled_disk profile (disk_of_device g back)) ≡ ordered_disk order (profiled_disk profile (disk_of_device g old))
   pub reads : OnlyReadsSince (g.blocks old) (g.history old) (g.history back)

@@ -1,4 +1,4 @@
--- How many reads a look-up of a session takes.
+-- How many reads a session's look-up makes.
 use Rattle.std.specs.Prelude.{◌≡◌, ◌≤◌, ◌+◌, List, ◌++◌, sum_by, Result, OnOk}
 use Rattle.lfs_device.specs.declared.error.Error.{Error}
 use Rattle.lfs_model.specs.crash.Frame.{directory_pair_count, searched_directories}
@@ -8,13 +8,13 @@ use Rattle.lfs_lookup.specs.CachedPairs.{AreFewSmall}
 use Rattle.lfs_tree.specs.TreeReads.{HasCachedDirectories}
 use Rattle.lfs_tree.specs.TreeState.{TreeState}
 
--- no more reads came than there are pairs in the directories that the operation searches
+-- at most one read was made for each pair of the directories that the operation searches
 abbrev pub ReadsSearched : TreeState → Operation → TreeState → Type 0
 ReadsSearched old op new = read_count new.history ≤ read_count old.history + sum_by (directory_pair_count old.pairs) (searched_directories op)
 
--- ---- where the directories that it searches are cached
+-- ---- if the directories that it searches are cached
 
--- no read came
+-- then nothing was read
 abbrev pub AddsNoReads : TreeState → Operation → TreeState → Type 0
 AddsNoReads old op new = HasCachedDirectories old (searched_directories op) → read_count new.history ≡ read_count old.history
 

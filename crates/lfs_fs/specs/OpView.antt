@@ -1,4 +1,4 @@
--- What contracts see of operations and replies.
+-- Operations and replies in contracts.
 use Rattle.std.specs.Prelude.{◌≡◌, true, map, Result, Ok, Err}
 use Rattle.lfs_device.specs.declared.error.Error.{Error}
 use Rattle.lfs_model.specs.session.Operations as ops
@@ -45,12 +45,12 @@ reply_view (reply.Gstate gstate) = returned_gstate_reply gstate
 reply_view (reply.Yes is) = ops.Yes is
 reply_view (reply.Refused error) = ops.Refused (error_refusal error)
 
--- a reply that refuses names an error that is a refusal
+-- a reply `Refused` has an error that is a refusal
 abbrev pub HasRefusalError : Reply → Type 0
 HasRefusalError (reply.Refused error) = is_refusal error ≡ true
 HasRefusalError _ = Unit {0}
 
--- the reply, or the error in its place
+-- the result of a call, with its reply as the definitions have it
 abbrev pub result_view : Result Reply Error → Result ops.Reply Error
 result_view (Ok r) = Ok (reply_view r)
 result_view (Err e) = Err e

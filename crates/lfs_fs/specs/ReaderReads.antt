@@ -1,4 +1,4 @@
--- How often a read of an open file reads the device.
+-- How many reads of the device a read of an open file makes.
 use Rattle.std.specs.Prelude.{ℕ, ◌≡◌, ◌≤◌, ◌+◌, ◌-◌, ◌*◌, ◌^◌, min, List, Some}
 use Rattle.lfs_model.specs.session.History.{read_count}
 use Rattle.lfs_model.specs.layers.Keeping.{struct_at}
@@ -7,8 +7,8 @@ use Rattle.lfs_model.specs.format.SkipLists.{IsBytePlace, block_count_for}
 use Rattle.lfs_model.specs.format.Slots.{Ctz, Inline}
 use Rattle.lfs_fs.specs.SessionView.{SessionView}
 
--- Inline bytes take no reads. Those of a list take twice the logarithm of its length at most, to find the last of their blocks.
--- Then each block takes two, for a pointer and its bytes, and the last one takes one.
+-- Inline bytes cost no read. In a CTZ skip list, finding the last block of the bytes costs at most twice the logarithm of the
+-- number of blocks. Each block before it costs two reads, of a pointer and of its bytes, and the last one costs one.
 pub record ReadsFew (old : SessionView) (fd count : ℕ) (new : SessionView) : Type 0 where
   pub inline : (r : FileReader) (own : List ℕ) → file_reader (file_numbered old.files fd) ≡ Some r → struct_at old.tree.pairs r.path ≡ Some (Inline own) → read_count new.tree.history ≡ read_count old.tree.history
   pub list : (r : FileReader) (head size m first last off end : ℕ) → file_reader (file_numbered old.files fd) ≡ Some r → struct_at old.tree.pairs r.path ≡ Some (Ctz head size)

@@ -24,12 +24,12 @@ is_path_prefix [] (b ∷ ys) = b == slash_byte
 is_path_prefix (a ∷ xs) [] = false
 is_path_prefix (a ∷ xs) (b ∷ ys) = (a == b) && is_path_prefix xs ys
 
--- an open file at that path prevents a rename from the one path to the other
+-- an open file at path `p` prevents a rename of `from` to `to`
 abbrev pub prevents_rename : Path → Path → Path → Bool
 prevents_rename from to p = is_some (without_prefix from p) || same_path to p
 
--- A rename that passes the checks that need no look-up. The tree works and may be written. Both paths are entries', and the new
--- one isn't beneath the old one.
+-- A rename that passes the checks without a look-up: the tree hasn't failed and may be written, no path is the root's, and the
+-- new one isn't beneath the old one.
 pub record PassesRename (t : TreeState) (old new : List ℕ) (paths : RenamePaths) : Type 0 where
   pub given : (paths.old.now ≡ old) × (paths.new.now ≡ new)
   pub works : t.failed ≡ false
@@ -43,7 +43,7 @@ pub record PassesRename (t : TreeState) (old new : List ℕ) (paths : RenamePath
 abbrev pub IsRefusedAnyway : TreeState → Operation → Error → Type 0
 IsRefusedAnyway t op e = (files : RuntimeFiles) → (is_refusal e ≡ true) × (refusal_by_checks (session_view t files) op ≡ Some (error_refusal e))
 
--- the paths of these bytes, whether they are the same, and where they lead to, if nothing is to recover
+-- the paths of these bytes, whether they are the same, and the results of their look-ups if nothing is to recover
 pub record IsPermittedRename (t : TreeState) (old new : List ℕ) (r : PermittedRename) : Type 0 where
   pub from : r.from ≡ path_or_root old
   pub to : r.to ≡ path_or_root new

@@ -3,11 +3,11 @@ use Rattle.std.specs.Prelude.{ℕ, ◌+◌, ◌≤◌, ◌<◌, ◌^◌, Option,
 use Rattle.std.specs.Option.{option_map_or}
 use Rattle.std.specs.declared.alloc.Global.{Global}
 
--- how many bytes of its pair an attribute takes
+-- how many bytes an attribute costs in its pair: 4 of its tag and its value's
 abbrev pub replaced_size : Option (Vec ℕ Global) → ℕ
 replaced_size replaced = option_map_or (λ v. 4 + length v.items) replaced 0
 
--- the attribute is one of those that take so many bytes
+-- the sizes fit: the replaced attribute costs no more than all attributes with the new one
 pub record IncludesReplaced (size : ℕ) (replaced : Option (Vec ℕ Global)) (len : ℕ) : Type 0 where
   pub small : size < 2 ^ 32
   pub short : len < 2 ^ 63

@@ -1,4 +1,4 @@
--- What calls of a writer need of the tree, and what they do.
+-- What a writer's calls require of the tree, and what they do.
 use Rattle.std.specs.Prelude.{ℕ, ◌≡◌, ◌+◌, ◌^◌, ◌≤◌, ◌<◌, Bool, true, false, List, length, Option, Some, None, is_some, slice_set}
 use Rattle.lfs_model.specs.declared.limits.Profile.{Profile}
 use Rattle.lfs_model.specs.session.TreeEdits.{is_file}
@@ -21,7 +21,7 @@ use Rattle.lfs_fs.specs.declared.files.Writer.{Writer}
 use Rattle.lfs_model.specs.format.Slots.{zero_gstate}
 use Rattle.lfs_model.specs.format.Thread.{pairs_gstate}
 
--- nothing is to recover, and a file is there, whose contents were changed so, or not
+-- nothing is to recover, and the path has a file; `unsaved` is its draft, if there is one
 pub record HasWriterFile (t : TreeState) (path : Path) (unsaved : Option UnsavedContents) : Type 0 where
   pub works : t.failed ≡ false
   pub writable : t.writable ≡ true
@@ -30,18 +30,18 @@ pub record HasWriterFile (t : TreeState) (path : Path) (unsaved : Option Unsaved
   pub idle : is_some unsaved ≡ false → in_flight_count t.map ≡ 0
   pub over : (u : UnsavedContents) → unsaved ≡ Some u → AreTreeContents t path u.contents
 
--- the form of such contents
+-- the form of the draft, or of the file's contents
 abbrev pub IsUnsavedForm : Profile → ℕ → Option UnsavedContents → ℕ → ContentsForm → Type 0
 IsUnsavedForm profile block_size None size shape = IsOpenedForm profile block_size size shape
 IsUnsavedForm profile block_size (Some u) size shape = shape ≡ contents_form u.contents
 
--- The writer may be changed: the tree works, and no block is in flight but the writer's.
+-- The writer may be changed: the tree hasn't failed, and only the writer has blocks in flight.
 pub record CanChangeWriter (t : TreeState) (w : Writer) : Type 0 where
   pub works : t.failed ≡ false
   pub written : IsWriterReady t w
   pub idle : is_some w.unsaved ≡ false → in_flight_count t.map ≡ 0
 
--- there is room for what a writer would hold
+-- enough blocks are free for those that would be reserved for the writer
 abbrev pub HasWriterRoom : TreeState → session.FileWriter → Type 0
 HasWriterRoom t w = length (tree_summary t).used + reserved_for_writer t.disk.profile t.disk.block_size w ≤ block_count t.disk
 
@@ -57,13 +57,13 @@ pub record CanTruncateBy (t : TreeState) (w : Writer) (size : ℕ) : Type 0 wher
   pub small : size < 2 ^ 31
   pub room : HasWriterRoom t (truncated_writer (writer_view t w) size)
 
--- the writer is this one, and stays open
+-- the writer is `is` in the definitions' words, and stays open
 pub record IsChangedWriter (t : TreeState) (is : session.FileWriter) (w : Writer) : Type 0 where
   pub seen : writer_view t w ≡ is
   pub written : IsWriterReady t w
   pub changed : is_some w.unsaved ≡ true
 
--- Under that number is a writer of which this holds, and nothing else changed among the open files.
+-- File `fd` is a writer that meets `Holds`, and no other open file has changed.
 pub record ChangesWriterAt (files : RuntimeFiles) (fd : ℕ) (Holds : Writer → Type 0) (later : RuntimeFiles) : Type 0 where
   pub writer : Writer
   pub only : later ≡ slice_set files fd (Some (file.Writing writer))
@@ -75,23 +75,23 @@ pub record CanSaveWriter (t : TreeState) (w : Writer) : Type 0 where
   pub written : IsWriterReady t w
   pub changed : is_some w.unsaved ≡ true
 
--- the writer is this one, stays open, and has no changes
+-- the writer is `is` in the definitions' words, stays open, and has no unsynced changes
 pub record IsSavedWriter (t : TreeState) (is : session.FileWriter) (w : Writer) : Type 0 where
   pub seen : writer_view t w ≡ is
   pub written : IsWriterReady t w
   pub saved : w.unsaved ≡ None
 
--- a file of that size is there, and may be opened for writing
+-- the path has a file of `size` bytes, which may be opened for writing
 pub record CanOpenWriter (t : TreeState) (path : Path) (size : ℕ) (truncates : Bool) : Type 0 where
   pub works : t.failed ≡ false
   pub writable : t.writable ≡ true
   pub sound : IsSoundState t
   pub idle : in_flight_count t.map ≡ 0
   pub there : node_file_size (shown_tree t path) ≡ Some size
-  -- there is room for two blocks, where something is to be written anew
+  -- to truncate a file that isn't empty, two blocks are free
   pub room : truncates ≡ true → 1 ≤ size → length (tree_summary t).used + 2 ≤ block_count t.disk
 
--- the writer is this one, and stays open
+-- the writer is `is` in the definitions' words, and stays open
 pub record IsOpenedWriter (t : TreeState) (is : session.FileWriter) (w : Writer) : Type 0 where
   pub seen : writer_view t w ≡ is
   pub written : IsWriterReady t w

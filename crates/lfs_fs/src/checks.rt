@@ -29,7 +29,7 @@ use lfs_lookup::{
 use lfs_tree::Tree;
 use std::alloc::Global;
 
-// Returns whether a new entry with a name of that length takes too much of its pair.
+// Returns whether a new entry with a name of that length would need too much of its metadata pair.
 fn new_entry_overflows<D: BlockDevice>(tree: &Tree<D>, name_len: usize) -> bool
     requires { name_len < 2 ^ 63 }
     ensures { (name : List ℕ) → length name ≡ name_len → result ≡ exceeds_charge (tree_summary tree.now) name [] }
@@ -37,8 +37,8 @@ fn new_entry_overflows<D: BlockDevice>(tree: &Tree<D>, name_len: usize) -> bool
     entry_overflows(tree, name_len, 0)
 }
 
-// Returns whether an entry takes too much of its pair, by the length of its name and the size of
-// its attributes.
+// Returns whether an entry would need too much of its metadata pair, by the lengths in bytes of its
+// name and its attributes.
 pub(crate) fn entry_overflows<D: BlockDevice>(
     tree: &Tree<D>,
     name_len: usize,
@@ -52,14 +52,14 @@ pub(crate) fn entry_overflows<D: BlockDevice>(
     u64::from(geometry.entry_size_limit()) < entry.saturating_add(attributes_len as u64)
 }
 
-// Returns whether a name of that length is longer than the profile lets be written.
+// Returns whether a name of that length is longer than the profile allows.
 pub(crate) fn name_is_long<D: BlockDevice>(tree: &Tree<D>, name_len: usize) -> bool
     ensures { result ≡ nat_lt (profile_name_max tree.now.disk.profile) name_len }
 {
     name_len > tree.geometry().name_max() as usize
 }
 
-// Returns whether a file of that size is longer than the profile lets be written.
+// Returns whether a file of that size is longer than the profile allows.
 fn file_is_long<D: BlockDevice>(tree: &Tree<D>, size: u64) -> bool
     ensures longer { result ≡ nat_lt (profile_file_max tree.now.disk.profile) size }
     ensures small { result ≡ false → size < 2 ^ 31 }
@@ -67,14 +67,14 @@ fn file_is_long<D: BlockDevice>(tree: &Tree<D>, size: u64) -> bool
     size > u64::from(tree.geometry().file_max())
 }
 
-// Returns whether an attribute of that length is longer than the profile lets be written.
+// Returns whether an attribute of that length is longer than the profile allows.
 fn attribute_is_long<D: BlockDevice>(tree: &Tree<D>, len: usize) -> bool
     ensures { result ≡ nat_lt (profile_attr_max tree.now.disk.profile) len }
 {
     len > tree.geometry().attr_max() as usize
 }
 
-// Returns whether fewer blocks than that are free.
+// Returns whether fewer than `need` blocks are free, besides those reserved for a writer.
 pub(crate) fn lacks_blocks<D: BlockDevice>(tree: &Tree<D>, files: &Files, need: u32) -> bool
     requires works { tree.now.failed ≡ false }
     requires small { need < 16 }
@@ -85,7 +85,7 @@ pub(crate) fn lacks_blocks<D: BlockDevice>(tree: &Tree<D>, files: &Files, need: 
     (geometry.block_count as u64) < tree.used_count() as u64 + held + need as u64
 }
 
-/// Returns what is at a path, where no check refuses it.
+/// Returns the kind and size of the entry at a path, or the first check's refusal.
 pub fn check_and_stat<D: BlockDevice>(
     alloc: Global,
     tree: &mut Tree<D>,
@@ -111,7 +111,7 @@ pub fn check_and_stat<D: BlockDevice>(
     value_or_refusal(&checks, Stat::from_size(found.node.size()))
 }
 
-/// Returns the path at which a directory may be made, where no check refuses it.
+/// Returns the parsed path of a directory that may be made, or the first check's refusal.
 pub fn check_mkdir<'a, D: BlockDevice>(
     alloc: Global,
     tree: &mut Tree<D>,
@@ -141,7 +141,7 @@ pub fn check_mkdir<'a, D: BlockDevice>(
     value_or_refusal(&checks, path)
 }
 
-/// Checks whether the open file of that number may have the position.
+/// Checks whether the open file of that number may be set to the position.
 pub fn check_seek<D: BlockDevice>(
     tree: &Tree<D>,
     files: &Files,
@@ -162,7 +162,7 @@ pub fn check_seek<D: BlockDevice>(
     Ok(())
 }
 
-/// Returns the contents of a file that may be opened for reading, where no check refuses it.
+/// Returns the contents of a file that may be opened for reading, or the first check's refusal.
 pub fn check_open_reader<D: BlockDevice>(
     alloc: Global,
     tree: &mut Tree<D>,
@@ -198,13 +198,13 @@ pub fn check_open_reader<D: BlockDevice>(
 #[derive(Drop)]
 pub struct WritableFile<'a> {
     pub path: Path<'a>,
-    /// How many bytes the file has, or None where it is to be made.
+    /// The file's size in bytes. None if it is to be created.
     pub size: Option<u32>,
-    /// Where the path leads to. None where something is to recover first.
+    /// The result of the look-up. None if a recovery has to come first.
     pub target: Option<PathLookup>,
 }
 
-// Returns whether there is no room to write a file of that size anew.
+// Returns whether too few blocks are free to truncate a file of that size to no bytes.
 fn lacks_truncate_room<D: BlockDevice>(tree: &Tree<D>, size: Option<u32>) -> bool
     requires { tree.now.failed ≡ false }
     ensures { result ≡ nat_lt (block_count tree.now.disk) (length (tree_summary tree.now).used + (if nat_lt 0 (unwrap_or size 0) then 2 else 0)) }
@@ -213,7 +213,7 @@ fn lacks_truncate_room<D: BlockDevice>(tree: &Tree<D>, size: Option<u32>) -> boo
     (tree.geometry().block_count as u64) < tree.used_count() as u64 + need
 }
 
-// Returns the refusal of an open that may make a file, where no entry is.
+// Returns the refusal of an open for writing at a path without an entry, if any.
 fn creation_refusal<D: BlockDevice>(
     tree: &Tree<D>,
     files: &Files,
@@ -240,7 +240,7 @@ fn creation_refusal<D: BlockDevice>(
     find_first_refusal(&checks)
 }
 
-// Returns the refusal of an open for writing, by the entry that is there.
+// Returns the refusal of an open for writing of an entry, if any.
 fn reopening_refusal<D: BlockDevice>(
     tree: &Tree<D>,
     files: &Files,
@@ -267,7 +267,8 @@ fn reopening_refusal<D: BlockDevice>(
     find_first_refusal(&checks)
 }
 
-/// Checks whether a file may be opened for writing, and returns where its path leads to.
+/// Checks whether a file may be opened or created for writing, and returns the result of its
+/// look-up.
 pub fn check_open_writer<'a, D: BlockDevice>(
     alloc: Global,
     tree: &mut Tree<D>,
@@ -309,7 +310,7 @@ pub fn check_open_writer<'a, D: BlockDevice>(
     value_or_refusal(&[refusal], file)
 }
 
-// Returns the path of these bytes, if it is well formed and isn't the root's.
+// Parses a path. Returns None if it isn't well formed, or is the root's.
 pub(crate) fn parse_entry_path<'a>(bytes: &'a [u8]) -> Option<Path<'a>>
     ensures { result ≡ entry_path bytes.now }
 {
@@ -320,7 +321,7 @@ pub(crate) fn parse_entry_path<'a>(bytes: &'a [u8]) -> Option<Path<'a>>
     }
 }
 
-/// Returns the entries of a directory, in name order, where no check refuses the path.
+/// Returns the entries of a directory in name order, or the first check's refusal.
 pub fn check_and_list<D: BlockDevice>(
     alloc: Global,
     tree: &mut Tree<D>,
@@ -347,7 +348,7 @@ pub fn check_and_list<D: BlockDevice>(
     value_or_refusal(&checks, listing.items)
 }
 
-/// Returns an attribute's bytes, where no check refuses the path.
+/// Returns an attribute's bytes, or the first check's refusal.
 pub fn check_get_attr<D: BlockDevice>(
     alloc: Global,
     tree: &mut Tree<D>,
@@ -374,7 +375,8 @@ pub fn check_get_attr<D: BlockDevice>(
     value_or_refusal(&checks, found.bytes.unwrap_or(Vec::new(alloc)))
 }
 
-/// Returns the path of an entry that has the attribute, where no check refuses it.
+/// Returns the parsed path of an entry whose attribute may be removed, or the first check's
+/// refusal.
 pub fn check_remove_attr<'a, D: BlockDevice>(
     alloc: Global,
     tree: &mut Tree<D>,
@@ -402,8 +404,7 @@ pub fn check_remove_attr<'a, D: BlockDevice>(
     value_or_refusal(&checks, path)
 }
 
-/// Returns the path of a file, or of a directory without entries, that isn't open, where no check
-/// refuses it.
+/// Returns the parsed path of an entry that may be removed, or the first check's refusal.
 pub fn check_remove<'a, D: BlockDevice>(
     alloc: Global,
     tree: &mut Tree<D>,
@@ -431,7 +432,8 @@ pub fn check_remove<'a, D: BlockDevice>(
     value_or_refusal(&checks, path)
 }
 
-// Returns how many bytes attributes take after one of them was replaced by another of that length.
+// Returns how many bytes the attributes will need, each with its tag, once one of `len` bytes
+// replaces `replaced`.
 fn replaced_attributes_size(taken: usize, replaced: &Option<Vec<u8>>, len: usize) -> usize
     requires { IncludesReplaced taken replaced.now len }
     ensures { result + replaced_size replaced.now ≡ taken + (4 + len) }
@@ -443,7 +445,7 @@ fn replaced_attributes_size(taken: usize, replaced: &Option<Vec<u8>>, len: usize
     taken + (4 + len) - gone
 }
 
-/// Returns the path of an entry that takes the attribute, where no check refuses it.
+/// Returns the parsed path of an entry whose attribute may be set, or the first check's refusal.
 pub fn check_set_attr<'a, D: BlockDevice>(
     alloc: Global,
     tree: &mut Tree<D>,
@@ -480,7 +482,7 @@ pub fn check_set_attr<'a, D: BlockDevice>(
     value_or_refusal(&checks, path)
 }
 
-// Returns whether there is no room for the blocks that a writer would hold.
+// Returns whether too few blocks are free to reserve those of a writer with `size` bytes.
 fn lacks_writer_room<D: BlockDevice>(tree: &Tree<D>, has_turned: bool, size: u32) -> bool
     requires { tree.now.failed ≡ false }
     ensures { result ≡ nat_lt (block_count tree.now.disk) (length (tree_summary tree.now).used + contents_reserve tree.now.disk.profile tree.now.disk.block_size has_turned size) }
@@ -520,7 +522,7 @@ pub fn check_write<D: BlockDevice>(
     Ok(())
 }
 
-/// Checks whether the writer of that number may have so many bytes.
+/// Checks whether the writer of that number may be resized to `size` bytes.
 pub fn check_truncate<D: BlockDevice>(
     tree: &Tree<D>,
     files: &Files,

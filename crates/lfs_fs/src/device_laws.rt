@@ -5,8 +5,7 @@ ghost use Rattle.lfs_fs.specs.DeviceLaws.{DeviceConforms};
 use lfs_device::BlockDevice;
 use lfs_tree::Tree;
 
-// Shows a proof that the tree's device meets the laws of its calls. The call does nothing at run
-// time.
+// Gives proofs the laws of the device's calls. Does nothing at run time.
 pub(crate) fn lemma_calls_conform<D: BlockDevice>(tree: &Tree<D>)
     ensures { DeviceConforms tree.now }
 {

@@ -34,9 +34,9 @@ pub type Fd = u32;
 pub struct Reader {
     pub path: OwnedPath,
     pub position: u32,
-    /// The contents of the file's entry, which stay as long as the file is open.
+    /// The contents that the file's entry names. They don't change while the file is open.
     pub contents: FileContents,
-    /// The blocks of the file's list that reads have found.
+    /// The blocks of the file's CTZ skip list that reads have found.
     pub known: KnownBlocks,
 }
 
@@ -49,18 +49,19 @@ pub struct Writer {
     pub size: u32,
     /// Whether the writer writes at the end only.
     pub appends: bool,
-    /// The changes that aren't in the tree yet. None where the contents are those of the file.
+    /// The draft: contents with changes that aren't synced. None if the contents are those of the
+    /// file.
     pub unsaved: Option<UnsavedContents>,
 }
 
-/// Contents of a writer that were changed.
+/// A writer's draft: contents with changes that aren't synced.
 #[derive(Drop)]
 pub struct UnsavedContents {
     pub contents: WriterContents,
-    /// Whether a change began elsewhere than at the end of the last one. The writer is then
-    /// nonsequential.
+    /// Whether a change didn't begin where the last one ended. The writer is then nonsequential,
+    /// and needs the blocks of a second list.
     pub has_turned: bool,
-    /// Where the last change ended, in bytes from the beginning.
+    /// The end of the last change, in bytes from the beginning.
     pub last_end: Option<u32>,
 }
 
@@ -71,7 +72,7 @@ pub enum OpenFile {
 }
 
 impl Writer {
-    /// Returns where the next write begins.
+    /// Returns the position at which the next write begins, in bytes.
     pub fn place(&self) -> u32
         ensures { result ≡ (if self.now.appends then self.now.size else self.now.position) }
     {
@@ -82,7 +83,7 @@ impl Writer {
         }
     }
 
-    /// Returns whether the writer is nonsequential after a change that begins there.
+    /// Returns whether the writer will be nonsequential after a change that begins at `begin`.
     pub fn turns_by_change(&self, begin: u32) -> bool
         ensures { result ≡ (is_unsaved_turned self.now.unsaved || turns_writer (last_change_end self.now.unsaved) begin) }
     {
@@ -92,7 +93,7 @@ impl Writer {
         }
     }
 
-    /// Returns whether the writer is nonsequential after its contents get another size.
+    /// Returns whether the writer will be nonsequential after a change of its size.
     pub fn turns_by_resize(&self) -> bool
         ensures { result ≡ (is_unsaved_turned self.now.unsaved || is_some (last_change_end self.now.unsaved)) }
     {
@@ -102,7 +103,7 @@ impl Writer {
         }
     }
 
-    /// Returns where the last change ends after the contents get that size.
+    /// Returns the new `last_end` after a change of the size to `new_size`.
     pub fn change_end_resized(&self, new_size: u32) -> Option<u32>
         ensures { result ≡ (if nat_lt self.now.size new_size then Some new_size else last_change_end self.now.unsaved) }
     {
@@ -112,7 +113,7 @@ impl Writer {
         }
     }
 
-    // Returns how many blocks are held for the writer.
+    // Returns how many free blocks are reserved for the writer.
     fn reserved_block_count(&self, geometry: Geometry) -> u64
         ensures held { result ≡ writer_reserve geometry.profile geometry.block_size self.now }
         ensures few { result < 2 ^ 34 }
@@ -169,7 +170,7 @@ impl Files {
         }
     }
 
-    // Returns how many blocks the open writer holds.
+    // Returns how many free blocks are reserved for the open writer.
     pub(crate) fn reserved_block_count(&self, geometry: Geometry) -> u64
         ensures held { result ≡ writers_reserve geometry.profile geometry.block_size self.now }
         ensures few { result < 2 ^ 34 }
@@ -177,7 +178,7 @@ impl Files {
         blocks_reserved_among(&self.entries, geometry)
     }
 
-    // Returns whether a writer of that path prevents a reader, or whether 16 readers are open.
+    // Returns whether no reader may be opened at the path: it has a writer, or 16 readers are open.
     pub(crate) fn prevents_reader_at(&self, path: &[u8]) -> bool
         requires { is_some (parse_path path.now) ≡ true }
         ensures { result ≡ (list_any (λ w. same_path (path_or_root path.now) w.path) (writers_among self.now) || nat_le 16 (length (readers_among self.now))) }
@@ -185,10 +186,9 @@ impl Files {
         writers_have_path(&self.entries, path) || reader_count(&self.entries) >= 16
     }
 
-    /// Opens a reader at the path, at the beginning of its contents, under the least number that is
-    /// free.
+    /// Adds a reader at position 0, and returns its number: the least that is free.
     ///
-    /// Errors: `NoMemory` where memory for the file isn't granted.
+    /// Errors: `NoMemory` if memory for the file can't be allocated.
     pub fn add_reader(
         &mut self,
         alloc: Global,
@@ -213,7 +213,7 @@ impl Files {
         Ok(number as u32)
     }
 
-    /// Borrows the reader of that number.
+    /// Borrows the reader of that number, if there is one.
     pub fn reader(&self, fd: u32) -> Option<&Reader>
         ensures { option_map (λ r. r.now) result ≡ reader_if_any (open_file_at self.now fd) }
     {
@@ -223,7 +223,7 @@ impl Files {
         }
     }
 
-    // Borrows the writer of that number.
+    // Borrows the writer of that number, if there is one.
     pub(crate) fn writer(&self, fd: u32) -> Option<&Writer>
         ensures { option_map (λ w. w.now) result ≡ writer_if_any (open_file_at self.now fd) }
     {
@@ -251,7 +251,7 @@ impl Files {
         is_writing(&self.entries)
     }
 
-    // Returns whether another writer, or an open file at that path, prevents a writer.
+    // Returns whether no writer may be opened at the path: a writer is open, or the file is.
     pub(crate) fn prevents_writer_at(&self, path: &[u8]) -> bool
         requires { is_some (parse_path path.now) ≡ true }
         ensures { (t : TreeState) → result ≡ (nat_lt 0 (length (writers_among self.now)) || has_open_file (same_path (path_or_root path.now)) (files_view t self.now)) }
@@ -259,7 +259,7 @@ impl Files {
         self.is_writing() || self.is_open_at(path)
     }
 
-    /// Makes room for one more open file. Returns its number: the least that is free.
+    /// Allocates an entry for one more open file. Returns its number: the least that is free.
     pub fn reserve_number(&mut self) -> Result<u32, Error>
         requires { writers_among self.old ≡ [] }
         ensures number { IfOk result (λ fd. fd ≡ lowest_free self.old) }
@@ -272,7 +272,7 @@ impl Files {
         Ok(number as u32)
     }
 
-    /// Puts a writer under a number that is reserved for it.
+    /// Adds a writer under a reserved number.
     pub fn add_writer(&mut self, fd: u32, writer: Writer)
         requires inside { fd < length self.old }
         requires free { open_file_at self.old fd ≡ None }
@@ -284,8 +284,8 @@ impl Files {
 
     // Writes bytes, at least one, by the writer of that number.
     //
-    // Errors: `Io` where a call of the device failed. `NoMemory` where memory isn't granted. The
-    // tree has failed after either, and the writer is of no use.
+    // Errors: `Io` if a device call failed. `NoMemory` if memory can't be allocated. The tree has
+    // failed after either, and the writer can't be used.
     pub(crate) fn write<D: BlockDevice>(
         &mut self,
         alloc: Global,
@@ -303,10 +303,10 @@ impl Files {
         write_in_table(alloc, tree, &mut self.entries, fd as usize, bytes)
     }
 
-    // Gives the contents of the writer of that number another size.
+    // Sets the size of the contents of the writer of that number.
     //
-    // Errors: `Io` where a call of the device failed. `NoMemory` where memory isn't granted. The
-    // tree has failed after either, and the writer is of no use.
+    // Errors: `Io` if a device call failed. `NoMemory` if memory can't be allocated. The tree has
+    // failed after either, and the writer can't be used.
     pub(crate) fn truncate<D: BlockDevice>(
         &mut self,
         alloc: Global,
@@ -326,8 +326,8 @@ impl Files {
 
     // Commits the changes of the writer of that number to the tree.
     //
-    // Errors: `Io` where a call of the device failed. `NoMemory` where memory isn't granted. The
-    // tree has failed after either, and the writer is of no use.
+    // Errors: `Io` if a device call failed. `NoMemory` if memory can't be allocated. The tree has
+    // failed after either, and the writer can't be used.
     pub(crate) fn save<D: BlockDevice>(
         &mut self,
         alloc: Global,
@@ -353,7 +353,7 @@ impl Files {
         }
     }
 
-    /// Returns whether the file of that number has changes that aren't in the tree.
+    /// Returns whether the file of that number has unsynced changes.
     pub fn is_unsaved_at(&self, fd: u32) -> bool
         ensures { result ≡ is_unsaved_writer (open_file_at self.now fd) }
     {
@@ -363,7 +363,7 @@ impl Files {
         }
     }
 
-    /// Returns whether a writer has that number, and contents of that size.
+    /// Returns whether the writer of that number has contents of that size in bytes.
     pub fn writer_has_size(&self, fd: u32, size: u32) -> bool
         ensures { (w : _) → writer_if_any (open_file_at self.now fd) ≡ Some w → result ≡ (size == w.size) }
     {
@@ -381,8 +381,8 @@ impl Files {
         files_have_path(&self.entries, path)
     }
 
-    // Returns whether an open file prevents a rename: one at the first path, which is an entry's,
-    // or beneath it, or one at the second path.
+    // Returns whether an open file prevents a rename: one at the old path or beneath it, or one at
+    // the new path.
     pub(crate) fn prevents_rename_of(&self, from: &[u8], to: &[u8]) -> bool
         requires entry { path_unusable (parse_path from.now) ≡ false }
         requires given { is_some (parse_path to.now) ≡ true }
@@ -391,7 +391,7 @@ impl Files {
         files_prevent_rename(&self.entries, from, to)
     }
 
-    /// Sets the position of an open file.
+    /// Sets the position of an open file, in bytes.
     pub fn seek(&mut self, fd: u32, position: u32)
         requires { is_some (open_file_at self.old fd) ≡ true }
         ensures { self.new ≡ slice_set self.old fd (option_map (file_with_position position) (open_file_at self.old fd)) }
@@ -399,7 +399,7 @@ impl Files {
         seek_in_table(&mut self.entries, fd as usize, position);
     }
 
-    /// Notes the blocks that an open reader knows.
+    /// Stores which blocks of its list an open reader has found.
     pub fn note_known(&mut self, fd: u32, known: KnownBlocks)
         requires { is_some (open_file_at self.old fd) ≡ true }
         ensures { self.new ≡ slice_set self.old fd (option_map (file_with_known known) (open_file_at self.old fd)) }
@@ -445,8 +445,8 @@ fn note_in_table(entries: &mut Vec<Option<OpenFile>>, index: usize, known: Known
     }
 }
 
-// Writes bytes by the writer in an entry. The writer stays where it is: to move it took a third of
-// a short write's time.
+// Writes bytes by the writer in an entry. Changes it in place, since moving it out costs a third of
+// a short write.
 fn write_in_table<D: BlockDevice>(
     alloc: Global,
     tree: &mut Tree<D>,
@@ -468,7 +468,8 @@ fn write_in_table<D: BlockDevice>(
     }
 }
 
-// Gives the contents of the writer in an entry another size. The writer stays where it is.
+// Sets the size of the contents of the writer in an entry. Changes it in place, as `write_in_table`
+// does.
 fn truncate_in_table<D: BlockDevice>(
     alloc: Global,
     tree: &mut Tree<D>,
@@ -490,7 +491,7 @@ fn truncate_in_table<D: BlockDevice>(
     }
 }
 
-// Commits the changes of the writer in an entry to the tree. The writer stays where it is.
+// Commits the changes of the writer in an entry to the tree. Changes it in place.
 fn save_in_table<D: BlockDevice>(
     alloc: Global,
     tree: &mut Tree<D>,
@@ -527,7 +528,7 @@ fn close_in_table(entries: &mut Vec<Option<OpenFile>>, index: usize)
     entries[index] = None;
 }
 
-// Returns how many blocks the writer holds, of which there is one at most.
+// Returns how many free blocks are reserved for the writer. There is at most one.
 fn blocks_reserved_among(entries: &[Option<OpenFile>], geometry: Geometry) -> u64
     requires { length (writers_among entries.now) ≤ 1 }
     ensures held { result ≡ writers_reserve geometry.profile geometry.block_size entries.now }
@@ -541,7 +542,7 @@ fn blocks_reserved_among(entries: &[Option<OpenFile>], geometry: Geometry) -> u6
     0
 }
 
-// Returns how many blocks are held for changed contents of so many bytes.
+// Returns how many free blocks are reserved for a draft of `size` bytes.
 pub(crate) fn reserved_for_bytes(geometry: Geometry, has_turned: bool, size: u32) -> u64
     ensures held { result ≡ contents_reserve geometry.profile geometry.block_size has_turned size }
     ensures few { result < 2 ^ 34 }
@@ -656,7 +657,7 @@ fn free_number(entries: &[Option<OpenFile>]) -> usize
     number
 }
 
-// Makes room for an entry under a free number, which is the next one at most.
+// Allocates an entry under a free number, which is at most the length of the table.
 fn reserve_in_table(entries: &mut Vec<Option<OpenFile>>, number: usize) -> Result<(), Error>
     requires inside { number ≤ vec_len entries.old }
     requires few { number < 17 }
@@ -672,7 +673,7 @@ fn reserve_in_table(entries: &mut Vec<Option<OpenFile>>, number: usize) -> Resul
     Ok(())
 }
 
-// Puts an entry under a number, which is the next one at most.
+// Stores an entry under a number, which is at most the length of the table.
 fn set_table_entry(
     entries: &mut Vec<Option<OpenFile>>,
     number: usize,
@@ -695,8 +696,8 @@ fn set_table_entry(
     }
 }
 
-// Returns whether an open file prevents a rename: one at the first path, which is an entry's, or
-// beneath it, or one at the second path.
+// Returns whether an open file prevents a rename: one at the old path or beneath it, or one at the
+// new path.
 fn files_prevent_rename(entries: &[Option<OpenFile>], from: &[u8], to: &[u8]) -> bool
     requires entry { path_unusable (parse_path from.now) ≡ false }
     requires given { is_some (parse_path to.now) ≡ true }

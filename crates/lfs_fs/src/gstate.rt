@@ -1,4 +1,4 @@
-// The global state, as a caller gets it.
+// The global state (gstate), as a caller gets it.
 
 ghost use Rattle.std.specs.Prelude.{◌≡◌};
 ghost use Rattle.lfs_tag.specs.FieldsView.{move_view};
@@ -10,10 +10,11 @@ use lfs_tag::kinds::DELETE;
 /// The global state (DESIGN.md of littlefs, "The move problem").
 #[derive(Clone, Copy, Debug, PartialEq, Eq)]
 pub struct Gstate {
-    /// Whether a pair of the thread may be an orphan: no directory leads to it.
+    /// Whether there may be an orphan: a metadata pair in the threaded list to which no directory
+    /// leads.
     pub sync: bool,
-    /// The pair and the id of a slot that counts as deleted, since a move isn't ended. None where
-    /// no move is set.
+    /// The pair and the id of a slot that counts as deleted, because its move isn't complete. None
+    /// if no move is pending.
     pub moving: Option<([u32; 2], u16)>,
 }
 

@@ -1,4 +1,4 @@
-// A mount by the limits of the image.
+// A mount that adopts the image's limits.
 
 ghost use Rattle.std.specs.Prelude.{◌≡◌, ◌↔◌, ◌⊎◌, IsTrue, List, IfErr, IfOk};
 ghost use Rattle.lfs_device.specs.DeviceDisk.{profiled_disk};
@@ -25,7 +25,7 @@ fn have_same_limits(one: &Profile, other: &Profile) -> bool
         && one.attr_max == other.attr_max
 }
 
-// Begins a session over the image of a device, with that profile.
+// Mounts the image of a device by the given profile.
 fn mount_with_profile<D: BlockDevice>(
     alloc: Global,
     device: D,
@@ -44,18 +44,17 @@ fn mount_with_profile<D: BlockDevice>(
     }
 }
 
-/// Begins a session over the image of a device, as [`mount`] does, with a profile and the limits of
-/// the image. Where the superblock's limits are others than the profile's, they take the profile's
-/// place. So an image that was made with lower limits may be changed, and stays within them.
+/// Mounts the image of a device, as [`mount`] does, by a profile whose limits are replaced by the
+/// image's. So an image that was made with lower limits may be changed, and stays within them.
 ///
-/// A superblock may have limits that can't be used, 0 or above the format's own. Then the profile's
-/// limits stay, and the image isn't in the writing profile. Only reads are made.
+/// A limit in the superblock that can't be used, 0 or above the format's own, is ignored: the
+/// profile's limit stays, and the image isn't in the writing profile. Only reads the device.
 ///
 /// # Errors
 ///
-/// `Corrupt` exactly where the device has no accepted image in either order, by the profile's
-/// versions. `Io` where a read failed. `NoMemory` where memory isn't granted. An error comes with
-/// the device.
+/// `Corrupt` exactly if the device has no accepted image in either order and the profile's
+/// versions. `Io` if a read failed. `NoMemory` if memory can't be allocated. An error returns the
+/// device, too.
 pub fn mount_with_limits<D: BlockDevice>(
     alloc: Global,
     device: D,

@@ -1,4 +1,4 @@
-// Open files while the tree changes.
+// What changes of the tree leave of the open files.
 
 ghost use Rattle.std.specs.Prelude.{◌≤◌};
 ghost use Rattle.lfs_model.specs.layers.BlockSets.{in_flight_count};
@@ -12,8 +12,8 @@ ghost use Rattle.lfs_fs.specs.OpenFilesStay.{StayReady, KeepsWriters, ConcernsNo
 use lfs_file::lemma_reserve_suffices;
 use lfs_tree::{lemma_contents_stay, lemma_few_blocks};
 
-// No more blocks are in flight than the session holds back. An operation that the tree applies
-// leaves the contents of a writer.
+// No more blocks are in flight than the session reserves. An operation leaves the contents of a
+// writer as they are.
 pub(crate) fn lemma_files_stay()
     ensures few { (t : TreeState) (files : RuntimeFiles) → IsReady t files → in_flight_count t.map ≤ reserved_for_writers t.disk.profile t.disk.block_size (files_view t files) }
     ensures stay { (old new : TreeState) (op : Operation) (files : RuntimeFiles) → IsReady old files → ConcernsNoFile old op files → KeepsWriters old new (writers_among files) → IsApplied old op new → StayReady old new files }

@@ -16,9 +16,9 @@ use lfs_file::KnownBlocks;
 use lfs_tree::Tree;
 use std::alloc::Global;
 
-// Returns the bytes of a reader's file from its position on, at most `count`. Nothing is looked up,
-// and memory is taken for these bytes alone. The known blocks of a list are those that the reader
-// knows, and later those on the way.
+// Returns at most `count` bytes of a reader's file from its position on. Looks nothing up, and
+// allocates memory for these bytes only. `known` has the blocks of the list that the reader has
+// found, and gets those that this read finds.
 pub(crate) fn bytes_for_reader<D: BlockDevice>(
     alloc: Global,
     tree: &mut Tree<D>,

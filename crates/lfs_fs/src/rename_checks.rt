@@ -21,7 +21,7 @@ use lfs_lookup::{Path, Refusal, refuse_if};
 use lfs_tree::{RenameFindings, RenameTargets, Tree};
 use std::alloc::Global;
 
-// Returns whether the other bytes begin with these, and end there or continue with a slash.
+// Returns whether `other` begins with `bytes`, and ends there or continues with a slash.
 fn is_path_prefix(bytes: &[u8], other: &[u8]) -> bool
     ensures { result ≡ is_path_prefix bytes.now other.now }
 {
@@ -31,8 +31,7 @@ fn is_path_prefix(bytes: &[u8], other: &[u8]) -> bool
     other.len() == bytes.len() || other[bytes.len()] == b'/'
 }
 
-// Returns whether the path of the other bytes is that of these, which are an entry's, or is beneath
-// it.
+// Returns whether the path `other` is the entry's path `bytes`, or is beneath it.
 pub(crate) fn at_or_beneath(bytes: &[u8], other: &[u8]) -> bool
     requires entry { path_unusable (parse_path bytes.now) ≡ false }
     requires given { is_some (parse_path other.now) ≡ true }
@@ -41,7 +40,7 @@ pub(crate) fn at_or_beneath(bytes: &[u8], other: &[u8]) -> bool
     is_path_prefix(bytes, other)
 }
 
-// Returns whether the bytes are of the same path.
+// Returns whether both are the same path.
 fn is_same_path(bytes: &[u8], other: &[u8]) -> bool
     requires given { is_some (parse_path bytes.now) ≡ true }
     requires other { is_some (parse_path other.now) ≡ true }
@@ -50,7 +49,7 @@ fn is_same_path(bytes: &[u8], other: &[u8]) -> bool
     same_path_bytes(other, bytes)
 }
 
-// Returns whether the path of the other bytes is beneath that of these, which are an entry's.
+// Returns whether the path `other` is beneath the entry's path `bytes`.
 fn is_strictly_beneath(bytes: &[u8], other: &[u8]) -> bool
     requires entry { path_unusable (parse_path bytes.now) ≡ false }
     requires given { is_some (parse_path other.now) ≡ true }
@@ -59,7 +58,7 @@ fn is_strictly_beneath(bytes: &[u8], other: &[u8]) -> bool
     at_or_beneath(bytes, other) && !is_same_path(bytes, other)
 }
 
-// Checks the entry at the new path. A rename to the same path passes.
+// Checks the entry at the new path. A rename to the same path always passes.
 fn check_replacement(is_same: bool, is_bad: bool, error: Error) -> Option<Refusal>
     requires { is_refusal error ≡ true }
     ensures { result ≡ refuse_if (not is_same && is_bad) (error_refusal error) }
@@ -74,11 +73,11 @@ pub struct PermittedRename<'a> {
     pub to: Path<'a>,
     /// Whether both paths are the same.
     pub is_same: bool,
-    /// Where the paths lead to. None where something is to recover first.
+    /// The results of the look-ups. None if a recovery has to come first.
     pub targets: Option<RenameTargets>,
 }
 
-/// The two paths of a rename that isn't refused before a look-up.
+/// The two paths of a rename that passes the checks before the look-ups.
 #[derive(Drop)]
 pub struct RenamePaths<'a> {
     // The bytes of the old path, and of the new one.
@@ -90,7 +89,7 @@ pub struct RenamePaths<'a> {
     is_same: bool,
 }
 
-// Returns the two paths of a rename, where no check refuses it that needs no look-up.
+// Returns the two paths of a rename, or the refusal of the first check that needs no look-up.
 fn check_rename_paths<'a, D: BlockDevice>(
     tree: &Tree<D>,
     old: &'a [u8],
@@ -124,7 +123,8 @@ fn check_rename_paths<'a, D: BlockDevice>(
     })
 }
 
-// Returns the refusal of a rename, by what is at its two paths, the open files and the room.
+// Returns the refusal of a rename, if any: by the entries at its two paths, the open files and the
+// free blocks.
 fn rename_refusal_of<D: BlockDevice>(
     tree: &Tree<D>,
     files: &Files,
@@ -158,7 +158,7 @@ fn rename_refusal_of<D: BlockDevice>(
     find_first_refusal(&checks)
 }
 
-/// Checks a rename, and returns where its two paths lead to.
+/// Checks a rename, and returns the results of the look-ups of its two paths.
 pub fn check_rename<'a, D: BlockDevice>(
     alloc: Global,
     tree: &mut Tree<D>,

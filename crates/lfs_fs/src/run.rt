@@ -14,19 +14,18 @@ use crate::gstate::Gstate;
 use lfs_device::Error;
 use lfs_lookup::{ListItem as Item, Stat};
 
-/// An operation of a session. Its name is that of the call, and its fields are the call's
-/// arguments.
+/// An operation of a session. It is named after the call, and its fields are the call's arguments.
 #[derive(Clone, Copy)]
 pub enum Op<'a> {
     /// A path, and how the file is opened.
     Open(&'a [u8], OpenFlags),
-    /// An open file's number, and how many bytes at most.
+    /// An open file's number, and the largest number of bytes.
     Read(Fd, u32),
     /// An open file's number, and the bytes.
     Write(Fd, &'a [u8]),
-    /// An open file's number, and the position.
+    /// An open file's number, and its new position in bytes.
     Seek(Fd, u32),
-    /// An open file's number, and how many bytes it is to have.
+    /// An open file's number, and its new size in bytes.
     Truncate(Fd, u32),
     /// An open file's number.
     Sync(Fd),
@@ -54,9 +53,9 @@ pub enum Op<'a> {
     IsUsed(u32),
     /// Returns how many blocks are used.
     UsedCount,
-    /// Ends what a loss of power left.
+    /// Completes what a power loss left half done.
     Recover,
-    /// Reads the device anew.
+    /// Mounts the device again.
     Remount,
 }
 
@@ -73,7 +72,7 @@ pub enum Reply {
     Count(u32),
     /// The entries of a directory.
     Items(Vec<Item>),
-    /// A kind and a size.
+    /// An entry's kind, and its size in bytes.
     Stat(Stat),
     /// The global state.
     Gstate(Gstate),
@@ -84,7 +83,7 @@ pub enum Reply {
     Refused(Error),
 }
 
-// Returns whether the error isn't one that makes a session fail.
+// Returns whether the error is a refusal, after which the session works on.
 fn is_refusal(error: Error) -> bool
     ensures { result ≡ is_refusal error }
 {

@@ -62,16 +62,16 @@ use lfs_tree::Tree;
 use std::alloc::Global;
 use std::marker::Model;
 
-/// A session: a tree of files on a device, and the open files.
+/// A mounted file system and its open files.
 ///
-/// Paths are bytes: `/` alone, or names with a `/` before each. A call may be refused, or fail.
-/// After a refusal nothing is written and nothing has changed. A call fails with `Io` where a call
-/// of the device failed, and with `NoMemory` where memory isn't granted. A session that has failed
-/// returns `Failed` from each call but [`remount`](Session::remount).
+/// A path is `/`, or names with a `/` before each. Names are bytes. A call may be refused or may
+/// fail. A refusal writes nothing and changes nothing. A call fails with `Io` if a device call
+/// failed, and with `NoMemory` if memory can't be allocated. A session that has failed returns
+/// `Failed` from each call except [`remount`](Session::remount).
 ///
-/// Each call names its refusals in the order in which they are checked. A limit in bytes is the
-/// format's own, which the profile of the device may lower. `ReadOnly`, `BadFile`, `Invalid` and
-/// `Failed` come without a call of the device. So do all refusals of [`write`](Session::write) and
+/// Each call lists its refusals in the order of its checks. A limit in bytes is the format's, and
+/// the device's profile may lower it. `ReadOnly`, `BadFile`, `Invalid` and `Failed` are returned
+/// without a device call, and so are all refusals of [`write`](Session::write) and
 /// [`truncate`](Session::truncate).
 #[derive(Drop)]
 pub struct Session<D: BlockDevice> {
@@ -91,40 +91,40 @@ impl<D: BlockDevice> Model for Session<D> {
 }
 
 impl<D: BlockDevice> Session<D> {
-    /// Returns whether a path leads to a file or a directory, and a file's size in bytes. The call
-    /// reads no more pairs than the directories above it have.
+    /// Returns the kind of the entry at a path, and a file's size in bytes. Makes at most one read
+    /// for each metadata pair of the directories above it.
     ///
     /// # Errors
     ///
-    /// `Invalid` where the path isn't well formed; `NoEnt` or `NotDir` where a parent is missing or
-    /// is a file; `NoEnt` where no entry is there.
+    /// `Invalid` if the path isn't well formed; `NoEnt` or `NotDir` if a parent is missing or is a
+    /// file; `NoEnt` if there is no entry.
     pub fn stat(&mut self, alloc: Global, path: &[u8]) -> Result<Stat, Error>
         ensures { IsCall self.old (ops.Stat path.now) (reply_from (λ stat. ops.StatIs (stat_view stat)) result) self.new }
     {
         check_and_stat(alloc, &mut self.tree, &self.files, path)
     }
 
-    /// Returns the entries of a directory, in name order. The call reads no more pairs than the
-    /// directory and those above it have.
+    /// Returns the entries of a directory, in name order. Makes at most one read for each metadata
+    /// pair of the directory and of those above it.
     ///
     /// # Errors
     ///
-    /// `Invalid` where the path isn't well formed; `NoEnt` or `NotDir` where a parent is missing or
-    /// is a file; `NoEnt` where no entry is there; `NotDir` where a file is there.
+    /// `Invalid` if the path isn't well formed; `NoEnt` or `NotDir` if a parent is missing or is a
+    /// file; `NoEnt` if there is no entry; `NotDir` if the entry is a file.
     pub fn list(&mut self, alloc: Global, path: &[u8]) -> Result<Vec<Item>, Error>
         ensures { IsCall self.old (ops.ListAll path.now) (reply_from (λ items. ops.Items (map listed_item_view items.items)) result) self.new }
     {
         check_and_list(alloc, &mut self.tree, &self.files, path)
     }
 
-    /// Returns the bytes of an entry's attribute, of a type from 0 to 255. The call reads no more
-    /// pairs than the directories above the entry have.
+    /// Returns the bytes of an entry's attribute. Its type is 0 to 255. Makes at most one read for
+    /// each metadata pair of the directories above the entry.
     ///
     /// # Errors
     ///
-    /// `Invalid` where the path isn't well formed or is the root's; `NoEnt` or `NotDir` where a
-    /// parent is missing or is a file; `NoEnt` where no entry is there; `NoAttr` where the entry
-    /// has none of that type.
+    /// `Invalid` if the path isn't well formed or is the root's; `NoEnt` or `NotDir` if a parent is
+    /// missing or is a file; `NoEnt` if there is no entry; `NoAttr` if the entry has no attribute
+    /// of that type.
     pub fn get_attr(&mut self, alloc: Global, path: &[u8], kind: u8) -> Result<Vec<u8>, Error>
         ensures { IsCall self.old (ops.GetAttr path.now kind) (reply_from (λ v. ops.Bytes v.items) result) self.new }
     {
@@ -145,7 +145,7 @@ impl<D: BlockDevice> Session<D> {
     ///
     /// # Errors
     ///
-    /// `Invalid` where the image has no such block.
+    /// `Invalid` if `block` isn't below the number of blocks.
     pub fn is_used(&self, block: u32) -> Result<bool, Error>
         ensures { IsCall self.now (ops.IsUsed block) (reply_from ops.Yes result) self.now }
     {
@@ -169,15 +169,15 @@ impl<D: BlockDevice> Session<D> {
         Ok(self.tree.used_count())
     }
 
-    /// Makes an empty directory. A recovery comes first, as by [`recover`](Session::recover).
+    /// Makes an empty directory. Recovers first, as by [`recover`](Session::recover).
     ///
     /// # Errors
     ///
-    /// `ReadOnly` where the image isn't in the writing profile; `Invalid` where the path isn't well
-    /// formed; `NoEnt` or `NotDir` where a parent is missing or is a file; `NameTooLong` where the
-    /// name has more than 255 bytes, or more than the profile allows; `Exist` where an entry is
-    /// there; `EntryFull` where the name takes too much of a metadata pair; `NoSpace` where fewer
-    /// than four blocks are free.
+    /// `ReadOnly` if the image isn't in the writing profile; `Invalid` if the path isn't well
+    /// formed; `NoEnt` or `NotDir` if a parent is missing or is a file; `NameTooLong` if the name
+    /// has more than 255 bytes, or more than the profile allows; `Exist` if there is an entry
+    /// already; `EntryFull` if the name needs too much of a metadata pair; `NoSpace` if fewer than
+    /// four blocks are free.
     pub fn mkdir(&mut self, alloc: Global, path: &[u8]) -> Result<(), Error>
         ensures { IsCall self.old (ops.Mkdir path.now) (reply_from (λ _. ops.Done) result) self.new }
     {
@@ -188,14 +188,13 @@ impl<D: BlockDevice> Session<D> {
         answer
     }
 
-    /// Removes a file, or a directory without entries. A recovery comes first.
+    /// Removes a file, or a directory without entries. Recovers first.
     ///
     /// # Errors
     ///
-    /// `ReadOnly` where the image isn't in the writing profile; `Invalid` where the path isn't well
-    /// formed or is the root's; `NoEnt` or `NotDir` where a parent is missing or is a file; `NoEnt`
-    /// where no entry is there; `NotEmpty` where a directory has entries; `Busy` where the file is
-    /// open.
+    /// `ReadOnly` if the image isn't in the writing profile; `Invalid` if the path isn't well
+    /// formed or is the root's; `NoEnt` or `NotDir` if a parent is missing or is a file; `NoEnt` if
+    /// there is no entry; `NotEmpty` if a directory has entries; `Busy` if the file is open.
     pub fn remove(&mut self, alloc: Global, path: &[u8]) -> Result<(), Error>
         ensures { IsCall self.old (ops.Remove path.now) (reply_from (λ _. ops.Done) result) self.new }
     {
@@ -206,20 +205,20 @@ impl<D: BlockDevice> Session<D> {
         answer
     }
 
-    /// Renames or moves an entry. Replaces a file or an empty directory at the new path. The entries
-    /// beneath a directory move with it. A recovery comes first. Does nothing if both paths are the
+    /// Renames or moves an entry. Replaces a file or an empty directory at the new path. The
+    /// entries beneath a directory move with it. Recovers first. Does nothing if both paths are the
     /// same.
     ///
     /// # Errors
     ///
-    /// `ReadOnly` where the image isn't in the writing profile; `Invalid` where a path isn't well
-    /// formed or is the root's, or the new one is beneath the old one; `NoEnt` or `NotDir` where a
-    /// parent is missing or is a file, of the old path first; `NameTooLong` where the new name has
-    /// more than 255 bytes, or more than the profile allows; `NoEnt` where no entry is at the old
-    /// path; `NotDir` for a directory in place of a file, `IsDir` for a file in place of a
-    /// directory, `NotEmpty` where the directory in its place has entries; `Busy` where a file at
-    /// the old path, beneath it or at the new path is open; `EntryFull` where the new name and the
-    /// attributes take too much of a metadata pair; `NoSpace` where fewer than two blocks are free.
+    /// `ReadOnly` if the image isn't in the writing profile; `Invalid` if a path isn't well formed
+    /// or is the root's, or the new one is beneath the old one; `NoEnt` or `NotDir` if a parent is
+    /// missing or is a file, of the old path first; `NameTooLong` if the new name has more than 255
+    /// bytes, or more than the profile allows; `NoEnt` if the old path has no entry; `NotDir` if a
+    /// directory would replace a file; `IsDir` if a file would replace a directory; `NotEmpty` if
+    /// the replaced directory has entries; `Busy` if a file at the old path, beneath it or at the
+    /// new path is open; `EntryFull` if the new name and the attributes need too much of a metadata
+    /// pair; `NoSpace` if fewer than two blocks are free.
     pub fn rename(&mut self, alloc: Global, from: &[u8], to: &[u8]) -> Result<(), Error>
         ensures { IsCall self.old (ops.Rename from.now to.now) (reply_from (λ _. ops.Done) result) self.new }
     {
@@ -235,17 +234,16 @@ impl<D: BlockDevice> Session<D> {
         answer
     }
 
-    /// Sets an attribute of an entry, in place of the one of that type, if the entry has one. The
-    /// type is from 0 to 255, and the value has at most 1,022 bytes, or fewer by the profile. A
-    /// recovery comes first.
+    /// Sets an attribute of an entry, and replaces the one of that type, if there is one. The type
+    /// is 0 to 255. The value has at most 1,022 bytes, or fewer if the profile says so. Recovers
+    /// first.
     ///
     /// # Errors
     ///
-    /// `ReadOnly` where the image isn't in the writing profile; `Invalid` where the path isn't well
-    /// formed or is the root's; `NoEnt` or `NotDir` where a parent is missing or is a file; `NoEnt`
-    /// where no entry is there; `TooBig` where the value has more bytes than that; `EntryFull`
-    /// where the name and the attributes take too much of a metadata pair; `NoSpace` where fewer
-    /// than two blocks are free.
+    /// `ReadOnly` if the image isn't in the writing profile; `Invalid` if the path isn't well
+    /// formed or is the root's; `NoEnt` or `NotDir` if a parent is missing or is a file; `NoEnt` if
+    /// there is no entry; `TooBig` if the value is longer; `EntryFull` if the name and the
+    /// attributes need too much of a metadata pair; `NoSpace` if fewer than two blocks are free.
     pub fn set_attr(
         &mut self,
         alloc: Global,
@@ -262,13 +260,13 @@ impl<D: BlockDevice> Session<D> {
         answer
     }
 
-    /// Removes an attribute of an entry. A recovery comes first.
+    /// Removes an attribute of an entry. Recovers first.
     ///
     /// # Errors
     ///
-    /// `ReadOnly` where the image isn't in the writing profile; `Invalid` where the path isn't well
-    /// formed or is the root's; `NoEnt` or `NotDir` where a parent is missing or is a file; `NoEnt`
-    /// where no entry is there; `NoAttr` where the entry has none of that type.
+    /// `ReadOnly` if the image isn't in the writing profile; `Invalid` if the path isn't well
+    /// formed or is the root's; `NoEnt` or `NotDir` if a parent is missing or is a file; `NoEnt` if
+    /// there is no entry; `NoAttr` if the entry has no attribute of that type.
     pub fn remove_attr(&mut self, alloc: Global, path: &[u8], kind: u8) -> Result<(), Error>
         ensures { IsCall self.old (ops.RemoveAttr path.now kind) (reply_from (λ _. ops.Done) result) self.new }
     {
@@ -279,12 +277,12 @@ impl<D: BlockDevice> Session<D> {
         answer
     }
 
-    /// Ends what a loss of power left in the image: a set move, and directories that no path leads
-    /// to. The tree stays. Nothing is written where nothing is left.
+    /// Completes what a power loss left half done: a move, and orphans, the directories that no
+    /// path leads to. The tree stays as it is. Writes nothing if nothing is left.
     ///
     /// # Errors
     ///
-    /// `ReadOnly` where the image isn't in the writing profile.
+    /// `ReadOnly` if the image isn't in the writing profile.
     pub fn recover(&mut self, alloc: Global) -> Result<(), Error>
         ensures { IsCall self.old ops.Recover (reply_from (λ _. ops.Done) result) self.new }
     {
@@ -343,22 +341,22 @@ impl<D: BlockDevice> Session<D> {
         Ok(number)
     }
 
-    /// Opens a file, for reading or for writing. Returns the file's number, which is the least that
-    /// isn't open. At most one file is open for writing, and 16 for reading. Where the file is
-    /// opened for writing, a recovery comes first. A file that is created is in the tree at once.
+    /// Opens a file for reading or for writing. Returns the file's number, the least one that isn't
+    /// open. At most one file is open for writing, and 16 for reading. An open for writing recovers
+    /// first. A new file is committed to the tree at once.
     ///
     /// # Errors
     ///
-    /// `ReadOnly` where the file is opened for writing and the image isn't in the writing profile;
-    /// `Invalid` where the path isn't well formed or the flags aren't allowed together; `NoEnt` or
-    /// `NotDir` where a parent is missing or is a file; of a file to create `NameTooLong` where its
-    /// name has more than 255 bytes, or more than the profile allows; `NoEnt` where no entry is
-    /// there and none is created; `Exist` where an entry is there, with
-    /// [`EXCLUSIVE`](OpenFlags::EXCLUSIVE); `IsDir` for a directory; `Busy` for writing where a
-    /// file is open for writing, or this one is open at all; `Busy` for reading where this file is
-    /// open for writing, or 16 files are open for reading; of a file to create `EntryFull` where
-    /// its name takes too much of a metadata pair; `NoSpace` where fewer than two blocks are free
-    /// for a file to create, or with [`TRUNCATE`](OpenFlags::TRUNCATE) too few for the file anew.
+    /// `ReadOnly` if the file is opened for writing and the image isn't in the writing profile;
+    /// `Invalid` if the path isn't well formed or the flags aren't allowed together; `NoEnt` or
+    /// `NotDir` if a parent is missing or is a file; `NameTooLong` if the name of a new file has
+    /// more than 255 bytes, or more than the profile allows; `NoEnt` if there is no entry and none
+    /// is created; `Exist` if there is an entry already, with [`EXCLUSIVE`](OpenFlags::EXCLUSIVE);
+    /// `IsDir` if the entry is a directory; `Busy` for writing if a file is open for writing, or
+    /// this one is open at all; `Busy` for reading if this file is open for writing, or 16 files
+    /// are open for reading; `EntryFull` if the name of a new file needs too much of a metadata
+    /// pair; `NoSpace` if fewer than two blocks are free, for a new file, or with
+    /// [`TRUNCATE`](OpenFlags::TRUNCATE) for one that isn't empty.
     pub fn open(&mut self, alloc: Global, path: &[u8], flags: OpenFlags) -> Result<Fd, Error>
         ensures { IsCall self.old (ops.Open path.now (flags_view flags)) (reply_from ops.Opened result) self.new }
     {
@@ -369,15 +367,16 @@ impl<D: BlockDevice> Session<D> {
         }
     }
 
-    /// Writes bytes at the position of a file that is open for writing, or at its end where it
-    /// appends. Returns the number of bytes. Zeros fill a gap before them, and the position is
-    /// after them then. They are in the tree after a sync or a close of the file.
+    /// Writes bytes at the position of a file that is open for writing, or at its end if it
+    /// appends. Returns the number of bytes, always all of them. Fills a gap before them with
+    /// zeros, and sets the position after them. A sync or a close of the file commits them to the
+    /// tree.
     ///
     /// # Errors
     ///
-    /// `BadFile` where no file is open for writing under the number; `TooBig` where the file would
-    /// have more than 2,147,483,647 bytes, or more than the profile allows; `NoSpace` where too few
-    /// blocks are free for what the file would hold.
+    /// `BadFile` if no file is open for writing under the number; `TooBig` if the file would have
+    /// more than 2,147,483,647 bytes, or more than the profile allows; `NoSpace` if too few blocks
+    /// are free for the file's new contents.
     pub fn write(&mut self, alloc: Global, fd: Fd, bytes: &[u8]) -> Result<u32, Error>
         ensures { IsCall self.old (ops.Write fd bytes.now) (reply_from ops.Count result) self.new }
     {
@@ -391,14 +390,14 @@ impl<D: BlockDevice> Session<D> {
         Ok(bytes.len() as u32)
     }
 
-    /// Sets the size of a file open for writing: truncates it, or extends it with zeros. The position
-    /// stays.
+    /// Sets the size in bytes of a file open for writing: truncates it, or extends it with zeros.
+    /// The position stays as it is.
     ///
     /// # Errors
     ///
-    /// `BadFile` where no file is open for writing under the number; `TooBig` for more than
-    /// 2,147,483,647 bytes, or more than the profile allows; `NoSpace` where too few blocks are
-    /// free for what the file would hold.
+    /// `BadFile` if no file is open for writing under the number; `TooBig` if the size is above
+    /// 2,147,483,647, or above the profile's longest file; `NoSpace` if too few blocks are free for
+    /// the file's new contents.
     pub fn truncate(&mut self, alloc: Global, fd: Fd, size: u32) -> Result<(), Error>
         ensures { IsCall self.old (ops.Truncate fd size) (reply_from (λ _. ops.Done) result) self.new }
     {
@@ -411,11 +410,12 @@ impl<D: BlockDevice> Session<D> {
         answer
     }
 
-    /// Commits the changes of an open file to the tree. Other files stay as they are.
+    /// Commits the changes of an open file to the tree. Does nothing if there are none, or if the
+    /// file is open for reading.
     ///
     /// # Errors
     ///
-    /// `BadFile` where no file is open under the number.
+    /// `BadFile` if no file is open under the number.
     pub fn sync(&mut self, alloc: Global, fd: Fd) -> Result<(), Error>
         ensures { IsCall self.old (ops.Sync fd) (reply_from (λ _. ops.Done) result) self.new }
     {
@@ -428,17 +428,17 @@ impl<D: BlockDevice> Session<D> {
         answer
     }
 
-    /// Returns the bytes of an open file from its position on, at most `count`. There are fewer
-    /// where the file ends, and none after its end. The position advances by as many.
+    /// Returns at most `count` bytes of an open file, from its position on: fewer at the file's
+    /// end, and none after it. Advances the position by their number.
     ///
-    /// An open file knows the blocks that its reads have found. A read that ends in the block where
-    /// the last one ended finds it without a pointer. One that begins where the last one ended, and
-    /// is within that block, reads the block whole into the cache. Further reads within a cached
-    /// block take no read of the device.
+    /// An open file remembers which blocks of its CTZ skip list its reads have found. A read that
+    /// ends in the same block as the last one reads no pointer. A read that begins where the last
+    /// one ended, within that block, reads the whole block into the cache. Further reads of a
+    /// cached block don't access the device.
     ///
     /// # Errors
     ///
-    /// `BadFile` where no file is open for reading under the number.
+    /// `BadFile` if no file is open for reading under the number.
     pub fn read(&mut self, alloc: Global, fd: Fd, count: u32) -> Result<Vec<u8>, Error>
         ensures call { IsCall self.old (ops.Read fd count) (reply_from (λ v. ops.Bytes v.items) result) self.new }
         ensures few { OnOk result (ReadsFew self.old fd count self.new) }
@@ -457,15 +457,15 @@ impl<D: BlockDevice> Session<D> {
         Ok(bytes)
     }
 
-    /// Reads the bytes of an open file from its position on into a buffer, as many as the buffer has
-    /// room for, or fewer where the file ends. Returns how many these are; the rest of the buffer
-    /// stays. The position advances by as many. The call is that of [`read`](Session::read), but
-    /// takes no memory except for a block that comes into the cache, and works without that. A
-    /// refusal leaves the buffer as it was; after `Io` it isn't said what it holds.
+    /// Fills a buffer with the bytes of an open file from its position on, or a part of it if the
+    /// file ends earlier. Returns how many bytes these are; the rest of the buffer stays as it was.
+    /// Advances the position by their number. Otherwise as [`read`](Session::read), but allocates
+    /// at most memory to cache a block, and does without it if that fails. A refusal leaves the
+    /// buffer as it was. After `Io` its bytes are unspecified.
     ///
     /// # Errors
     ///
-    /// `BadFile` where no file is open for reading under the number.
+    /// `BadFile` if no file is open for reading under the number.
     pub fn read_into(&mut self, fd: Fd, buf: &mut [u8]) -> Result<usize, Error>
         ensures call { IsCall self.old (ops.Read fd (length buf.old)) (reply_from (λ n. ops.Bytes (take n buf.new)) result) self.new }
         ensures stays { MatchResult result (λ n. (n ≤ length buf.old) × (drop n buf.new ≡ drop n buf.old)) (λ e. is_refusal e ≡ true → buf.new ≡ buf.old) }
@@ -487,12 +487,12 @@ impl<D: BlockDevice> Session<D> {
         Ok(count)
     }
 
-    /// Sets the position of an open file, in bytes from its beginning. The position may be after
-    /// the file's end.
+    /// Sets the position of an open file, in bytes from its beginning. It may be after the file's
+    /// end.
     ///
     /// # Errors
     ///
-    /// `BadFile` where no file is open under the number; `Invalid` for a position above
+    /// `BadFile` if no file is open under the number; `Invalid` if the position is above
     /// 2,147,483,647, or above the profile's longest file.
     pub fn seek(&mut self, fd: Fd, position: u32) -> Result<(), Error>
         ensures { IsCall self.old (ops.Seek fd position) (reply_from (λ _. ops.Done) result) self.new }
@@ -502,12 +502,12 @@ impl<D: BlockDevice> Session<D> {
         Ok(())
     }
 
-    /// Returns the position of an open file, in bytes from its beginning. The call makes no call of
-    /// the device.
+    /// Returns the position of an open file, in bytes from its beginning. Does not access the
+    /// device.
     ///
     /// # Errors
     ///
-    /// `BadFile` where no file is open under the number.
+    /// `BadFile` if no file is open under the number.
     pub fn position(&self, fd: Fd) -> Result<u32, Error>
         ensures { FileAnswersOf file_position self.now fd result }
     {
@@ -525,7 +525,7 @@ impl<D: BlockDevice> Session<D> {
     ///
     /// # Errors
     ///
-    /// `BadFile` where no file is open under the number.
+    /// `BadFile` if no file is open under the number.
     pub fn size(&self, fd: Fd) -> Result<u32, Error>
         ensures { FileAnswersOf file_size self.now fd result }
     {
@@ -541,11 +541,11 @@ impl<D: BlockDevice> Session<D> {
         }
     }
 
-    /// Closes an open file, and commits its changes to the tree. Its number is free then.
+    /// Commits the changes of an open file to the tree, closes it, and frees its number.
     ///
     /// # Errors
     ///
-    /// `BadFile` where no file is open under the number.
+    /// `BadFile` if no file is open under the number.
     pub fn close(&mut self, alloc: Global, fd: Fd) -> Result<(), Error>
         ensures { IsCall self.old (ops.Close fd) (reply_from (λ _. ops.Done) result) self.new }
     {
@@ -561,13 +561,13 @@ impl<D: BlockDevice> Session<D> {
         Ok(())
     }
 
-    /// Closes all files, and reads the device anew, after an error too. The order of names is found
-    /// again, as by [`mount`].
+    /// Closes all files and mounts the device again, also after an error. Unsynced changes are
+    /// lost. Finds the order of names again, as [`mount`] does.
     ///
     /// # Errors
     ///
-    /// `Corrupt` exactly where the device has no accepted image in either order. `Io` where a read
-    /// failed. `NoMemory` where memory isn't granted. After any error the session has failed.
+    /// `Corrupt` exactly if the device has no accepted image in either order. `Io` if a read
+    /// failed. `NoMemory` if memory can't be allocated. After any error the session has failed.
     pub fn remount(&mut self, alloc: Global) -> Result<(), Error>
         ensures { IsCall self.old ops.Remount (reply_from (λ _. ops.Done) result) self.new }
     {
@@ -585,7 +585,7 @@ impl<D: BlockDevice> Session<D> {
         self.tree.device()
     }
 
-    /// Ends the session, and returns the device. Nothing is written.
+    /// Ends the session and returns the device. Writes nothing, so unsynced changes are lost.
     pub fn unmount(self) -> D
         ensures disk { ordered_disk self.tree.disk.order (disk_of_device D.BlockDevice result) ≡ self.tree.disk }
         ensures history { D.history result ≡ self.tree.history }
@@ -593,23 +593,24 @@ impl<D: BlockDevice> Session<D> {
         self.tree.into_device()
     }
 
-    /// Returns the order in which the image's directories have their names. A list doesn't depend
-    /// on it: there the shorter name always comes first.
+    /// Returns the order of names in the image's directories: whether a name that is a prefix of
+    /// another one comes before or after it. [`list`](Session::list) doesn't depend on it, and
+    /// always returns the shorter one first.
     pub fn order(&self) -> NameOrder
         ensures { result ≡ self.now.tree.disk.order }
     {
         self.tree.order()
     }
 
-    /// Returns the image's superblock: the version, the sizes of the device and the limits that the
-    /// image has. Where the limits are others than those of the session's profile, the image isn't
-    /// in the writing profile; [`mount_with_limits`](crate::mount_with_limits) takes those of the
-    /// image. The call takes at most one read.
+    /// Returns the image's superblock: the version, the block size and count, and the image's
+    /// limits. Makes at most one read. An image whose limits differ from those of the session's
+    /// profile isn't in the writing profile; [`mount_with_limits`](crate::mount_with_limits) adopts
+    /// them.
     ///
     /// # Errors
     ///
-    /// `Io` where the read failed, and `NoMemory` where memory isn't granted. After either the
-    /// session has failed.
+    /// `Io` if the read failed, `NoMemory` if memory can't be allocated. After either the session
+    /// has failed.
     pub fn superblock(&mut self, alloc: Global) -> Result<Superblock, Error>
         ensures is { IfOk result (λ f. image_fields self.old.tree.pairs ≡ Some (superblock_view f)) }
         ensures read { OnOk result (OnlyReadsSession self.old self.new) }
@@ -624,8 +625,8 @@ impl<D: BlockDevice> Session<D> {
         superblock
     }
 
-    /// Returns whether the session has failed. Then each call but [`remount`](Session::remount) is
-    /// refused as `Failed`. Does not access the device.
+    /// Returns whether the session has failed. If so, each call except
+    /// [`remount`](Session::remount) is refused as `Failed`. Does not access the device.
     pub fn has_failed(&self) -> bool
         ensures { result ≡ self.now.tree.failed }
     {
@@ -645,16 +646,16 @@ impl<D: BlockDevice> Session<D> {
     }
 
     /// Returns why the image is read only: a rule of the writing profile that the image breaks, and
-    /// where. Returns None exactly if the session may write, and then makes no call of the device.
-    /// Otherwise the call reads the metadata pairs, and writes nothing.
+    /// where. Returns None exactly if the session may write, and then makes no device call.
+    /// Otherwise reads the metadata pairs. Writes nothing.
     ///
-    /// If the image breaks several rules, it names another limit first, then long inline contents, an
-    /// empty pair, and what is too large.
+    /// If the image breaks several rules, another limit is named first, then long inline contents,
+    /// an empty pair, and what is too large.
     ///
     /// # Errors
     ///
-    /// `Failed` in a failed session. `Io` if a read failed, and `NoMemory` if memory isn't granted; the
-    /// session has failed after either.
+    /// `Failed` in a failed session. `Io` if a read failed, and `NoMemory` if memory can't be
+    /// allocated; the session has failed after either.
     pub fn read_only_reason(&mut self, alloc: Global) -> Result<Option<ProfileBreach>, Error>
         ensures is { IfOk result (IsReadOnlyReason self.old) }
         ensures read { OnOk result (OnlyReadsSession self.old self.new) }
@@ -672,7 +673,7 @@ impl<D: BlockDevice> Session<D> {
         breach
     }
 
-    // Performs one operation. A refusal is a reply; after an error the session has failed.
+    // Performs one operation. A refusal is a reply. After an error the session has failed.
     fn perform(&mut self, alloc: Global, op: Op<'_>) -> Result<Reply, Error>
         ensures call { IsCall self.old (op_view op.entry) (result_view result) self.new }
         ensures named { IfOk result HasRefusalError }
@@ -710,12 +711,12 @@ impl<D: BlockDevice> Session<D> {
         self.tree.fail();
     }
 
-    /// Performs operations in order. Returns a reply for each; a refusal is a reply, too.
+    /// Performs operations in order, and returns a reply for each. A refusal is a reply, too.
     ///
     /// # Errors
     ///
-    /// `Io`, `NoMemory` and, from a remount, `Corrupt`. The operations before it were applied, and
-    /// the session has failed.
+    /// `Io`, `NoMemory` and, from a remount, `Corrupt`. The operations before the one that failed
+    /// were applied, and the session has failed.
     pub fn run(&mut self, alloc: Global, ops: &[Op<'_>]) -> Result<Vec<Reply>, Error>
         ensures performed { IfOk result (λ replies. ArePerformed None (system_state self.old) (map op_view ops.now) (map reply_view replies.items) (system_state self.new)) }
         ensures named { IfOk result (λ replies. All HasRefusalError replies.items) }
@@ -740,17 +741,16 @@ impl<D: BlockDevice> Session<D> {
     }
 }
 
-/// Begins a session over the image of a device, in the order of names that the image has. Where
-/// both orders fit, the longer names come first, as littlefs's own code has them. Only reads are
-/// made.
+/// Mounts the image of a device, and finds the order of names that the image has. If both orders
+/// fit, it is littlefs's own, `LongerFirst`. Only reads the device.
 ///
-/// An image whose limits are others than those of the device's profile isn't in the writing
-/// profile. [`mount_with_limits`](crate::mount_with_limits) takes the limits of the image.
+/// An image whose limits differ from those of the device's profile isn't in the writing profile.
+/// [`mount_with_limits`](crate::mount_with_limits) adopts the image's limits.
 ///
 /// # Errors
 ///
-/// `Corrupt` exactly where the device has no accepted image in either order. `Io` where a read
-/// failed. `NoMemory` where memory isn't granted. An error comes with the device.
+/// `Corrupt` exactly if the device has no accepted image in either order. `Io` if a read failed.
+/// `NoMemory` if memory can't be allocated. An error returns the device, too.
 pub fn mount<D: BlockDevice>(alloc: Global, device: D) -> Result<Session<D>, (D, Error)>
     ensures begun { IfOk result (λ s. BeginsByMount (ordered_disk s.tree.disk.order (disk_of_device D.BlockDevice device)) (D.history device) s) }
     ensures state { IfOk result (λ s. IsMounted (ordered_disk s.tree.disk.order (disk_of_device D.BlockDevice device)) (system_state s)) }
@@ -771,8 +771,8 @@ pub fn mount<D: BlockDevice>(alloc: Global, device: D) -> Result<Session<D>, (D,
     }
 }
 
-/// Makes an empty file system on a device, as [`format_ordered`] does, in littlefs's own order of
-/// names: the longer ones first.
+/// Makes an empty file system on a device, as [`format_ordered`] does, with littlefs's own order of
+/// names, `LongerFirst`.
 ///
 /// # Errors
 ///
@@ -788,13 +788,13 @@ pub fn format<D: BlockDevice>(alloc: Global, device: D) -> Result<Session<D>, (D
 }
 
 /// Makes an empty file system on a device, and begins a session over it (SPEC.md of littlefs,
-/// "0x0ff LFS_TYPE_SUPERBLOCK"). Its directories have their names in that order. The blocks 0 and 1
-/// are erased, and no other is written. The order isn't stored: a mount finds it by the names.
+/// "0x0ff LFS_TYPE_SUPERBLOCK"). Erases the blocks 0 and 1, and writes no other. Directories will
+/// have their names in the given order, which isn't stored: a mount infers it from the names.
 ///
 /// # Errors
 ///
-/// `Io` where a call of the device failed; the two blocks may hold any bytes then. `NoMemory` where
-/// memory isn't granted; nothing is written then. An error comes with the device.
+/// `Io` if a device call failed; the two blocks may then hold any bytes. `NoMemory` if memory can't
+/// be allocated; nothing is written then. An error returns the device, too.
 pub fn format_ordered<D: BlockDevice>(
     alloc: Global,
     device: D,

@@ -29,7 +29,7 @@ use lfs_lookup::PathLookup;
 use lfs_tree::{Tree, lemma_contents_stay, lemma_few_blocks};
 use std::alloc::Global;
 
-// Returns the contents of a writer of a file of that size: the changed ones, or else those of the file.
+// Returns the contents of a writer of a file of `size` bytes: the draft, or else those of the file.
 fn contents_of_writer<D: BlockDevice>(
     alloc: Global,
     tree: &mut Tree<D>,
@@ -53,7 +53,7 @@ fn contents_of_writer<D: BlockDevice>(
     }
 }
 
-// Writes bytes, at least one, by a writer. After an error the writer is of no use.
+// Writes bytes, at least one, by a writer. After an error the writer can't be used.
 pub(crate) fn write_by_writer<D: BlockDevice>(
     alloc: Global,
     tree: &mut Tree<D>,
@@ -85,7 +85,7 @@ pub(crate) fn write_by_writer<D: BlockDevice>(
     Ok(())
 }
 
-// Gives the contents of a writer another size. After an error the writer is of no use.
+// Sets the size of a writer's contents in bytes. After an error the writer can't be used.
 pub(crate) fn truncate_writer<D: BlockDevice>(
     alloc: Global,
     tree: &mut Tree<D>,
@@ -115,7 +115,7 @@ pub(crate) fn truncate_writer<D: BlockDevice>(
     Ok(())
 }
 
-// Commits the changes of a writer to the tree. After an error the writer is of no use.
+// Commits the changes of a writer to the tree. After an error the writer can't be used.
 pub(crate) fn save_writer<D: BlockDevice>(
     alloc: Global,
     tree: &mut Tree<D>,
@@ -136,7 +136,7 @@ pub(crate) fn save_writer<D: BlockDevice>(
     Ok(())
 }
 
-// Opens a writer of a file that is there, at its beginning. A recovery comes first.
+// Opens a writer of an existing file, at position 0. Recovers first.
 pub(crate) fn open_existing_file<D: BlockDevice>(
     alloc: Global,
     tree: &mut Tree<D>,
@@ -179,7 +179,8 @@ pub(crate) fn open_existing_file<D: BlockDevice>(
     })
 }
 
-// Opens a writer of an empty file, which is made. `known` is where the path leads to, if nothing is to recover.
+// Creates an empty file and opens a writer of it. `known` is the result of the path's look-up, or
+// None if a recovery has to come first.
 pub(crate) fn create_and_open<D: BlockDevice>(
     alloc: Global,
     tree: &mut Tree<D>,

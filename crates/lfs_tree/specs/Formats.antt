@@ -1,4 +1,4 @@
--- An empty file system, as it is made on a device.
+-- An empty file system, just formatted.
 use Rattle.std.specs.Prelude.{ℕ, ◌≡◌, ◌≢◌, ◌⊎◌, ◌<◌, ◌+◌, List, [], ◌∷◌, Some, None, false, codes, length}
 use Rattle.lfs_device.specs.declared.device.BlockDevice.{Ghosts}
 use Rattle.lfs_device.specs.declared.error.Error.{Error}
@@ -20,11 +20,11 @@ use Rattle.lfs_pair.specs.Writing.{HasOneCommit}
 use Rattle.lfs_thread.specs.Kept.{PairHeader, IsHeader, KeptThread}
 use Rattle.lfs_thread.specs.ThreadSteps.{ChangesThreadBlocks}
 
--- the changes that put a superblock with that struct into slot 0
+-- the changes that create slot 0 with a superblock of that struct
 abbrev pub superblock_slot_changes : List ℕ → List ContentChange
 superblock_slot_changes bytes = Create 0 superblock_name_type (codes "littlefs") ∷ PutStruct 0 inline_type bytes ∷ []
 
--- what a pair that has the superblock alone comes to
+-- the content of a pair that has only the superblock
 abbrev pub superblock_content : Disk → RawContent
 superblock_content disk = record {
   slots = record { name = Some (superblock_name_type, codes "littlefs"); struct = Some (inline_type, superblock_bytes disk.profile disk.block_size (block_count disk)); attributes = [] } ∷ [];
@@ -41,13 +41,13 @@ pub record IsRootHeader (disk : Disk) (history : List CallEvent) (h : PairHeader
   pub first : HasOneCommit 1 (superblock_content disk) (disk_block disk 0)
   pub second : has_commit (disk_block disk 1) ≡ false
 
--- there is no other header
+-- the list has one header, that of the first pair
 pub record IsRootThread (disk : Disk) (history : List CallEvent) (hs : List PairHeader) : Type 0 where
   pub first : PairHeader
   pub only : hs ≡ first ∷ []
   pub root : IsRootHeader disk history first
 
--- of so many blocks the first two are used, and the others free
+-- of `count` blocks only the first two are used
 pub record IsFormattedMap (count : ℕ) (sets : BlockStates) : Type 0 where
   pub size : length sets ≡ count
   pub used : AreUsed sets (address_blocks anchor_address)
@@ -65,24 +65,24 @@ pub record IsFormatted (t : KeptThread) : Type 0 where
   pub in_flight : AreInFlight t.map []
   pub size : length t.map ≡ block_count t.disk
 
--- An accepted image that may be written. It shows an empty root, and uses the blocks 0 and 1.
+-- An accepted image that may be written. Its root directory is empty, and it uses the blocks 0 and 1.
 pub record IsEmptyWritable (t : KeptThread) : Type 0 where
   pub accepted : IsAccepted t.disk t.pairs
   pub writable : IsWritable t.disk t.pairs
   pub view : disk_view t.disk t.pairs ≡ record { tree = empty_tree; gstate = zero_gstate; used = address_blocks anchor_address }
 
--- there were two erases, and no call failed
+-- two blocks were erased, and no device call failed
 pub record ErasesTwo (before history : List CallEvent) : Type 0 where
   pub erases : erase_count history ≡ erase_count before + 2
   pub no_fault : fault_count history ≡ fault_count before
 
--- The blocks 0 and 1 were erased, no other was written, and no call failed.
+-- The blocks 0 and 1 were erased, no other block was written, and no device call failed.
 pub record WritesFirstTwo (old new : KeptThread) : Type 0 where
   pub calls : ErasesTwo old.history new.history
   pub writes : ChangesThreadBlocks (address_blocks anchor_address) old new
 
--- An error comes with the device. No block but these was written, and none where memory was lacking. `Io` comes with a fault of
--- the device, and no other error does.
+-- The call returns the device with an error. It wrote no block but `bs`, and none if memory couldn't be allocated. The error is
+-- `Io` exactly if a device call failed.
 pub record IsFormatError {D : Type 0} (g : Ghosts D) (bs : List ℕ) (old back : D) (error : Error) : Type 0 where
   pub errors : (error ≡ Io) ⊎ (error ≡ NoMemory)
   pub writes : ChangesTheseBlocks g bs old back

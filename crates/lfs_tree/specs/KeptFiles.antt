@@ -12,7 +12,7 @@ use Rattle.lfs_model.specs.tree.Tree.{Path, Tree}
 use Rattle.lfs_model.specs.tree.Shown.{all_unmoved_slots, struct_blocks, disk_tree}
 use Rattle.lfs_thread.specs.Kept.{KeptThread}
 
--- how many blocks an operation may take: a pair may be cut for a new entry, and a directory has a pair of its own
+-- how many blocks an operation may allocate: two for a pair that is split, and two for a new directory's own pair
 abbrev pub operation_room : Operation → ℕ
 operation_room (ops.Mkdir path) = 4
 operation_room (ops.Open path flags) = 2
@@ -29,7 +29,7 @@ slot_blocks disk (Some s) = struct_blocks disk s.struct
 abbrev pub list_blocks_at : KeptThread → Path → List ℕ
 list_blocks_at t path = slot_blocks t.disk (slot_of t.pairs path)
 
--- a file is at the path still, with the struct that it had, and its list is in the same blocks, which hold what they held
+-- the path still has a file with the same struct, and its list has the same blocks, with the same bytes
 pub record KeepsFileAt (old new : KeptThread) (path : Path) : Type 0 where
   pub file : is_file (disk_tree new.disk new.pairs path) ≡ true
   pub struct : struct_at new.pairs path ≡ struct_at old.pairs path
@@ -40,6 +40,6 @@ pub record KeepsFileAt (old new : KeptThread) (path : Path) : Type 0 where
 abbrev pub KeepsListBytes : Disk → List Pair → Disk → Type 0
 KeepsListBytes disk ps new = All (λ t. All (λ b. disk_block new b ≡ disk_block disk b) (struct_blocks disk t.struct)) (all_unmoved_slots ps)
 
--- the tree's files but for the one at the path have the structs that they had
+-- the tree's files, except the one at the path, have the same structs as before
 abbrev pub KeepsOtherFiles : Tree → List Pair → Path → List Pair → Type 0
 KeepsOtherFiles tree ps path new = (q : Path) → is_file (tree q) ≡ true → same_path path q ≡ false → struct_at new q ≡ struct_at ps q

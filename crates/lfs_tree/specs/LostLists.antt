@@ -1,4 +1,4 @@
--- The skip lists of slots that are dropped. Their blocks are freed after that.
+-- The CTZ skip lists of slots that are dropped with their pairs. Their blocks are freed afterwards.
 use Rattle.std.specs.Prelude.{ℕ, ◌≤◌, ◌+◌, false, List, [], ◌∷◌, Option, Some, None}
 use Rattle.std.specs.List.{AllByRecursion, flat_map}
 use Rattle.lfs_tree.specs.SettledFiles.{stored_list_blocks}
@@ -34,7 +34,7 @@ raw_slots_lists slots = flat_map (λ s. raw_struct_lists s.struct) slots
 abbrev pub blocks_of_lists : KeptThread → List StoredList → List ℕ
 blocks_of_lists t lists = flat_map (stored_list_blocks t) lists
 
--- The image hasn't the files of these lists any more. The lists are on the disk, and their blocks are still used.
+-- The image no longer has the files of these lists. The lists are still on the disk, and their blocks still marked as used.
 pub record CanFreeLists (t : KeptThread) (lists : List StoredList) : Type 0 where
   pub ready : IsReadyUnsettled t (blocks_of_lists t lists) []
   pub once : (b : ℕ) → number_occurrences b (used_blocks t.disk t.pairs) + number_occurrences b (blocks_of_lists t lists) ≤ 1

@@ -1,4 +1,4 @@
--- An entry that gets another name, or comes into another directory.
+-- An entry that is renamed, or moved into another directory.
 use Rattle.std.specs.Prelude.{ℕ, ◌≡◌, ◌⊎◌, ◌<◌, ◌≤◌, ◌+◌, Bool, true, false, List, [], ◌∷◌, ◌++◌, length, None, Result, IfErr, IsErrOf, OnOk}
 use Rattle.lfs_device.specs.declared.error.Error.{Error}
 use Rattle.lfs_device.specs.declared.error.Error.TheVariants.{Io, NoMemory}
@@ -39,13 +39,13 @@ IsFoundSource (found.Directory parent slot first) source = source ≡ record { s
 IsFoundSource (found.File parent slot contents) source = source ≡ record { slot = slot; first = parent }
 IsFoundSource _ source = ⊥
 
--- the path's slot is there, in the directory that begins with the pair of that number
+-- `source` has the slot of the path, and the index of its directory's first pair
 pub record IsSourceAt (ps : List Pair) (path : Path) (source : RenameSource) : Type 0 where
   pub slot : IsPathSpot ps path source.slot
   pub first_is : slot.first ≡ source.first
 
--- The image may be changed, and two blocks are free. The entry at the one path is in the slot, and may be written under the name.
--- That name is its last one at the other path, which isn't beneath it.
+-- The image may be changed, and two blocks are free. `source` has the slot of the entry at `from`, which may be renamed to
+-- `name`, the last name of `to`. `to` isn't beneath `from`.
 pub record CanMoveEntry (t : KeptThread) (from to : Path) (source : RenameSource) (name : Name) : Type 0 where
   pub old : CanEditIn t source.slot.pair source.slot.id
   pub old_is : from ≡ old.path ++ old.name ∷ []
@@ -59,18 +59,18 @@ pub record CanMoveEntry (t : KeptThread) (from to : Path) (source : RenameSource
   pub logged : (at : ℕ × ℕ) → IsRawFormed t.disk at
   pub room : HasFreeBlocks 2 t.map
 
--- the name goes to the place: it is new, or with `replaces` a file's
+-- the slot at `place` is where the new name belongs or, with `replaces`, the replaced file's
 pub record CanMoveTo (replaces : Bool) (t : KeptThread) (from to : Path) (source : RenameSource) (place : SlotPosition) (name : Name) : Type 0 where
   pub can : CanMoveEntry t from to source name
   pub gone : List ℕ
   pub target : IsTargetPlace replaces false t can.first name place.pair place.id gone
 
--- a file with these contents is at the other path
+-- `to` has a file with these contents
 pub record CanMoveOntoFile (t : KeptThread) (from to : Path) (source : RenameSource) (slot : SlotPosition) (contents : FileStorage) (name : Name) : Type 0 where
   pub onto : CanMoveTo true t from to source slot name
   pub shows : IsStorage contents onto.target.there.stands.slot.struct
 
--- a directory without entries is at the other path; its only pair is the one of number `gone`
+-- `to` has a directory without entries; its only pair is the one of index `gone`
 pub record CanMoveOntoDirectory (t : KeptThread) (from to : Path) (source : RenameSource) (slot : SlotPosition) (gone : ℕ) (name : Name) : Type 0 where
   pub can : CanMoveEntry t from to source name
   pub target : IsPlaceOf t.pairs can.first name slot.pair slot.id
@@ -81,21 +81,21 @@ pub record CanMoveOntoDirectory (t : KeptThread) (from to : Path) (source : Rena
   pub empty : (thread_pair t gone).content.slots ≡ []
   pub alone : is_hard_tail (thread_pair t gone).content.tail ≡ false
 
--- nothing is found at the other path, a file, or a directory without entries
+-- `to` has no entry, a file, or a directory without entries
 abbrev pub CanMoveOntoFound : KeptThread → Path → Path → RenameSource → PathLookup → Name → Type 0
 CanMoveOntoFound t from to source (found.Nothing parent place) name = CanMoveTo false t from to source place name
 CanMoveOntoFound t from to source (found.File parent slot contents) name = CanMoveOntoFile t from to source slot contents name
 CanMoveOntoFound t from to source (found.Directory parent slot first) name = CanMoveOntoDirectory t from to source slot first name
 CanMoveOntoFound t from to source _ name = ⊥
 
--- ---- what comes of it
+-- ---- results
 
--- the rename left alone the blocks of files and of pairs that it doesn't concern
+-- the rename didn't change the blocks of files and of pairs that it doesn't concern
 abbrev pub SparesInRename : KeptThread → Path → Path → KeptThread → Type 0
 SparesInRename old from to new = (s : Session) (given to_given : List ℕ) → path_or_root given ≡ from → path_or_root to_given ≡ to → KeepsOthers old.disk old.pairs s (ops.Rename given to_given) new.disk new.pairs
 
--- The tree has the entry at the other path, the other slots are where they should be, and the blocks are the image's again. So a
--- rename of the one path to the other is completed. The root directory begins where it did.
+-- The rename of `from` to `to` is complete: the tree has the entry at `to`, the other slots are in the right pairs, and the
+-- map's used blocks are the image's. The root directory begins with the same pair.
 pub record HasMovedEntry (old : KeptThread) (from to : Path) (new : KeptThread) : Type 0 where
   pub ready : IsReadyImage new
   pub flying : SameInFlight old.map new.map
@@ -104,7 +104,7 @@ pub record HasMovedEntry (old : KeptThread) (from to : Path) (new : KeptThread) 
       → CompletesOperation old.disk old.pairs s (ops.Rename given to_given) new.disk new.pairs
   pub alone : SparesInRename old from to new
 
--- The same, but the blocks `gone` of a replaced file's list are still used.
+-- The same, but the blocks `gone` of a replaced file's list are still marked as used.
 pub record HasMovedTo (old : KeptThread) (from to : Path) (gone : List ℕ) (new : KeptThread) : Type 0 where
   pub ready : IsReadyUnsettled new gone []
   pub once : (b : ℕ) → number_occurrences b (used_blocks new.disk new.pairs) + number_occurrences b gone ≤ 1
@@ -115,7 +115,7 @@ pub record HasMovedTo (old : KeptThread) (from to : Path) (gone : List ℕ) (new
       → CompletesOperation old.disk old.pairs s (ops.Rename given to_given) new.disk new.pairs
   pub alone : SparesInRename old from to new
 
--- `Io` comes with a fault of the device, and any other result with none; where there is no error the thread works
+-- the result is `Io` exactly if a device call failed; without an error the thread hasn't failed
 pub record ThreadWorksOrReports {X : Type 0} (old new : ThreadView) (result : Result X Error) : Type 0 where
   pub works : OnOk result (new.failed ≡ false)
   pub errors : IfErr result (λ e. (e ≡ Io) ⊎ (e ≡ NoMemory))

@@ -1,4 +1,4 @@
--- The contents of a file that is open for writing, beside the image.
+-- The contents of a file that is open for writing, whose blocks aren't yet part of the image.
 use Rattle.std.specs.Prelude.{ℕ, ◌≡◌, ◌≢◌, ◌+◌, ◌^◌, ◌<◌, ◌≤◌, ◌⊎◌, true, false, max, List, [], ◌∷◌, ◌++◌, length, Contains, Result, IfErr, OnErr, OnOk}
 use Rattle.lfs_device.specs.declared.error.Error.{Error}
 use Rattle.lfs_model.specs.session.TreeEdits.{tree_with_change, is_file, same_path}
@@ -40,7 +40,8 @@ pub record HasBytesInForm (t : TreeState) (these : List ℕ) (shape : ContentsFo
   pub bytes : writer_contents_bytes (kept_thread t) contents ≡ these
   pub form : contents_form contents ≡ shape
 
--- These are the contents of an open writer over the file at the path. They are on the disk, and their used blocks are the file's.
+-- The contents of a writer of the file at the path: they are on the disk, and those of their blocks that are used are the
+-- file's.
 pub record AreThreadContents (t : KeptThread) (path : Path) (contents : WriterContents) : Type 0 where
   pub file : is_file (disk_tree t.disk t.pairs path) ≡ true
   pub stands : AreOnThread t contents
@@ -49,9 +50,9 @@ pub record AreThreadContents (t : KeptThread) (path : Path) (contents : WriterCo
 abbrev pub AreTreeContents : TreeState → Path → WriterContents → Type 0
 AreTreeContents t path contents = AreThreadContents (kept_thread t) path contents
 
--- ---- what is asked for
+-- ---- premises of calls
 
--- nothing is to recover or in flight, and a file is there
+-- nothing is to recover or in flight, and the path has a file
 pub record CanOpenWriterOf (t : TreeState) (path : Path) : Type 0 where
   pub works : t.failed ≡ false
   pub writable : t.writable ≡ true
@@ -59,8 +60,8 @@ pub record CanOpenWriterOf (t : TreeState) (path : Path) : Type 0 where
   pub idle : in_flight_count t.map ≡ 0
   pub file : is_file (shown_tree t path) ≡ true
 
--- So many bytes, at least one, may be written there. Past the inline limit there is room for the blocks in flight that this
--- takes.
+-- `count` bytes, at least one, may be written at offset `place`. If the contents then exceed the inline limit, enough blocks
+-- are free for them.
 pub record CanWriteIn (t : TreeState) (contents : WriterContents) (place count : ℕ) : Type 0 where
   pub works : t.failed ≡ false
   pub stands : AreOnThread (kept_thread t) contents
@@ -70,7 +71,7 @@ pub record CanWriteIn (t : TreeState) (contents : WriterContents) (place count :
   pub room : inline_limit t.disk.profile t.disk.block_size < max (form_size (contents_form contents)) (place + count)
       → length (tree_summary t).used + write_room t.disk.block_size place count (contents_form contents) ≤ block_count t.disk
 
--- They may be cut or filled up to that size. Where blocks are wanted, there is room for them.
+-- The contents may be truncated or extended to `size` bytes. Enough blocks are free, if any are needed.
 pub record CanTruncateIn (t : TreeState) (contents : WriterContents) (size : ℕ) : Type 0 where
   pub works : t.failed ≡ false
   pub stands : AreOnThread (kept_thread t) contents
@@ -79,13 +80,14 @@ pub record CanTruncateIn (t : TreeState) (contents : WriterContents) (size : ℕ
   pub room : NeedsTruncateRoom (inline_limit t.disk.profile t.disk.block_size) size (contents_form contents)
       → length (tree_summary t).used + truncation_room t.disk.block_size size (contents_form contents) ≤ block_count t.disk
 
--- contents are in memory exactly where they are at most the limit
+-- contents are in memory exactly if they are at most the limit
 abbrev pub InlineWithinLimit : ℕ → ContentsForm → Type 0
 InlineWithinLimit limit (form.InMemory size) = size ≤ limit
 InlineWithinLimit limit (form.Finished size flying) = limit < size
 InlineWithinLimit limit (form.InHand stop base flying) = limit < max stop base
 
--- The file at the path may get these contents: there is room for what is still to be written of them, and then for two blocks.
+-- The contents may be committed to the file at the path: enough blocks are free to finish their list, and two more for the
+-- commit.
 pub record CanStoreContentsIn (t : TreeState) (path : Path) (contents : WriterContents) : Type 0 where
   pub works : t.failed ≡ false
   pub writable : t.writable ≡ true
@@ -98,13 +100,13 @@ pub record CanStoreContentsIn (t : TreeState) (path : Path) (contents : WriterCo
 abbrev pub CanStoreContents : TreeState → Path → WriterContents → Type 0
 CanStoreContents t path contents = CanStoreContentsIn (without_cache t) path contents
 
--- ---- what comes of it
+-- ---- results of calls
 
--- contents of so many bytes as they are opened: in memory where they are inline in the file's entry, else as its list
+-- the form of contents of `size` bytes when a writer opens them: in memory if the file is inline, otherwise its list
 abbrev pub IsOpenedForm : Profile → ℕ → ℕ → ContentsForm → Type 0
 IsOpenedForm profile block_size size shape = ((shape ≡ form.InMemory size) × (size ≤ inline_limit profile block_size)) ⊎ (shape ≡ form.Finished size false)
 
--- Only blocks were written that the image doesn't use: it shows what it showed, in the same pairs. Each list is in the same blocks.
+-- The call wrote only blocks that the image doesn't use, so the image has the same pairs, tree and lists as before.
 pub record KeepsImage (old new : TreeState) : Type 0 where
   pub works : new.failed ≡ false
   pub sound : IsSoundState new
@@ -119,30 +121,30 @@ pub record KeepsImage (old new : TreeState) : Type 0 where
   pub called : new.history ≡ calls ++ old.history
   pub no_fault : fault_count new.history ≡ fault_count old.history
 
--- What a call promises that changes a writer's contents and leaves the image. A loss of power during the call leaves the image,
--- too.
+-- The promises of a call that changes a writer's contents, but not the image. A power loss during the call leaves the image as
+-- it is, too.
 pub record WritesUnusedOrFails {X : Type 0} (old : TreeState) (result : Result X Error) (new : TreeState) : Type 0 where
   pub beside : OnOk result (KeepsImage old new)
   pub broken : OnErr result (IsFailedTree old new)
   pub errors : IfErr result (HasErrorCause old new)
   pub survives : old.writable ≡ true → SurvivesStops old new (shown_tree old)
 
--- Slots are where the operation on such a writer puts them.
+-- The slots are in the pairs to which the operation on a writer with these bytes moves them.
 abbrev pub IsWriterLayoutRecovered : TreeState → Path → List ℕ → (ℕ → Operation) → TreeState → Type 0
 IsWriterLayoutRecovered old path bytes op new = (files : OpenFilesByNumber) (fd : ℕ) (writer : FileWriter) → IsDirtyWriter (record { tree = shown_tree old; files = files }) fd path bytes writer
     → IsLayoutRecovered old.disk old.pairs (record { tree = shown_tree old; files = files }) (op fd) new.disk new.pairs
 
--- The same, and then a worn pair may have moved, by these calls.
+-- The same, and then a worn pair may have been relocated, by these device calls.
 abbrev pub IsWriterLayoutMoved : TreeState → Path → List ℕ → (ℕ → Operation) → List CallEvent → TreeState → Type 0
 IsWriterLayoutMoved old path bytes op calls new = old.history ≢ [] → (files : OpenFilesByNumber) (fd : ℕ) (writer : FileWriter) → IsDirtyWriter (record { tree = shown_tree old; files = files }) fd path bytes writer
     → IsLayoutMoved old.disk old.pairs (record { tree = shown_tree old; files = files }) (op fd) calls new.disk new.pairs
 
--- the operation is about that path, as a sync or a close of its writer
+-- the operation concerns only that path, as a sync or a close of its writer does
 abbrev pub ConcernsOnlyPath : Session → Operation → Path → Type 0
 ConcernsOnlyPath s op path = changed_paths s op ≡ path ∷ []
 
--- The file at the path has these bytes, without a fault of the device, and nothing is in flight any more. Other pairs and all
--- lists keep their bytes.
+-- The bytes were committed to the file at the path. No device call failed, and no block is in flight. Other pairs and all lists
+-- keep their bytes.
 pub record HasStoredBytes (old : TreeState) (path : Path) (bytes : List ℕ) (new : TreeState) : Type 0 where
   pub works : new.failed ≡ false
   pub sound : IsSoundState new

@@ -1,4 +1,4 @@
--- What a file gives a writer that opens it.
+-- The contents of a file for a writer that opens it.
 use Rattle.std.specs.Prelude.{All, false}
 use Rattle.lfs_model.specs.layers.BlockSets.{IsFree}
 use Rattle.lfs_model.specs.format.Slots.{Slot, Struct}
@@ -16,7 +16,7 @@ use Rattle.lfs_file.specs.Form.{ContentsForm}
 use Rattle.lfs_file.specs.BlockOwners.{AreUsedAmong}
 use Rattle.lfs_file.specs.declared.contents.WriterContents.{WriterContents}
 
--- a file's slot is there, no block is in flight, and the blocks of the file's list aren't free
+-- `slot` is a file's slot `held`, no block is in flight, and the blocks of the file's list aren't free
 pub record CanOpenSlot (t : KeptThread) (slot : SlotPosition) (contents : FileStorage) (held : Slot) : Type 0 where
   pub file : IsFileAt t slot contents held
   pub idle : NoneInFlight t.map t.disk.blocks
@@ -26,7 +26,7 @@ abbrev pub opened_form : FileStorage → ContentsForm
 opened_form (entry.Inline len) = form.InMemory len
 opened_form (entry.List head size) = form.Finished size false
 
--- a writer has the bytes of the struct, in memory or as the file's list
+-- the writer's contents are the struct's bytes, in memory or as the file's list
 pub record AreOpenedContents (t : KeptThread) (struct : Struct) (shape : ContentsForm) (contents : WriterContents) : Type 0 where
   pub holds : HaveThreadForm t contents (struct_file_bytes t.disk struct) shape
   pub owned : AreUsedAmong t.map (struct_blocks t.disk struct) (contents_list_blocks t contents)

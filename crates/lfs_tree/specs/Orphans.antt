@@ -1,4 +1,4 @@
--- The pairs that a path leads to, by marks.
+-- Marks of the pairs that a path leads to.
 use Rattle.std.specs.Prelude.{ℕ, ◌≡◌, ◌⊎◌, ◌+◌, ◌≤◌, Bool, true, if◌then◌else◌, List, [], ◌∷◌, length, slice_get, Some, Contains}
 use Rattle.std.specs.List.{AllByRecursion}
 use Rattle.lfs_model.specs.session.InDirectory.{IsPairAt}
@@ -12,12 +12,12 @@ use Rattle.lfs_lookup.specs.TreeWalk.{HasFirstIfDirectory}
 abbrev pub IsMarkedReached : List Bool → ℕ → Type 0
 IsMarkedReached marks n = slice_get marks n ≡ Some true
 
--- how many aren't
+-- how many marks aren't set
 abbrev pub unmarked_count : List Bool → ℕ
 unmarked_count [] = 0
 unmarked_count (b ∷ marks) = (if b then 0 else 1) + unmarked_count marks
 
--- the pair of the number is the first of the directory that the struct names
+-- the pair of this index is the first one of the directory that the struct names
 abbrev pub IsStructPair : List Pair → Struct → ℕ → Type 0
 IsStructPair ps (Branch to) n = IsPairAt ps to n
 IsStructPair ps (Inline bytes) n = ⊥
@@ -26,11 +26,11 @@ IsStructPair ps (Ctz head size) n = ⊥
 abbrev pub IsNamedPair : List Pair → List NamedStruct → ℕ → Type 0
 IsNamedPair ps shapes n = AnyByRecursion (λ (s : NamedStruct). IsStructPair ps s.struct n) shapes
 
--- the directories that are named begin with pairs of the thread
+-- the named directories begin with pairs of the thread
 abbrev pub DirectoriesBegin : List Pair → List NamedStruct → Type 0
 DirectoriesBegin ps shapes = AllByRecursion (λ (s : NamedStruct). HasFirstIfDirectory ps s.struct) shapes
 
--- The numbers that have P are marked now, and those of them that weren't before are pending.
+-- The pair indices that meet `P` are marked now, and those of them that weren't marked before are queued in `pending`.
 pub record MarksAndQueues (P : ℕ → Type 0) (old : List Bool) (waiting : List ℕ) (new : List Bool) (pending : List ℕ) : Type 0 where
   pub len : length new ≡ length old
   pub stay : (n : ℕ) → IsMarkedReached old n → IsMarkedReached new n
@@ -40,7 +40,7 @@ pub record MarksAndQueues (P : ℕ → Type 0) (old : List Bool) (waiting : List
   pub pend : (n : ℕ) → Contains pending n → Contains waiting n ⊎ IsMarkedReached new n
   pub less : unmarked_count new + length pending ≤ unmarked_count old + length waiting
 
--- a path leads to a pair, as the first of its directory, exactly where it is marked
+-- a pair is marked exactly if it is the first one of a directory that a path leads to
 pub record AreReachedMarked (ps : List Pair) (marks : List Bool) : Type 0 where
   pub len : length marks ≡ length ps
   pub marked : (n : ℕ) (p : Pair) → slice_get ps n ≡ Some p → IsReachedBySome ps p.at → IsMarkedReached marks n

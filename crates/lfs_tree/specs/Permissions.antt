@@ -1,4 +1,4 @@
--- What an operation's checks have shown before it is applied.
+-- The premises of an operation, which its checks have shown.
 use Rattle.std.specs.Prelude.{ℕ, ◌≡◌, ◌+◌, ◌≤◌, true, false, not, ◌&&◌, List, [], length, nat_lt, None, is_none, is_some}
 use Rattle.lfs_model.specs.session.TreeEdits.{node_attributes_of, is_beneath, is_directory, is_file, last_name, directory_names, same_path}
 use Rattle.lfs_model.specs.layers.BlockSets.{in_flight_count}
@@ -9,11 +9,11 @@ use Rattle.lfs_model.specs.session.Refusals.{is_root_path}
 use Rattle.lfs_model.specs.tree.Tree.{Path}
 use Rattle.lfs_tree.specs.TreeState.{TreeState, tree_summary, without_cache, shown_tree}
 
--- so many blocks are free: neither the image's nor in flight
+-- `need` blocks are free: neither used by the image nor in flight
 abbrev pub HasNeededBlocks : TreeState → ℕ → Type 0
 HasNeededBlocks t need = length (tree_summary t).used + in_flight_count t.map + need ≤ block_count t.disk
 
--- nothing is at the path, and an entry may be made there that takes so many blocks
+-- the path has no entry, and one may be made there that needs `need` free blocks
 pub record CanAddIn (t : TreeState) (path : Path) (need : ℕ) : Type 0 where
   pub works : t.failed ≡ false
   pub writable : t.writable ≡ true
@@ -26,15 +26,15 @@ pub record CanAddIn (t : TreeState) (path : Path) (need : ℕ) : Type 0 where
 abbrev pub CanAddEntry : TreeState → Path → ℕ → Type 0
 CanAddEntry t path need = CanAddIn (without_cache t) path need
 
--- a directory may be made there
+-- a directory may be made at the path
 abbrev pub CanMakeDirectory : TreeState → Path → Type 0
 CanMakeDirectory t path = CanAddEntry t path 4
 
--- a file may be made there
+-- a file may be created at the path
 abbrev pub CanCreateFile : TreeState → Path → Type 0
 CanCreateFile t path = CanAddEntry t path 2
 
--- a file or a directory without entries is there
+-- the path has a file, or a directory without entries
 pub record CanRemoveEntryIn (t : TreeState) (path : Path) : Type 0 where
   pub works : t.failed ≡ false
   pub writable : t.writable ≡ true
@@ -46,7 +46,7 @@ pub record CanRemoveEntryIn (t : TreeState) (path : Path) : Type 0 where
 abbrev pub CanRemoveEntry : TreeState → Path → Type 0
 CanRemoveEntry t path = CanRemoveEntryIn (without_cache t) path
 
--- an entry is there that takes the attribute
+-- the path has an entry, to which the attribute may be added
 pub record CanSetAttrIn (t : TreeState) (path : Path) (kind : ℕ) (bytes : List ℕ) : Type 0 where
   pub works : t.failed ≡ false
   pub writable : t.writable ≡ true
@@ -60,7 +60,7 @@ pub record CanSetAttrIn (t : TreeState) (path : Path) (kind : ℕ) (bytes : List
 abbrev pub CanSetAttr : TreeState → Path → ℕ → List ℕ → Type 0
 CanSetAttr t path kind bytes = CanSetAttrIn (without_cache t) path kind bytes
 
--- an entry is there that has the attribute
+-- the path has an entry with the attribute
 pub record CanRemoveAttrIn (t : TreeState) (path : Path) (kind : ℕ) : Type 0 where
   pub works : t.failed ≡ false
   pub writable : t.writable ≡ true
@@ -72,7 +72,7 @@ pub record CanRemoveAttrIn (t : TreeState) (path : Path) (kind : ℕ) : Type 0 w
 abbrev pub CanRemoveAttr : TreeState → Path → ℕ → Type 0
 CanRemoveAttr t path kind = CanRemoveAttrIn (without_cache t) path kind
 
--- the entry at the one path may be at the other, in place of the one there
+-- the entry at `from` may be renamed to `to`, and replaces what is there
 pub record CanRenameIn (t : TreeState) (from to : Path) : Type 0 where
   pub works : t.failed ≡ false
   pub writable : t.writable ≡ true

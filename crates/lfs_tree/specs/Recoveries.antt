@@ -1,4 +1,4 @@
--- What a recovery does to a thread.
+-- The effect of a recovery on a thread.
 use Rattle.std.specs.Prelude.{ℕ, ◌≡◌, ◌≤◌, true, false, length}
 use Rattle.lfs_model.specs.session.TreeEdits.{is_file}
 use Rattle.lfs_model.specs.layers.BlockSets.{AreUsed}
@@ -20,7 +20,7 @@ use Rattle.lfs_tree.specs.RootedThreads.{uncached_state}
 use Rattle.lfs_tree.specs.KeptFiles.{KeepsFileAt}
 use Rattle.lfs_tree.specs.TreeState.{KeepsInFlight}
 
--- The image is accepted and may be written, and no move is set; the map knows each of its blocks.
+-- The image is accepted and may be written, no move is pending, and the map's used blocks are the image's.
 pub record CanDropUnreached (t : KeptThread) : Type 0 where
   pub accepted : IsAccepted t.disk t.pairs
   pub writable : IsWritable t.disk t.pairs
@@ -28,8 +28,8 @@ pub record CanDropUnreached (t : KeptThread) : Type 0 where
   pub size : length t.map ≡ block_count t.disk
   pub none : HasNoMove (pairs_gstate t.pairs)
 
--- Nothing is left to recover, the tree and the files' lists are as they were, the root directory begins where it did, and no block
--- has come into use.
+-- Nothing is left to recover, the tree and the files' lists are as they were, the root directory begins with the same pair, and
+-- no further block is used.
 pub record HasDroppedUnreached (old new : KeptThread) : Type 0 where
   pub ready : IsReadyImage new
   pub root : KeepsRootNumber old new
@@ -39,9 +39,9 @@ pub record HasDroppedUnreached (old new : KeptThread) : Type 0 where
   pub keeps : (path : Path) → is_file (disk_tree old.disk old.pairs path) ≡ true → KeepsFileAt old new path
   pub flight : KeepsInFlight (uncached_state old true false) (uncached_state new true false)
 
--- What a loss of power left is ended, without a fault of the device. Slots that are laid out after a further recovery are laid
--- out after one of the old image, and no more blocks are used. So an operation on the new image is one on the old. Where nothing
--- was left, no call was made.
+-- The recovery is complete, and no device call failed. Slots that are laid out as after a further recovery are so as after one
+-- of the old image, and no more blocks are used. So an operation on the new image is one on the old. If nothing was to recover,
+-- no device call was made.
 pub record HasRecovered (old new : KeptThread) : Type 0 where
   pub carries : AppliesOperation old ops.Recover new
   pub leads_on : KeepsRecoveryLayouts old new

@@ -26,14 +26,14 @@ use Rattle.lfs_lookup.specs.declared.search.SlotPosition.{SlotPosition}
 use Rattle.lfs_file.specs.Bases.{IsListOrEmpty}
 use Rattle.lfs_tree.specs.Stores.{list_in_storage}
 
--- an entry is found for the path
+-- `found` is the result of the path's look-up, and an entry
 pub record IsFoundAt (order : NameOrder) (ps : List Pair) (path : Path) (found : PathLookup) : Type 0 where
   pub ends : IsPathEntry order ps path found
   pub has : is_entry_found found ≡ true
 
 -- ---- the list of a file
 
--- The image hasn't the file of these contents any more; the blocks of its list are still used.
+-- The image no longer has the file of these contents; the blocks of its list are still marked as used.
 pub record CanFreeList (t : KeptThread) (contents : FileStorage) : Type 0 where
   pub gone : List ℕ
   pub ready : IsReadyUnsettled t gone []
@@ -41,9 +41,9 @@ pub record CanFreeList (t : KeptThread) (contents : FileStorage) : Type 0 where
   pub list : IsListOrEmpty t.disk.blocks t.disk.block_size (list_in_storage contents).head (list_in_storage contents).size
   pub are : stored_list_blocks t (list_in_storage contents) ≡ gone
 
--- ---- what may go
+-- ---- what may be removed
 
--- the file at the path, in the directory that begins with the pair of number `parent`
+-- the file at the path, in the directory that begins with the pair of index `parent`
 pub record CanRemoveFile (t : KeptThread) (path : Path) (parent : ℕ) (slot : SlotPosition) (contents : FileStorage) : Type 0 where
   pub take : CanRemoveIn t slot.pair slot.id parent
   pub is : path ≡ take.can.path ++ take.can.name ∷ []
@@ -59,10 +59,10 @@ CanRemoveFound t path (found.File parent slot contents) = CanRemoveFile t path p
 CanRemoveFound t path (found.Directory parent slot first) = CanRemoveEmpty t path parent slot first
 CanRemoveFound t path _ = ⊥
 
--- ---- what comes of it
+-- ---- results
 
--- The tree hasn't the entry, the other slots are where they should be, and the blocks of the entry are free. So a remove of its
--- path is completed. The root directory begins where it did.
+-- The removal of the path is complete: the tree no longer has the entry, the other slots are in the right pairs, and the
+-- entry's blocks are free. The root directory begins with the same pair.
 pub record HasRemovedEntry (old : KeptThread) (path : Path) (new : KeptThread) : Type 0 where
   pub ready : IsReadyImage new
   pub flying : SameInFlight old.map new.map
@@ -70,6 +70,6 @@ pub record HasRemovedEntry (old : KeptThread) (path : Path) (new : KeptThread) :
   pub completed : (s : Session) (given : List ℕ) → s.tree ≡ disk_tree old.disk old.pairs → path_or_root given ≡ path
       → CompletesOperation old.disk old.pairs s (ops.Remove given) new.disk new.pairs
 
--- the removal left alone the blocks of files and of pairs that it doesn't concern
+-- the removal didn't change the blocks of files and of pairs that it doesn't concern
 abbrev pub SparesInRemoval : KeptThread → Path → KeptThread → Type 0
 SparesInRemoval old path new = (s : Session) (given : List ℕ) → path_or_root given ≡ path → KeepsOthers old.disk old.pairs s (ops.Remove given) new.disk new.pairs

@@ -1,4 +1,4 @@
--- What is found at the two paths of a rename.
+-- The look-ups of a rename's two paths.
 use Rattle.std.specs.Prelude.{◌≡◌, List, [], ◌∷◌, ◌++◌}
 use Rattle.lfs_model.specs.crash.Frame.{ancestor_paths}
 use Rattle.lfs_model.specs.format.Slots.{zero_gstate}
@@ -16,7 +16,7 @@ use Rattle.lfs_thread.specs.Kept.{KeptThread}
 use Rattle.lfs_tree.specs.declared.rename_paths.RenameFindings.{RenameFindings}
 use Rattle.lfs_tree.specs.declared.rename_paths.RenameTargets.{RenameTargets}
 
--- what was found, but for where a name belongs and in which directory it is
+-- the result of a look-up without the directory, and without the slot of a missing name
 abbrev pub lookup_without_parent : PathLookup → VisiblePathLookup
 lookup_without_parent found.Root = shown.Root
 lookup_without_parent (found.Directory parent slot first) = shown.Directory slot first
@@ -25,17 +25,17 @@ lookup_without_parent (found.Nothing parent place) = shown.Nothing
 lookup_without_parent found.ParentIsFile = shown.ParentIsFile
 lookup_without_parent found.ParentIsMissing = shown.ParentIsMissing
 
--- the directories that are searched for the two: those above the old path, twice, those above the new one, and the one at it
+-- the directories that both look-ups search: those above the old path, twice, those above the new one, and the one at it
 abbrev pub rename_parents : Path → Path → List Path
 rename_parents from to = ancestor_paths from ++ (ancestor_paths from ++ (ancestor_paths to ++ to ∷ []))
 
--- the image has nothing to recover, and the two paths lead there
+-- the image has nothing to recover, and these are the results of the two look-ups
 pub record AreRenameResults (t : KeptThread) (from to : Path) (targets : RenameTargets) : Type 0 where
   pub settled : pairs_gstate t.pairs ≡ zero_gstate
   pub entry : LeadsToResult t from targets.entry
   pub target : LeadsToResult t to targets.target
 
--- what is at the old path and at the new one, and how many bytes the attributes at the old one take
+-- the nodes at the old and the new path, and how many bytes the attributes at the old one use
 pub record AreRenameFindings (t : Tree) (from to : Path) (r : RenameFindings) : Type 0 where
   pub entry : IsFoundNode t from r.entry
   pub target : IsFoundNode t to r.target.finding

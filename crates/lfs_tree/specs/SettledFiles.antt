@@ -1,4 +1,4 @@
--- A list that a commit names, in place of another.
+-- A list that a commit names, and the list that it replaces.
 use Rattle.std.specs.Prelude.{ℕ, ◌≡◌, ◌++◌, List, length, Contains}
 use Rattle.lfs_model.specs.format.Disk.{block_count}
 use Rattle.lfs_model.specs.session.History.{OnlyReadsSince}
@@ -11,7 +11,7 @@ use Rattle.lfs_file.specs.declared.stored_list.StoredList.{StoredList}
 abbrev pub stored_list_blocks : KeptThread → StoredList → List ℕ
 stored_list_blocks t s = blocks_of_list t.disk.blocks t.disk.block_size s.head s.size
 
--- Both lists are on the disk, or have no block. No block of theirs is a pair's, and those that both have are used.
+-- Both lists are on the disk, or empty. None of their blocks is a pair's, and those that they share are used.
 pub record CanSettleLists (t : KeptThread) (before stored : StoredList) : Type 0 where
   pub was : IsListOrEmpty t.disk.blocks t.disk.block_size before.head before.size
   pub list : IsListOrEmpty t.disk.blocks t.disk.block_size stored.head stored.size
@@ -19,7 +19,7 @@ pub record CanSettleLists (t : KeptThread) (before stored : StoredList) : Type 0
   pub apart : (b : ℕ) → Contains (pairs_blocks t.pairs) b → ¬ (Contains (stored_list_blocks t before ++ stored_list_blocks t stored) b)
   pub shared : AreSharedUsed t.map (stored_list_blocks t before) (stored_list_blocks t stored)
 
--- nothing was written, and the pairs are the same
+-- only the map has changed
 pub record ChangesOnlyMap (old new : KeptThread) : Type 0 where
   pub disk : new.disk ≡ old.disk
   pub reads : OnlyReadsSince old.disk.blocks old.history new.history

@@ -12,13 +12,13 @@ use Rattle.lfs_lookup.specs.declared.paths.PathLookup.{PathLookup}
 use Rattle.lfs_lookup.specs.declared.paths.PathLookup.TheVariants as found
 use Rattle.lfs_lookup.specs.declared.search.SlotPosition.{SlotPosition}
 
--- an entry is at the path
+-- the path has an entry
 pub record HasPathEntry (t : Tree) (path : Path) : Type 0 where
   pub entry : is_root_path path ≡ false
   pub parents : parents_refusal t [] path ≡ None
   pub something : is_none (t path) ≡ false
 
--- the last name of the path is at the spot, in the slot of the path
+-- `spot` is the slot of the path, which has the path's last name
 pub record IsPathSpot (ps : List Pair) (path : Path) (spot : SlotPosition) : Type 0 where
   pub above : Path
   pub name : Name
@@ -26,7 +26,7 @@ pub record IsPathSpot (ps : List Pair) (path : Path) (spot : SlotPosition) : Typ
   pub is : path ≡ above ++ name ∷ []
   pub stands : IsSlotBelow ps above name first spot
 
--- an entry is found
+-- the look-up found an entry
 abbrev pub is_entry_found : PathLookup → Bool
 is_entry_found (found.Directory parent slot first) = true
 is_entry_found (found.File parent slot contents) = true
@@ -37,6 +37,6 @@ IsFoundSpot (found.Directory parent slot first) spot = slot ≡ spot
 IsFoundSpot (found.File parent slot contents) spot = slot ≡ spot
 IsFoundSpot _ spot = ⊥
 
--- the tree with other attributes there
+-- the tree with changed attributes of the entry at the path
 abbrev pub tree_with_attributes : Path → (Attributes → Attributes) → Tree → Tree
 tree_with_attributes path f t = tree_with_change path (λ n. with_attributes (f (node_attributes_of (Some n))) n) t

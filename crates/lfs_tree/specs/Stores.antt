@@ -1,4 +1,4 @@
--- A file that gets the contents of a writer.
+-- The commit of a writer's contents to its file.
 use Rattle.std.specs.Prelude.{Contains, ℕ, ◌≡◌, ◌≢◌, ◌+◌, ◌≤◌, Bool, true, false, List, [], ◌<◌, length, None}
 use Rattle.lfs_model.specs.session.TreeEdits.{tree_with_change}
 use Rattle.lfs_model.specs.layers.BlockSets.{in_flight_count, used_count}
@@ -39,11 +39,11 @@ use Rattle.lfs_file.specs.declared.contents.WriterContents.{WriterContents}
 use Rattle.lfs_file.specs.declared.contents.WriterContents.TheVariants.{InMemory, Finished, InHand}
 use Rattle.lfs_file.specs.declared.stored_list.StoredList.{StoredList}
 
--- a list of no bytes, which has no block
+-- the empty list, which has no block
 abbrev pub empty_list : StoredList
 empty_list = record { head = 0; size = 0; in_flight = false }
 
--- the list that an entry names, or none
+-- the list that an entry names, or the empty one
 abbrev pub list_in_storage : FileStorage → StoredList
 list_in_storage (entry.Inline len) = empty_list
 list_in_storage (entry.List head size) = record { head = head; size = size; in_flight = false }
@@ -53,7 +53,7 @@ list_in_struct (Inline bytes) = empty_list
 list_in_struct (Ctz head size) = record { head = head; size = size; in_flight = false }
 list_in_struct (Branch to) = empty_list
 
--- a file is found
+-- the look-up found a file
 abbrev pub is_file_found : PathLookup → Bool
 is_file_found (found.File parent slot contents) = true
 is_file_found _ = false
@@ -80,13 +80,13 @@ finished_list (InMemory list) = empty_list
 finished_list (Finished stored) = stored
 finished_list (InHand hand) = empty_list
 
--- contents are finished, and in memory exactly where they are at most the limit
+-- contents are finished, and in memory exactly if they are at most the limit
 abbrev pub IsFinishedForm : ℕ → ContentsForm → Type 0
 IsFinishedForm limit (form.InMemory size) = size ≤ limit
 IsFinishedForm limit (form.Finished size flying) = limit < size
 IsFinishedForm limit (form.InHand stop base flying) = ⊥
 
--- The file at the id of the pair may get finished contents, and two blocks are free.
+-- The contents are finished and may be committed to the file in the slot `spot`, and two blocks are free.
 pub record CanPutContents (t : KeptThread) (spot : SlotPosition) (contents : WriterContents) : Type 0 where
   pub can : CanEditIn t spot.pair spot.id
   pub stands : AreOnThread t contents
@@ -95,25 +95,25 @@ pub record CanPutContents (t : KeptThread) (spot : SlotPosition) (contents : Wri
   pub come : IsContentsStruct t (writer_contents_bytes t contents) (editable_slot can).struct (finished_struct contents)
   pub room : HasFreeBlocks 2 t.map
 
--- The file at the path may get finished contents, and there is room for their list and two blocks.
+-- The contents are finished and may be committed to the file at the path, and there is room for their list and two more blocks.
 pub record CanCommitContents (t : KeptThread) (path : Path) (contents : WriterContents) : Type 0 where
   pub over : AreThreadContents t path contents
   pub finished : IsFinishedForm (inline_limit t.disk.profile t.disk.block_size) (contents_form contents)
   pub room : used_count t.map + list_block_count t.disk.profile t.disk.block_size (length (writer_contents_bytes t contents)) + 2 ≤ length t.map
 
--- slots are where the operation on a dirty writer of the file, with these contents, puts them
+-- the slots are in the pairs to which the operation on a writer with these unsynced bytes moves them
 abbrev pub IsWriterLayout : KeptThread → Path → List ℕ → (ℕ → Operation) → KeptThread → Type 0
 IsWriterLayout old path bytes op new = (files : OpenFilesByNumber) (fd : ℕ) (writer : FileWriter) → IsDirtyWriter (record { tree = disk_tree old.disk old.pairs; files = files }) fd path bytes writer
     → IsLayout old.disk old.pairs (record { tree = disk_tree old.disk old.pairs; files = files }) (op fd) new.disk new.pairs
 
--- Of the used blocks only those of one pair changed, which holds the slot of the path.
+-- Of the used blocks only those of the pair with the path's slot have changed.
 pub record ChangesPathPair (disk : Disk) (ps : List Pair) (path : Path) (new : Disk) : Type 0 where
   pub pair : Pair
   pub there : Contains ps pair
   pub holds : HasPathSlot ps pair path
   pub others : (b : ℕ) → Contains (used_blocks disk ps) b → b ≢ pair.at.0 → b ≢ pair.at.1 → disk_block new b ≡ disk_block disk b
 
--- the file at the path has these bytes, nothing is in flight, and the root directory begins where it did
+-- the file at the path has these bytes, nothing is in flight, and the root directory begins with the same pair
 pub record HasCommittedBytes (old : KeptThread) (path : Path) (bytes : List ℕ) (new : KeptThread) : Type 0 where
   pub sound : IsSoundState (uncached_state new true false)
   pub fits : IsWritable new.disk new.pairs
@@ -126,7 +126,7 @@ pub record HasCommittedBytes (old : KeptThread) (path : Path) (bytes : List ℕ)
   pub alone : ChangesPathPair old.disk old.pairs path new.disk
   pub none_in_flight : in_flight_count new.map ≡ 0
 
--- the same, of a tree, and no pair moves after it
+-- the same of a tree, before a worn pair is relocated
 pub record StoresInPlace (old : KeptThread) (path : Path) (bytes : List ℕ) (new : KeptThread) : Type 0 where
   pub stored : AreBytesStored (uncached_state old true false) path bytes (uncached_state new true false)
   pub synced : IsWriterLayoutRecovered (uncached_state old true false) path bytes ops.Sync (uncached_state new true false)

@@ -1,4 +1,4 @@
--- Contents that are finished, and what a commit of them takes.
+-- Finished contents, and what a commit of them requires.
 use Rattle.std.specs.Prelude.{ℕ, ◌≡◌, ◌+◌, nat_eq, List}
 use Rattle.std.specs.List.{AllByRecursion, IsDistinct}
 use Rattle.lfs_model.specs.layers.BlockSets.{IsInFlight}
@@ -9,8 +9,8 @@ use Rattle.lfs_model.specs.tree.Shown.{struct_blocks}
 use Rattle.lfs_model.specs.layers.Steps.{number_occurrences}
 use Rattle.lfs_thread.specs.Kept.{KeptThread}
 
--- The struct gives these contents, inline or as a list that is on the disk. `come` are the blocks that the list before hasn't;
--- they are in flight. `gone` are the blocks that only the list before has.
+-- `now` is a struct of these contents, inline or as a list on the disk. `come` are the blocks of its list that the old one
+-- `was` doesn't share; they are in flight. `gone` are the blocks that only the old list has.
 pub record IsContentsStruct (t : KeptThread) (contents : List ℕ) (was now : Struct) : Type 0 where
   pub stores : GivesBytes t.disk contents now
   pub list : IsFormedList t.disk now

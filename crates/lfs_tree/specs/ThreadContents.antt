@@ -1,4 +1,4 @@
--- The contents of an open writer on a thread's device.
+-- A writer's contents on a thread's device.
 use Rattle.std.specs.Prelude.{ℕ, ◌≡◌, ◌⊎◌, ◌≤◌, ◌<◌, ◌+◌, List, length, Result, IfErr, IsErrOf}
 use Rattle.lfs_device.specs.declared.error.Error.{Error}
 use Rattle.lfs_device.specs.declared.error.Error.TheVariants.{Io, NoMemory}
@@ -15,7 +15,7 @@ use Rattle.lfs_file.specs.Hand.{KeepsUsedBlocks, KeepsUsedBytes, UsedStayUnprogr
 use Rattle.lfs_file.specs.BlockOwners.{contents_blocks}
 use Rattle.lfs_file.specs.declared.contents.WriterContents.{WriterContents}
 
--- the contents are on the disk, and the map has their blocks
+-- the contents are on the disk, and their blocks aren't free in the map
 pub record AreOnThread (t : KeptThread) (contents : WriterContents) : Type 0 where
   pub geometry : Geometry
   pub divided : HasGeometry geometry t.disk
@@ -27,13 +27,13 @@ pub record HaveThreadForm (t : KeptThread) (contents : WriterContents) (bytes : 
   pub divided : HasGeometry geometry t.disk
   pub has : HaveBytesInForm t.map t.disk.blocks geometry contents bytes shape
 
--- bytes may be written there
+-- `count` bytes may be written at offset `place` of the contents
 pub record CanWrite (t : KeptThread) (contents : WriterContents) (place count : ℕ) : Type 0 where
   pub stands : AreOnThread t contents
   pub fits : HasWriteRoom t.map t.disk.block_size (contents_form contents) (inline_limit t.disk.profile t.disk.block_size) place count
 
--- The pairs are the same. No used block changes, its bytes that were unprogrammed still are, and it stays used. A loss of power
--- during the call leaves it as it was.
+-- The pairs are the same. Used blocks stay used and keep their bytes, also in a power loss during the call, and their
+-- unprogrammed bytes stay unprogrammed.
 pub record KeepsPairs (old new : KeptThread) : Type 0 where
   pub pairs : new.pairs ≡ old.pairs
   pub shape : SameGeometryAs old.disk new.disk
@@ -42,18 +42,18 @@ pub record KeepsPairs (old new : KeptThread) : Type 0 where
   pub at_worst : HoldsAtLosses LossLeavesAtWorst old.history new.history (KeepsUsedBytes old.map old.disk.blocks)
   pub map : KeepsUsedBlocks old.map new.map
 
--- `Io` comes with a fault of the device, and any other result with none
+-- the result is `Io` exactly if a device call failed
 pub record ThreadReportsFaults {X : Type 0} (old new : KeptThread) (result : Result X Error) : Type 0 where
   pub errors : IfErr result (λ e. (e ≡ Io) ⊎ (e ≡ NoMemory))
   pub fault : IsErrOf result Io → fault_count old.history < fault_count new.history
   pub no_fault : ¬ IsErrOf result Io → fault_count new.history ≡ fault_count old.history
 
--- the contents may be cut or filled up to that size
+-- the contents may be truncated or extended to that size
 pub record CanTruncate (t : KeptThread) (contents : WriterContents) (size : ℕ) : Type 0 where
   pub stands : AreOnThread t contents
   pub fits : HasTruncationRoom t.map t.disk.block_size (contents_form contents) (inline_limit t.disk.profile t.disk.block_size) size
 
--- the list in hand may be ended
+-- the draft may be finished: all its blocks written
 pub record CanFinish (t : KeptThread) (contents : WriterContents) : Type 0 where
   pub stands : AreOnThread t contents
   pub room : used_count t.map + finish_room t.disk.block_size (contents_form contents) ≤ length t.map

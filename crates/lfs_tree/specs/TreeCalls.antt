@@ -1,4 +1,4 @@
--- The calls of a tree that change its image, and what each of them promises.
+-- The calls of a tree that change its image, and their promises.
 use Rattle.std.specs.Prelude.{ℕ, ◌≡◌, List, [], Result, IfErr, OnErr, OnOk}
 use Rattle.lfs_device.specs.declared.error.Error.{Error}
 use Rattle.lfs_model.specs.format.Content.{attributes_with, attributes_without}
@@ -19,7 +19,7 @@ pub data TreeCall : Type 0 where
   RemoveAttr : (path : Path) (kind : ℕ) → TreeCall
   Recover : TreeCall
 
--- the call does the operation, whichever bytes name its paths there
+-- the call performs the operation, whose paths are still bytes
 abbrev pub IsOperationCall : TreeCall → Operation → Type 0
 IsOperationCall (Mkdir path) op = (given : List ℕ) × ((op ≡ ops.Mkdir given) × (path_or_root given ≡ path))
 IsOperationCall (Create path) op = (given : List ℕ) × ((flags : FlagsOfOpen) × ((op ≡ ops.Open given flags) × (path_or_root given ≡ path)))
@@ -29,7 +29,7 @@ IsOperationCall (SetAttr path kind bytes) op = (given : List ℕ) × ((op ≡ op
 IsOperationCall (RemoveAttr path kind) op = (given : List ℕ) × ((op ≡ ops.RemoveAttr given kind) × (path_or_root given ≡ path))
 IsOperationCall Recover op = op ≡ ops.Recover
 
--- the tree that the call leaves
+-- the tree after the call
 abbrev pub tree_after_call : TreeCall → Tree → Tree
 tree_after_call (Mkdir path) t = tree_creating path (DirectoryNode [] []) t
 tree_after_call (Create path) t = tree_creating path (FileNode [] []) t
@@ -39,8 +39,8 @@ tree_after_call (SetAttr path kind bytes) t = tree_with_attributes path (attribu
 tree_after_call (RemoveAttr path kind) t = tree_with_attributes path (attributes_without kind) t
 tree_after_call Recover t = t
 
--- The operation of the call is applied, and leaves the other entries alone; or the tree has failed. A loss of power during the
--- call leaves the tree from before, or that of the call.
+-- Either the call's operation was applied, and left alone what it doesn't concern, or the tree has failed. A power loss during
+-- the call leaves the tree from before or from after it.
 pub record AppliesCallOrFails {X : Type 0} (old : TreeState) (call : TreeCall) (result : Result X Error) (new : TreeState) : Type 0 where
   pub done : OnOk result ((op : Operation) → IsOperationCall call op → IsApplied old op new)
   pub alone : OnOk result ((op : Operation) → IsOperationCall call op → KeepsOthersIfRecovered old op new)

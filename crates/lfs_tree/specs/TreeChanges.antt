@@ -1,4 +1,4 @@
--- What an operation on a path finds, and what it does to a thread.
+-- What an operation finds at its path, and what it does to a thread.
 use Rattle.std.specs.Prelude.{ℕ, ◌≡◌, Bool, true, false, List, [], ◌∷◌, ◌++◌, None, is_some, Result, IfErr, OnOk}
 use Rattle.lfs_device.specs.declared.error.Error.{Error}
 use Rattle.lfs_model.specs.declared.order.NameOrder.{NameOrder}
@@ -32,17 +32,17 @@ pub record CanChangeRecovered (t : ThreadView) (root : ℕ) : Type 0 where
   pub held : SoundWithRoot t root true
   pub settled : pairs_gstate t.kept.pairs ≡ zero_gstate
 
--- what a look-up finds at the path, and its last name
+-- `target` is the result of the path's look-up, and `name` its last name
 pub record IsNamedResult (t : KeptThread) (path : Path) (target : PathLookup) (name : Name) : Type 0 where
   pub leads : LeadsToResult t path target
   pub named : name ≡ last_name path
 
--- nothing is at the path, and directories are above it
+-- the path has no entry, and its parents are directories
 pub record IsVacantPath (t : Tree) (path : Path) : Type 0 where
   pub parents : parents_refusal t [] path ≡ None
   pub nothing : is_some (t path) ≡ false
 
--- the name is the last one of the path, and belongs before the slot at the spot
+-- `name` is the last one of the path, and `spot` the slot at which it belongs
 pub record IsNewSpot (order : NameOrder) (ps : List Pair) (path : Path) (name : Name) (spot : SlotPosition) : Type 0 where
   pub above : Path
   pub first : ℕ
@@ -50,7 +50,7 @@ pub record IsNewSpot (order : NameOrder) (ps : List Pair) (path : Path) (name : 
   pub on : LeadsToPair ps above first
   pub belongs : BelongsAt order ps first name spot.pair spot.id
 
--- nothing is found, but a place
+-- the look-up found no entry, but the slot at which the name belongs
 abbrev pub is_nothing_found : PathLookup → Bool
 is_nothing_found (found.Nothing parent place) = true
 is_nothing_found _ = false
@@ -59,37 +59,37 @@ abbrev pub IsAbsentSpot : PathLookup → SlotPosition → Type 0
 IsAbsentSpot (found.Nothing parent place) spot = place ≡ spot
 IsAbsentSpot _ spot = ⊥
 
--- the operation is applied
+-- the operation was applied
 abbrev pub AppliesOperation : KeptThread → Operation → KeptThread → Type 0
 AppliesOperation old op new = IsApplied (uncached_state old true false) op (uncached_state new true false)
 
--- the operation is applied, and no pair moves after it
+-- the operation was applied, before a worn pair is relocated
 pub record AppliesInPlace (old : KeptThread) (op : Operation) (new : KeptThread) : Type 0 where
   pub applied : AppliesOperation old op new
   pub stays : (files : OpenFilesByNumber) → IsLayoutRecovered old.disk old.pairs (record { tree = disk_tree old.disk old.pairs; files = files }) op new.disk new.pairs
 
--- the operation leaves the other blocks alone
+-- the operation doesn't change the blocks that it doesn't concern
 abbrev pub SparesOutsideOperation : KeptThread → Operation → KeptThread → Type 0
 SparesOutsideOperation old op new = KeepsOthersIfRecovered (uncached_state old true false) op (uncached_state new true false)
 
--- the device is divided as before, and had further calls
+-- the device has the same geometry, and had further calls
 pub record HasFurtherCalls (old new : KeptThread) : Type 0 where
   pub geometry : SameGeometry old.disk new.disk
   pub calls : List CallEvent
   pub called : new.history ≡ calls ++ old.history
 
--- `Io` comes with a fault of the device, and `NoMemory` without one
+-- the error is `Io` if a device call failed, and `NoMemory` if none did
 abbrev pub HasThreadCause : KeptThread → KeptThread → Error → Type 0
 HasThreadCause old new e = HasErrorCause (uncached_state old true false) (uncached_state new true true) e
 
--- a loss of power during the call leaves the tree from before, or that one
+-- a power loss during the call leaves the tree from before the call, or this one
 abbrev pub SurvivesEither : KeptThread → KeptThread → Tree → Type 0
 SurvivesEither old new after = SurvivesLossSince old.disk old.history new.history (disk_tree old.disk old.pairs) after
 
--- ---- what is said of it
+-- ---- promises
 
--- The image is a sound one of the writing profile that shows the tree, and nothing is left to recover. The root directory begins
--- where it did, and no call failed.
+-- The image is accepted, in the writing profile, and has this tree, with nothing to recover. The root directory begins with the
+-- same pair, and no device call failed.
 pub record HasSoundImage (old : KeptThread) (tree : Tree) (new : KeptThread) : Type 0 where
   pub sound : IsSoundState (uncached_state new true false)
   pub fits : IsWritable new.disk new.pairs
@@ -98,8 +98,8 @@ pub record HasSoundImage (old : KeptThread) (tree : Tree) (new : KeptThread) : T
   pub shows : disk_tree new.disk new.pairs ≡ tree
   pub no_fault : fault_count new.history ≡ fault_count old.history
 
--- What a change of the image promises. The thread works on and shows the tree from after the change. An error has its cause, and
--- a loss of power leaves the tree from before or from after.
+-- The promises of a change of the image. At Ok the image has the tree from after the change. An error has its cause, and a
+-- power loss leaves the tree from before or from after.
 pub record ChangesTreeOrFails {X : Type 0} (old : ThreadView) (Done : KeptThread → Type 0) (after : Tree) (result : Result X Error) (new : ThreadView) : Type 0 where
   pub done : OnOk result (Done new.kept)
   pub works : OnOk result (new.failed ≡ false)
@@ -108,11 +108,11 @@ pub record ChangesTreeOrFails {X : Type 0} (old : ThreadView) (Done : KeptThread
   pub errors : IfErr result (HasThreadCause old.kept new.kept)
   pub survives : SurvivesEither old.kept new.kept after
 
--- the operation of the call is applied, and leaves the other blocks alone
+-- the call's operation was applied, and didn't change the blocks that it doesn't concern
 pub record HasAppliedCall (old : KeptThread) (call : TreeCall) (new : KeptThread) : Type 0 where
   pub carries : (op : Operation) → IsOperationCall call op → AppliesInPlace old op new
   pub spares : (op : Operation) → IsOperationCall call op → SparesOutsideOperation old op new
 
--- what a call promises over a thread that has nothing to recover
+-- the promises of a call on a thread that has nothing to recover
 abbrev pub AppliesOrFails : {X : Type 0} → ThreadView → TreeCall → Result X Error → ThreadView → Type 0
 AppliesOrFails old call result new = ChangesTreeOrFails old (HasAppliedCall old.kept call) (tree_after_call call (disk_tree old.kept.disk old.kept.pairs)) result new

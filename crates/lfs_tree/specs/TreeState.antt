@@ -1,4 +1,4 @@
--- What contracts see of a tree of files on a device.
+-- A tree of files on a device, in contracts.
 use Rattle.std.specs.Prelude.{ℕ, ◌≡◌, ◌≢◌, ◌⊎◌, ◌<◌, ◌≤◌, ◌+◌, Bool, true, false, List, [], ◌++◌, length, Result, IfErr, OnErr, OnOk}
 use Rattle.lfs_device.specs.declared.error.Error.{Error}
 use Rattle.lfs_device.specs.declared.error.Error.TheVariants.{Io, NoMemory, Corrupt}
@@ -27,8 +27,8 @@ use Rattle.lfs_model.specs.tree.Shown.{disk_tree, used_blocks}
 use Rattle.lfs_thread.specs.Kept.{KeptThread}
 use Rattle.lfs_tree.specs.KeptFiles.{KeepsFileAt, KeepsListBytes, operation_room}
 
--- The disk and its calls so far, its pairs, and the state of each block. Also whether the image is in the writing profile,
--- whether a call failed, and which blocks are cached.
+-- The disk, all device calls so far, the metadata pairs, the state of each block, whether the image is in the writing profile,
+-- whether the tree has failed, and which blocks are cached.
 pub record TreeState : Type 0 where
   pub disk : Disk
   pub history : List CallEvent
@@ -38,7 +38,7 @@ pub record TreeState : Type 0 where
   pub failed : Bool
   pub cache : CachedBlocks
 
--- equal except for the cached blocks
+-- the state with an empty cache, to compare two states except for their caches
 abbrev pub without_cache : TreeState → TreeState
 without_cache t = record t { cache = [] }
 
@@ -59,7 +59,8 @@ tree_summary t = record {
   gstate = pairs_gstate t.pairs;
 }
 
--- The disk is accepted with these pairs, the profile is as noted, and the used blocks are the image's.
+-- The disk is accepted with these pairs, `writable` says whether it is in the writing profile, and the map's used blocks are
+-- the image's.
 pub record IsSoundImage (t : TreeState) : Type 0 where
   pub accepted : IsAccepted t.disk t.pairs
   pub fits : t.writable ≡ true → IsWritable t.disk t.pairs
@@ -72,33 +73,33 @@ IsSoundState t = IsSoundImage (without_cache t)
 
 -- ---- calls that only read
 
--- The disk was only read, by calls that didn't fail, and nothing else changed but the cached blocks. No call of a failed tree is
--- meant.
+-- The disk was only read, no device call failed, and nothing else has changed except the cached blocks. A tree that had failed
+-- stays as it was.
 pub record OnlyReadsTree (old new : TreeState) : Type 0 where
   pub same : new ≡ record old { history = new.history; cache = new.cache }
   pub failed : old.failed ≡ true → new ≡ old
   pub reads : OnlyReadsSince old.disk.blocks old.history new.history
   pub no_fault : fault_count new.history ≡ fault_count old.history
 
--- a call failed that only reads
+-- the tree has failed, and its disk was only read
 pub record FailedByReading (old new : TreeState) : Type 0 where
   pub failed : new.failed ≡ true
   pub disk : new.disk ≡ old.disk
   pub reads : OnlyReadsSince old.disk.blocks old.history new.history
 
--- `Io` comes with a fault of the device, and `NoMemory` without one
+-- the error is `Io` if a device call failed, and `NoMemory` if none did
 pub record HasErrorCause (old new : TreeState) (e : Error) : Type 0 where
   pub errors : (e ≡ Io) ⊎ (e ≡ NoMemory)
   pub fault : e ≡ Io → fault_count old.history < fault_count new.history
   pub no_fault : e ≢ Io → fault_count new.history ≡ fault_count old.history
 
--- what such a call promises
+-- the promises of a call that only reads
 pub record ReadsTreeOrFails {X : Type 0} (old : TreeState) (result : Result X Error) (new : TreeState) : Type 0 where
   pub asked : OnOk result (OnlyReadsTree old new)
   pub broken : OnErr result (FailedByReading old new)
   pub errors : IfErr result (HasErrorCause old new)
 
--- The same of a mount. `Corrupt` comes where the disk is accepted in neither order of names.
+-- The same of a mount, which also returns `Corrupt`, if the disk is accepted in neither order of names.
 pub record HasMountCause (old new : TreeState) (e : Error) : Type 0 where
   pub errors : (e ≡ Io) ⊎ ((e ≡ NoMemory) ⊎ ((e ≡ Corrupt) × ((order : NameOrder) (ps : List Pair) → IsAccepted (ordered_disk order old.disk) ps → ⊥)))
   pub fault : e ≡ Io → fault_count old.history < fault_count new.history
@@ -106,25 +107,26 @@ pub record HasMountCause (old new : TreeState) (e : Error) : Type 0 where
 
 -- ---- calls that write
 
--- a call failed: nothing is known of the disk but its shape
+-- the tree has failed: nothing is known of the disk but its geometry
 pub record IsFailedTree (old new : TreeState) : Type 0 where
   pub failed : new.failed ≡ true
   pub geometry : SameGeometry old.disk new.disk
   pub calls : List CallEvent
   pub called : new.history ≡ calls ++ old.history
 
--- the same blocks are in flight, keep their bytes, and have as many unprogrammed bytes
+-- the same blocks are in flight and keep their bytes, and their unprogrammed bytes stay unprogrammed
 pub record KeepsInFlight (old new : TreeState) : Type 0 where
   pub stay : (b : ℕ) → IsInFlight old.map b → IsInFlight new.map b
   pub none_comes : (b : ℕ) → IsInFlight new.map b → IsInFlight old.map b
   pub bytes : (b : ℕ) → IsInFlight old.map b → disk_block new.disk b ≡ disk_block old.disk b
   pub unprogrammed_still : (b k : ℕ) → IsInFlight old.map b → is_unprogrammed_byte old.history b k ≡ true → is_unprogrammed_byte new.history b k ≡ true
 
--- a loss of power during the call leaves the tree from before, or that one
+-- a power loss during the call leaves the tree from before the call, or `after`
 abbrev pub SurvivesStops : TreeState → TreeState → Tree → Type 0
 SurvivesStops old new after = SurvivesLossSince old.disk old.history new.history (shown_tree old) after
 
--- The operation is applied without a fault of the device, whatever files are open. A worn pair may have moved after it.
+-- The operation was applied, no device call failed, and a worn pair may have been relocated after it. It is so whatever files
+-- are open.
 pub record IsAppliedTo (old : TreeState) (op : Operation) (new : TreeState) : Type 0 where
   pub works : new.failed ≡ false
   pub sound : IsSoundState new
@@ -147,11 +149,13 @@ pub record IsAppliedTo (old : TreeState) (op : Operation) (new : TreeState) : Ty
 abbrev pub IsApplied : TreeState → Operation → TreeState → Type 0
 IsApplied old op new = IsAppliedTo (without_cache old) op (without_cache new)
 
--- Where nothing was to recover, the blocks of files keep their bytes. So do blocks of pairs that the operation isn't about.
+-- If nothing was to recover, the blocks of files keep their bytes, and so do the blocks of pairs that the operation doesn't
+-- concern.
 abbrev pub KeepsOthersIfRecovered : TreeState → Operation → TreeState → Type 0
 KeepsOthersIfRecovered old op new = pairs_gstate old.pairs ≡ zero_gstate → (files : OpenFilesByNumber) → KeepsOthers old.disk old.pairs (record { tree = shown_tree old; files = files }) op new.disk new.pairs
 
--- The image of a disk that was only read, at least once and without a fault. The tree works, and no block is in flight.
+-- A tree mounted from the disk: it hasn't failed, the disk was read and never written, no device call failed, and no block is
+-- in flight.
 pub record IsMountedTree (disk : Disk) (history : List CallEvent) (t : TreeState) : Type 0 where
   pub works : t.failed ≡ false
   pub disk_is : t.disk ≡ disk
@@ -161,7 +165,7 @@ pub record IsMountedTree (disk : Disk) (history : List CallEvent) (t : TreeState
   pub sound : IsSoundState t
   pub none_in_flight : in_flight_count t.map ≡ 0
 
--- The device was mounted again, in the order of names that was found. Where both orders fit, the longer names come first.
+-- The device was mounted again, in the order of names that was found. If both orders fit, it is `LongerFirst`.
 pub record IsRemountedTree (old new : TreeState) : Type 0 where
   pub mounted : IsMountedTree (ordered_disk new.disk.order old.disk) old.history new
   pub longer : new.disk.order ≡ ShorterFirst → (ps : List Pair) → IsAccepted (ordered_disk LongerFirst old.disk) ps → ⊥

@@ -1,4 +1,4 @@
--- A worn pair that moves after an operation of a tree.
+-- Wear leveling: a worn pair is relocated after an operation.
 use Rattle.std.specs.Prelude.{ℕ, ◌≡◌, ◌⊎◌, ◌≤◌, List, ◌++◌, length, false, true, Option, Some, None, Result, Ok, Err, IfErr, IfSome, OnErr, OnOk}
 use Rattle.lfs_device.specs.declared.error.Error.{Error}
 use Rattle.lfs_model.specs.format.Disk.{SameGeometry}
@@ -9,21 +9,22 @@ use Rattle.lfs_operations.specs.Wear.{HasPlanBlocks, IsPlanFor, MovesByPlan, Sho
 use Rattle.lfs_operations.specs.declared.wear.MovePlan.{MovePlan}
 use Rattle.lfs_tree.specs.TreeState.{HasErrorCause, IsFailedTree, IsSoundState, KeepsInFlight, SurvivesStops, TreeState, kept_thread, shown_tree, tree_summary}
 
--- A plan of a move, before an operation that takes at most so many blocks. None is made where the profile gives no cycles.
+-- A plan to relocate a pair, made before an operation that allocates at most `room` blocks. It is None if the profile's
+-- `pair_cycles` is 0.
 pub record IsPlanned (t : TreeState) (room : ℕ) (given : Option MovePlan) : Type 0 where
   pub sound : IsSoundState t
   pub newest : LeftByLatest t.history t.disk.blocks
   pub plan : IfSome given (IsPlanFor (kept_thread t) room)
   pub none : t.disk.profile.pair_cycles ≡ 0 → given ≡ None
 
--- the image may be changed, and has the blocks of the plan
+-- the image may be changed, and the plan's two blocks are different blocks of the device
 pub record CanSpreadWear (t : TreeState) (plan : Option MovePlan) : Type 0 where
   pub works : t.failed ≡ false
   pub writable : t.writable ≡ true
   pub recovered : IsRecovered t.pairs
   pub blocks : IfSome plan (HasPlanBlocks t.map)
 
--- A worn pair moved by the plan. No more blocks are used than before, or than the plan's limit.
+-- A worn pair was relocated by the plan. No more blocks are used than before, or than the plan's limit.
 pub record HasMovedPair (old : TreeState) (plan : Option MovePlan) (new : TreeState) : Type 0 where
   pub given : MovePlan
   pub planned : plan ≡ Some given
@@ -31,7 +32,7 @@ pub record HasMovedPair (old : TreeState) (plan : Option MovePlan) (new : TreeSt
   pub writes : MovesByPlan (kept_thread old) given (kept_thread new)
   pub few : (length (tree_summary new).used ≤ length (tree_summary old).used) ⊎ (length (tree_summary new).used ≤ given.limit)
 
--- Nothing changed, or a worn pair moved by the plan, without a fault of the device. The image may be changed, and shows the same
+-- Nothing changed, or a worn pair was relocated by the plan. No device call failed. The image may be changed, and has the same
 -- files.
 pub record HasSpreadWear (old : TreeState) (plan : Option MovePlan) (new : TreeState) : Type 0 where
   pub works : new.failed ≡ false
@@ -45,7 +46,7 @@ pub record HasSpreadWear (old : TreeState) (plan : Option MovePlan) (new : TreeS
   pub flight : KeepsInFlight old new
   pub spread : (kept_thread new ≡ kept_thread old) ⊎ HasMovedPair old plan new
 
--- What a move after a change of the image promises. The image shows the same tree all along.
+-- The promises of a relocation after a change. The image has the same tree all along.
 pub record SpreadsOrFails (old : TreeState) (plan : Option MovePlan) (result : Result (Unit {0}) Error) (new : TreeState) : Type 0 where
   pub newest : LeftByLatest old.history old.disk.blocks
   pub done : OnOk result (HasSpreadWear old plan new)
@@ -53,7 +54,7 @@ pub record SpreadsOrFails (old : TreeState) (plan : Option MovePlan) (result : R
   pub errors : IfErr result (HasErrorCause old new)
   pub survives : SurvivesStops old new (shown_tree old)
 
--- The change itself failed, and nothing is done; or else a worn pair may move.
+-- If the change itself failed, nothing is done. Otherwise a worn pair may be relocated.
 abbrev pub SpreadsAfter : TreeState → Option MovePlan → Result (Unit {0}) Error → Result (Unit {0}) Error → TreeState → Type 0
 SpreadsAfter old plan (Err e) result new = (result ≡ Err e) × (new ≡ old)
 SpreadsAfter old plan (Ok u) result new = SpreadsOrFails old plan result new

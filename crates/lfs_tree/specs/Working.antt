@@ -1,4 +1,4 @@
--- Threads that work, and may be asked or changed.
+-- Threads that haven't failed, and may be read or changed.
 use Rattle.std.specs.Prelude.{ℕ, ◌≡◌, false, true, IfErr, OnOk, Result}
 use Rattle.lfs_device.specs.declared.error.Error.{Error}
 use Rattle.lfs_model.specs.layers.BlockSets.{in_flight_count}
@@ -9,18 +9,19 @@ use Rattle.lfs_model.specs.session.TreeEdits.{is_file}
 use Rattle.lfs_thread.specs.Kept.{KeptThread, ThreadView}
 use Rattle.lfs_tree.specs.TreeChanges.{HasThreadCause, CanChangeRecovered}
 
--- the thread works, and what it keeps meets a condition
+-- the thread hasn't failed, and its state meets a condition
 pub record IsWorkingWhere (t : ThreadView) (Can : KeptThread → Type 0) : Type 0 where
   pub works : t.failed ≡ false
   pub can : Can t.kept
 
--- At Ok the thread works, and no call of the device failed. `Io` comes with a fault of the device, and `NoMemory` without one.
+-- At Ok the thread hasn't failed, and no device call failed. The error is `Io` if a device call failed, and `NoMemory` if none
+-- did.
 pub record WorksOrReportsFault {X : Type 0} (old new : ThreadView) (result : Result X Error) : Type 0 where
   pub works : OnOk result (new.failed ≡ false)
   pub no_fault : OnOk result (fault_count new.kept.history ≡ fault_count old.kept.history)
   pub errors : IfErr result (HasThreadCause old.kept new.kept)
 
--- the image may be changed, no block is in flight, and a file is at the path
+-- the image may be changed, no block is in flight, and the path has a file
 pub record CanOpenFile (t : ThreadView) (root : ℕ) (path : Path) : Type 0 where
   pub rests : CanChangeRecovered t root
   pub idle : in_flight_count t.kept.map ≡ 0

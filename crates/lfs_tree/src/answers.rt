@@ -1,11 +1,11 @@
-// What a tree does with the results of its thread.
+// Marks a thread as failed.
 
 ghost use Rattle.std.specs.Prelude.{◌≡◌, ◌||◌, is_err};
 
 use lfs_device::{BlockDevice, Error};
 use lfs_thread::Thread;
 
-// The thread has failed where a call returned an error.
+// Marks the thread as failed if a call returned an error.
 pub(crate) fn mark_failed<D: BlockDevice, X>(thread: &mut Thread<D>, answer: &Result<X, Error>)
     ensures { thread.new ≡ record thread.old { failed = is_err answer.now || thread.old.failed } }
 {

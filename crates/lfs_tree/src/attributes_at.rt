@@ -1,4 +1,4 @@
-// Attributes of entries at paths, in a thread that has nothing to recover.
+// Changes of attributes by path, in a thread that has nothing to recover.
 
 ghost use Rattle.std.specs.Prelude.{◌≡◌, true, false};
 ghost use Rattle.lfs_tree.specs.Permissions.{CanRemoveAttr, CanSetAttr};
@@ -27,7 +27,7 @@ fn found_entry_spot(found: PathLookup) -> SlotPosition
 
 // Sets an attribute of an entry.
 //
-// Errors: `Io` where a call of the device failed. `NoMemory` where memory isn't granted.
+// Errors: `Io` if a device call failed. `NoMemory` if memory can't be allocated.
 pub(crate) fn set_attr_at<D: BlockDevice>(
     alloc: Global,
     thread: &mut Thread<D>,
@@ -49,7 +49,7 @@ pub(crate) fn set_attr_at<D: BlockDevice>(
 
 // Removes an attribute of an entry.
 //
-// Errors: `Io` where a call of the device failed. `NoMemory` where memory isn't granted.
+// Errors: `Io` if a device call failed. `NoMemory` if memory can't be allocated.
 pub(crate) fn remove_attr_at<D: BlockDevice>(
     alloc: Global,
     thread: &mut Thread<D>,

@@ -1,4 +1,4 @@
-// Files that get the contents of a writer, in a thread that has nothing to recover.
+// Commits of a writer's contents by path, in a thread that has nothing to recover.
 
 ghost use Rattle.std.specs.Prelude.{◌≡◌, false, true, OnOk};
 ghost use Rattle.lfs_tree.specs.ThreadContents.{ThreadReportsFaults};
@@ -24,14 +24,14 @@ use lfs_tag::kinds::{CTZ_STRUCT, INLINE_STRUCT};
 use lfs_thread::Thread;
 use std::alloc::Global;
 
-// The slot of a file, and its list. Inline bytes have a list without bytes.
+// The slot of a file, and its list. The list of an inline file is empty.
 #[derive(Clone, Copy, Drop)]
 struct FileSlot {
     spot: SlotPosition,
     list: StoredList,
 }
 
-// Returns a list of no bytes.
+// Returns an empty list.
 fn list_of_nothing() -> StoredList
     ensures { result ≡ empty_list }
 {
@@ -42,7 +42,7 @@ fn list_of_nothing() -> StoredList
     }
 }
 
-// Returns the list that an entry names.
+// Returns the list that an entry names, or an empty one.
 fn storage_list(contents: lfs_lookup::FileStorage) -> StoredList
     ensures { result ≡ list_in_storage contents }
 {
@@ -80,7 +80,7 @@ fn found_file_slot(found: PathLookup) -> FileSlot
     }
 }
 
-// Puts finished contents into a file's slot. The lists aren't settled in the map.
+// Commits finished contents to a file's slot. Doesn't settle the lists in the map.
 fn put_contents<D: BlockDevice>(
     alloc: Global,
     thread: &mut Thread<D>,
@@ -114,9 +114,10 @@ fn put_contents<D: BlockDevice>(
     }
 }
 
-// Commits finished contents of the file at a path, and settles its lists.
+// Commits finished contents to the file at a path, and settles its lists: the new one's blocks are
+// used, those of the old one alone are free.
 //
-// Errors: `Io` where a call of the device failed. `NoMemory` where memory isn't granted.
+// Errors: `Io` if a device call failed. `NoMemory` if memory can't be allocated.
 fn commit_contents_at<D: BlockDevice>(
     alloc: Global,
     thread: &mut Thread<D>,
@@ -132,7 +133,7 @@ fn commit_contents_at<D: BlockDevice>(
     ensures survives { SurvivesEither thread.old.kept thread.new.kept (tree_with_change path.now (node_with_bytes (writer_contents_bytes thread.old.kept contents)) (disk_tree thread.old.kept.disk thread.old.kept.pairs)) }
 {
     lemma_block_facts(thread);
-    // By its sizes a list has as many bytes as it says.
+    // A proof needs the device's block size to see that a list has as many bytes as it says.
     let _device = thread.device();
     let target = find_at_path(alloc, thread, root, path)?;
     let file = found_file_slot(target.found);
@@ -141,9 +142,9 @@ fn commit_contents_at<D: BlockDevice>(
     Ok(())
 }
 
-// Commits the contents of a writer of the file at a path.
+// Finishes a writer's contents, and commits them to the file at a path.
 //
-// Errors: `Io` where a call of the device failed. `NoMemory` where memory isn't granted.
+// Errors: `Io` if a device call failed. `NoMemory` if memory can't be allocated.
 pub(crate) fn store_contents_at<D: BlockDevice>(
     alloc: Global,
     thread: &mut Thread<D>,

@@ -1,4 +1,4 @@
-// What is at the path of a file that may be made, before anything is written.
+// The look-up of the path of a file that may be created, before anything is written.
 
 ghost use Rattle.std.specs.Prelude.{◌≡◌, ◌≤◌, ◌+◌, true, false, IfOk, IfSome, IsSome, sum_by};
 ghost use Rattle.lfs_model.specs.crash.Frame.{directory_pair_count, ancestor_paths};
@@ -22,16 +22,16 @@ use lfs_lookup::{FoundNode, Path, PathLookup, find_node, finding_shown};
 use lfs_thread::Thread;
 use std::alloc::Global;
 
-/// What is at the path of a file that may be made.
+/// The look-up of the path of a file that may be created.
 #[derive(Drop)]
 pub struct CreationFindings {
     /// What is at the path.
     pub entry: FoundNode,
-    /// Where the path leads to. None where something is to recover first.
+    /// The result for [`create`](Tree::create). None if a recovery has to come first.
     pub target: Option<PathLookup>,
 }
 
-// Looks up the path where nothing is to recover.
+// Looks up the path if nothing is to recover.
 fn creation_findings<D: BlockDevice>(
     alloc: Global,
     thread: &mut Thread<D>,
@@ -46,7 +46,7 @@ fn creation_findings<D: BlockDevice>(
     ensures reading { ReadsOrReports thread.old thread.new result }
 {
     let target = find_at_path(alloc, thread, root, path)?;
-    // By the sizes of its blocks a list has as many bytes as its entry says.
+    // A proof needs the device's block size to see that a list has as many bytes as its entry says.
     let _device = thread.device();
     Ok(CreationFindings {
         entry: finding_shown(found_without_parent(target.found)),
@@ -54,7 +54,7 @@ fn creation_findings<D: BlockDevice>(
     })
 }
 
-// Looks up the path where something is to recover first.
+// Looks up the path if a recovery has to come first.
 fn unrecovered_creation_findings<D: BlockDevice>(
     alloc: Global,
     thread: &mut Thread<D>,
@@ -97,10 +97,11 @@ fn find_creation_path<D: BlockDevice>(
 }
 
 impl<D: BlockDevice> Tree<D> {
-    /// Looks up the path of a file that may be made. Where nothing is to recover, [`create`](Tree::create)
-    /// needs no other look-up. The call reads no more pairs than the directories above the path have.
+    /// Looks up the path of a file that may be created. If nothing is to recover,
+    /// [`create`](Tree::create) needs no other look-up. Makes at most one read for each metadata
+    /// pair of the directories above the path.
     ///
-    /// Errors: `Io` where a read failed. `NoMemory` where memory isn't granted. The tree has failed
+    /// Errors: `Io` if a read failed. `NoMemory` if memory can't be allocated. The tree has failed
     /// after either.
     pub fn look_up_creation(
         &mut self,

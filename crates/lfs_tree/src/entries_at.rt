@@ -1,4 +1,4 @@
-// Operations on paths of a thread that has nothing to recover.
+// Operations by path, on a thread that has nothing to recover.
 
 ghost use Rattle.std.specs.Prelude.{◌≡◌, ◌≤◌, ◌+◌, map, sum_by, true, false, IfOk, IfSome, IsSome};
 ghost use Rattle.lfs_device.specs.Bytes.{AreByteBlocks};
@@ -18,7 +18,7 @@ use lfs_operations::{create_file, make_directory};
 use lfs_thread::Thread;
 use std::alloc::Global;
 
-// Shows the proof what is known of any device: how large a block is, and that it holds bytes.
+// Gives proofs two facts of any device: its least block size, and that blocks hold bytes.
 pub(crate) fn lemma_block_facts<D: BlockDevice>(thread: &Thread<D>)
     ensures large { 1024 ≤ thread.now.kept.disk.block_size }
     ensures bytes { AreByteBlocks thread.now.kept.disk.blocks }
@@ -36,7 +36,7 @@ pub(crate) fn last_name_of<'a>(names: &[&'a [u8]]) -> &'a [u8]
     }
 }
 
-// Returns the place of a name that wasn't found.
+// Returns the pair index and id at which a missing name belongs.
 fn missing_name_spot(found: PathLookup) -> SlotPosition
     requires { is_nothing_found found ≡ true }
     ensures { IsAbsentSpot found result }
@@ -47,7 +47,7 @@ fn missing_name_spot(found: PathLookup) -> SlotPosition
     }
 }
 
-// What a look-up finds at a path, and the path's last name.
+// The result of a path's look-up, and the path's last name.
 #[derive(Drop)]
 pub(crate) struct FoundAtPath<'a> {
     pub(crate) found: PathLookup,
@@ -74,7 +74,7 @@ pub(crate) fn find_at_path<'a, D: BlockDevice>(
     })
 }
 
-// Returns where a path leads to, what is known of it or else what a look-up finds, and its last name.
+// Returns the result of a path's look-up, `known` if there is one, and the path's last name.
 fn find_unless_known<'a, D: BlockDevice>(
     alloc: Global,
     thread: &mut Thread<D>,
@@ -98,9 +98,10 @@ fn find_unless_known<'a, D: BlockDevice>(
     })
 }
 
-// Makes an empty file where no entry is. The path is looked up, unless it is known where it leads to.
+// Creates an empty file at a path without an entry. Looks the path up unless `known` has the
+// result.
 //
-// Errors: `Io` where a call of the device failed. `NoMemory` where memory isn't granted.
+// Errors: `Io` if a device call failed. `NoMemory` if memory can't be allocated.
 pub(crate) fn create_empty_file<D: BlockDevice>(
     alloc: Global,
     thread: &mut Thread<D>,
@@ -122,9 +123,9 @@ pub(crate) fn create_empty_file<D: BlockDevice>(
     create_file(alloc, thread, place.pair, place.id, target.name)
 }
 
-// Makes an empty directory where no entry is.
+// Makes an empty directory at a path without an entry.
 //
-// Errors: `Io` where a call of the device failed. `NoMemory` where memory isn't granted.
+// Errors: `Io` if a device call failed. `NoMemory` if memory can't be allocated.
 pub(crate) fn make_directory_at<D: BlockDevice>(
     alloc: Global,
     thread: &mut Thread<D>,

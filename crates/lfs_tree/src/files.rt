@@ -1,4 +1,4 @@
-// The contents of files that are open for writing, on the device of a thread of metadata pairs.
+// The contents of files that are open for writing, on a thread's device.
 
 ghost use Rattle.std.specs.Prelude.{◌≡◌, false, is_err, length, take, IfErr, IfOk, OnOk};
 ghost use Rattle.lfs_model.specs.format.Disk.{inline_limit};
@@ -16,13 +16,13 @@ use lfs_file::{
 use lfs_thread::Thread;
 use std::alloc::Global;
 
-/// Writes bytes, at least one, at a place of the contents of an open writer; zeros fill a gap
-/// before it. The pairs of the thread stay as they are.
+/// Writes bytes, at least one, at an offset in bytes of a writer's contents, and fills a gap before
+/// it with zeros. Doesn't change the thread's pairs.
 ///
-/// Contents within the device's inline limit are kept in memory.
+/// Keeps contents up to the device's inline limit in memory.
 ///
-/// Errors: `Io` where the device failed. `NoMemory` where memory for a block isn't
-/// granted. After either the contents are dropped. The thread works on.
+/// Errors: `Io` if a device call failed. `NoMemory` if memory for a block can't be allocated. After
+/// either the contents are lost. The thread doesn't fail.
 pub fn write_file<D: BlockDevice>(
     alloc: Global,
     thread: &mut Thread<D>,
@@ -42,13 +42,13 @@ pub fn write_file<D: BlockDevice>(
     thread.run_work(|device, map| write_contents(alloc, device, map, contents, place, bytes))
 }
 
-/// Cuts the contents of an open writer to a size in bytes, or fills them up to it with zeros. The
-/// pairs of the thread stay as they are.
+/// Truncates a writer's contents to a size in bytes, or extends them to it with zeros. Doesn't
+/// change the thread's pairs.
 ///
-/// Contents within the device's inline limit are kept in memory.
+/// Keeps contents up to the device's inline limit in memory.
 ///
-/// Errors: `Io` where the device failed. `NoMemory` where memory for a block isn't
-/// granted. After either the contents are dropped. The thread works on.
+/// Errors: `Io` if a device call failed. `NoMemory` if memory for a block can't be allocated. After
+/// either the contents are lost. The thread doesn't fail.
 pub fn truncate_file<D: BlockDevice>(
     alloc: Global,
     thread: &mut Thread<D>,
@@ -67,11 +67,11 @@ pub fn truncate_file<D: BlockDevice>(
     thread.run_work(|device, map| truncate_contents(alloc, device, map, contents, size))
 }
 
-/// Ends the list in hand of an open writer, where there is one. The contents stay, and so do the
-/// pairs of the thread.
+/// Writes what is left of a writer's draft, so that all blocks of its list are written. The bytes
+/// of the contents stay the same. Doesn't change the thread's pairs.
 ///
-/// Errors: `Io` where the device failed. `NoMemory` where memory for a block isn't
-/// granted. After either the contents are dropped. The thread works on.
+/// Errors: `Io` if a device call failed. `NoMemory` if memory for a block can't be allocated. After
+/// either the contents are lost. The thread doesn't fail.
 pub fn finish_file<D: BlockDevice>(
     alloc: Global,
     thread: &mut Thread<D>,
@@ -88,7 +88,7 @@ pub fn finish_file<D: BlockDevice>(
     thread.run_work(|device, map| finish_contents(alloc, device, map, contents))
 }
 
-// Settles a list in the map of a thread, which works on. After an error the map is of no use.
+// Settles a list in the map of a thread, which doesn't fail. After an error the map can't be used.
 fn settle_in_map<D: BlockDevice>(
     thread: &mut Thread<D>,
     before: StoredList,
@@ -105,12 +105,11 @@ fn settle_in_map<D: BlockDevice>(
     thread.run_work(|device, map| settle_list(device, map, before, stored))
 }
 
-/// Settles a finished list after a commit that names it. Its blocks are used, and those that only
-/// the list before it had are free. Either list may have no bytes, and then has no block. Nothing
-/// is written.
+/// Settles a finished list in the map after a commit that names it: marks its blocks as used, and
+/// frees those that only the list before it had. Either list may be empty, without a block. Writes
+/// nothing.
 ///
-/// Errors: `Io` where the device failed. The thread has failed then, since its map is of no use any
-/// more.
+/// Errors: `Io` if a device call failed. The thread has then failed, since its map can't be used.
 pub fn settle_lists<D: BlockDevice>(
     thread: &mut Thread<D>,
     before: StoredList,

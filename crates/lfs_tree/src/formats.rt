@@ -19,7 +19,7 @@ use lfs_tag::{Superblock, superblock_bytes};
 use lfs_thread::{Thread, ThreadParts};
 use std::alloc::Global;
 
-// Where the thread begins.
+// The pair with which the threaded list begins.
 const ROOT: [u32; 2] = [0, 1];
 
 // Returns the changes that put the superblock into slot 0.
@@ -40,7 +40,7 @@ fn superblock_changes<'a>(structure: &'a [u8; 24]) -> [Change<'a>; 2]
     ]
 }
 
-// Writes the superblock, and nothing else, into a pair of the blocks 0 and 1.
+// Writes a pair into the blocks 0 and 1 that has only the superblock.
 fn write_root_pair<D: BlockDevice>(alloc: Global, device: &mut D) -> Result<Pair, Error>
     ensures root { IfOk result (λ pair. IsRootHeader (disk_of_device D.BlockDevice device.new) (D.history device.new) pair) }
     ensures erases { OnOk result (erase_count (D.history device.new) ≡ erase_count (D.history device.old) + 2) }
@@ -68,14 +68,14 @@ fn write_root_thread<D: BlockDevice>(
     ensures device { ChangesTheseBlocks D.BlockDevice (address_blocks anchor_address) device.old device.new }
     ensures faults { ReportsFaults D.BlockDevice device.old device.new result }
 {
-    // The header's memory is taken before anything is written.
+    // Memory for the header is allocated before anything is written.
     pairs.reserve(1)?;
     let pair = write_root_pair(alloc, device)?;
     pairs.push(pair)?;
     Ok(())
 }
 
-// Makes an empty cache, and a map of so many blocks, of which the first two are used.
+// Makes an empty cache, and a map of `block_count` blocks in which only the first two are used.
 fn map_after_format(alloc: Global, block_count: u32) -> Result<(Cache, BlockMap), Error>
     requires { 2 ≤ block_count }
     ensures empty { IfOk result (λ parts. parts.0 ≡ []) }
@@ -89,19 +89,19 @@ fn map_after_format(alloc: Global, block_count: u32) -> Result<(Cache, BlockMap)
     Ok((cache, map))
 }
 
-/// Makes an empty file system on a device, whatever it holds. Both blocks of the pair {0, 1} are
-/// erased. The first one then has the superblock alone, at revision 1 (SPEC.md of littlefs, "0x0ff
-/// LFS_TYPE_SUPERBLOCK"). The superblock gives version 2.0, the device's block size in bytes and
-/// its block count. It also gives the limits of the device's profile, in bytes: the longest name,
-/// file and attribute. These are 255, 2,147,483,647 and 1,022 where the profile has no lower ones.
-/// The root directory is empty then, and the image may be written. The directories will have their
-/// names in that order, which isn't stored: a mount finds it by the names.
+/// Makes an empty file system on a device, whatever its contents. Erases both blocks of the pair
+/// {0, 1}, and writes the superblock into the first one, at revision 1 (SPEC.md of littlefs, "0x0ff
+/// LFS_TYPE_SUPERBLOCK"). The superblock has version 2.0, the device's block size in bytes and its
+/// block count. It also has the limits of the device's profile, in bytes: of a name, a file and an
+/// attribute. These are 255, 2,147,483,647 and 1,022, unless the profile lowers them. The root
+/// directory is empty, and the image may be written. Directories will have their names in the given
+/// order, which isn't stored: a mount infers it from the names.
 ///
-/// No other block is written. A loss of power during the call leaves each other block as it was.
+/// Writes no other block. A power loss during the call leaves each other block as it was.
 ///
-/// Errors: `Io` where a call of the device failed; the two blocks may hold any bytes then.
-/// `NoMemory` where memory for the map, the headers and a block isn't granted; nothing is written
-/// then. An error comes with the device.
+/// Errors: `Io` if a device call failed; the two blocks may then hold any bytes. `NoMemory` if
+/// memory for the map, the headers and a block can't be allocated; nothing is written then. An
+/// error returns the device, too.
 pub fn format<D: BlockDevice>(
     alloc: Global,
     mut device: D,

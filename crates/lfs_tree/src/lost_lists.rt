@@ -1,4 +1,4 @@
-// The skip lists of slots that are dropped with their pairs.
+// The CTZ skip lists of slots that are dropped with their pairs.
 
 ghost use Rattle.std.specs.Prelude.{◌≡◌, ◌++◌, ◌<◌, IfErr, IfOk, OnOk, false, is_err, length, map};
 ghost use Rattle.std.specs.Option.{option_to_list};
@@ -84,9 +84,9 @@ fn push_pair_lists<D: BlockDevice>(
     push_log_lists(alloc, lists, &thread.lend(index).unwrap())
 }
 
-// Returns the lists that the slots of these pairs name. No path leads to the pairs.
+// Returns the lists that the slots of these pairs name. The pairs are orphans.
 //
-// Errors: `Io` where a read failed. `NoMemory` where memory isn't granted.
+// Errors: `Io` if a read failed. `NoMemory` if memory can't be allocated.
 pub(crate) fn lists_of_pairs<D: BlockDevice>(
     alloc: Global,
     thread: &mut Thread<D>,
@@ -104,9 +104,9 @@ pub(crate) fn lists_of_pairs<D: BlockDevice>(
     Ok(lists)
 }
 
-// Frees the blocks of lists in the map, after no pair names them any more. Nothing is written.
+// Frees the blocks of lists in the map, once no pair names them. Writes nothing.
 //
-// Errors: `Io` where a read failed. The thread has failed then.
+// Errors: `Io` if a read failed. The thread has failed then.
 pub(crate) fn free_lists<D: BlockDevice>(
     thread: &mut Thread<D>,
     lists: &[StoredList],

@@ -1,4 +1,4 @@
-// How a recovery ends what a loss of power left.
+// The recovery: completes what a power loss left half done.
 
 ghost use Rattle.std.specs.Prelude.{◌≡◌, true, OnOk};
 ghost use Rattle.lfs_model.specs.format.Slots.{zero_gstate};
@@ -21,10 +21,10 @@ use lfs_operations::{drop_unreached_pairs, end_move};
 use lfs_thread::Thread;
 use std::alloc::Global;
 
-// Drops the pairs of these numbers, which no path leads to, and frees the lists that their slots
-// name. No move is set.
+// Drops the orphans of these pair indices, and frees the lists that their slots name. No move is
+// pending.
 //
-// Errors: `Io` where a call of the device failed. `NoMemory` where memory isn't granted.
+// Errors: `Io` if a device call failed. `NoMemory` if memory can't be allocated.
 fn drop_with_lists<D: BlockDevice>(
     alloc: Global,
     thread: &mut Thread<D>,
@@ -43,8 +43,8 @@ fn drop_with_lists<D: BlockDevice>(
     Ok(())
 }
 
-// Drops the directories that no path leads to, with their files. No move is set, and the root
-// directory begins with the pair of number `root`.
+// Drops all orphans, the pairs of directories that no path leads to, with their files. No move is
+// pending, and the root directory begins with the pair of index `root`.
 //
 // Errors are those of `drop_with_lists`.
 fn drop_unreached_directories<D: BlockDevice>(
@@ -61,13 +61,13 @@ fn drop_unreached_directories<D: BlockDevice>(
 {
     lemma_block_facts(thread);
     let numbers = find_unreached_pairs(alloc, thread, root)?;
-    // The lists are known before anything is written.
+    // The lists have to be read before the pairs that name them are dropped.
     let lists = lists_of_pairs(alloc, thread, &numbers)?;
     drop_with_lists(alloc, thread, &numbers, &lists)?;
     Ok(())
 }
 
-// Ends what a loss of power left: a set move, and directories that no path leads to.
+// Completes what a power loss left half done: a pending move, and orphans.
 //
 // Errors are those of `drop_unreached_directories`.
 pub(crate) fn recover_thread<D: BlockDevice>(

@@ -1,4 +1,4 @@
-// The contents of files that are opened for writing.
+// The contents of a file that is opened for writing.
 
 ghost use Rattle.std.specs.Prelude.{◌≡◌, [], false, length, IfErr, IfOk};
 ghost use Rattle.lfs_model.specs.session.TreeEdits.{file_bytes};
@@ -28,7 +28,7 @@ fn geometry_of<D: BlockDevice>(thread: &Thread<D>) -> Geometry
     thread.device().geometry()
 }
 
-// Makes contents in memory, of a slot that has so many bytes.
+// Reads the `len` inline bytes of a slot into contents in memory.
 fn open_inline_contents<D: BlockDevice>(
     alloc: Global,
     thread: &mut Thread<D>,
@@ -45,11 +45,11 @@ fn open_inline_contents<D: BlockDevice>(
     contents_in_memory(alloc, geometry, &bytes)
 }
 
-// Makes contents in a finished list, of a slot that names it.
+// Makes contents of the finished list that a slot names.
 fn open_list_contents<D: BlockDevice>(thread: &Thread<D>, head: u32, size: u32) -> WriterContents
     ensures { (slot : SpotSeen) (held : Slot) → CanOpenSlot thread.now.kept slot (entry_contents.List head size) held → AreOpenedContents thread.now.kept held.struct (opened_form (entry_contents.List head size)) result }
 {
-    // The blocks are of that size, for the proof.
+    // A proof needs the device's block size.
     let _geometry = geometry_of(thread);
     WriterContents::Finished(StoredList {
         head,
@@ -58,7 +58,7 @@ fn open_list_contents<D: BlockDevice>(thread: &Thread<D>, head: u32, size: u32) 
     })
 }
 
-// Makes the contents of a file, from its slot.
+// Makes the contents of a file from its slot.
 fn open_contents<D: BlockDevice>(
     alloc: Global,
     thread: &mut Thread<D>,
@@ -76,8 +76,7 @@ fn open_contents<D: BlockDevice>(
     }
 }
 
-// Makes the contents of the file at a path: in memory where they are inline in its entry, else its
-// list.
+// Makes the contents of the file at a path: in memory if the file is inline, otherwise its list.
 pub(crate) fn open_contents_at<D: BlockDevice>(
     alloc: Global,
     thread: &mut Thread<D>,
@@ -99,7 +98,7 @@ pub(crate) fn open_contents_at<D: BlockDevice>(
     open_contents(alloc, thread, slot, contents)
 }
 
-// Makes contents of no bytes.
+// Makes empty contents.
 pub(crate) fn contents_of_nothing<D: BlockDevice>(
     alloc: Global,
     thread: &Thread<D>,

@@ -1,4 +1,4 @@
-// The pairs of directories that no path leads to.
+// Orphans: the pairs of directories that no path leads to.
 
 ghost use Rattle.std.specs.Prelude.{◌≡◌, ◌<◌, ◌≤◌, ◌++◌, ◌∷◌, [], IfOk, OnOk, false, if◌then◌else◌, length, replicate, slice_index_or};
 ghost use Rattle.lfs_model.specs.format.Thread.{count_before_root};
@@ -15,14 +15,14 @@ use lfs_lookup::{NameAndOwnedStruct, OwnedStruct, directory_items, follows_hard_
 use lfs_thread::{Thread, number_at_address};
 use std::alloc::{AllocError, Global};
 
-// Makes so many marks that aren't set.
+// Makes `count` marks, none of them set.
 fn fresh_marks(alloc: Global, count: usize) -> Result<Vec<bool>, AllocError>
     ensures { IfOk result (λ marks. marks.items ≡ replicate count false) }
 {
     vec![in alloc; false; count]
 }
 
-// Marks the pair of a number, unless it is marked. Its directory is visited later.
+// Marks a pair and queues it, so that its directory is visited, unless it is marked already.
 fn mark_reached(
     marks: &mut Vec<bool>,
     pending: &mut Vec<usize>,
@@ -75,7 +75,7 @@ fn mark_directories<D: BlockDevice>(
     Ok(())
 }
 
-// Returns which pairs a path leads to, as the first of a directory.
+// Returns for each pair whether it is the first one of a directory that a path leads to.
 fn mark_reached_directories<D: BlockDevice>(
     alloc: Global,
     thread: &mut Thread<D>,
@@ -98,8 +98,8 @@ fn mark_reached_directories<D: BlockDevice>(
     Ok(marks)
 }
 
-// Returns whether a path leads to the directory of a pair. Where a hard tail leads to the pair,
-// this is so of the pair before.
+// Returns whether a path leads to the directory of a pair. If the pair is behind a hard tail, that
+// is `before`, the answer for the pair before it.
 fn continues_reached<D: BlockDevice>(
     thread: &Thread<D>,
     root: usize,
@@ -119,7 +119,7 @@ fn continues_reached<D: BlockDevice>(
     }
 }
 
-// Notes a number, unless a path leads there.
+// Appends a pair index, unless a path leads to the pair.
 fn push_if_unreached(
     numbers: &mut Vec<usize>,
     index: usize,
@@ -133,7 +133,7 @@ fn push_if_unreached(
     Ok(())
 }
 
-// Returns the numbers of the pairs of directories whose first one isn't marked.
+// Returns the indices of the pairs of directories whose first pair isn't marked.
 fn unreached_numbers<D: BlockDevice>(
     alloc: Global,
     thread: &Thread<D>,
@@ -155,10 +155,10 @@ fn unreached_numbers<D: BlockDevice>(
     Ok(numbers)
 }
 
-// Returns the numbers of the pairs of directories that no path leads to. The root directory begins
-// with the pair of number `root`.
+// Returns the indices of all orphans, the pairs of directories that no path leads to. The root
+// directory begins with the pair of index `root`.
 //
-// Errors: `Io` where a read failed. `NoMemory` where memory isn't granted.
+// Errors: `Io` if a read failed. `NoMemory` if memory can't be allocated.
 pub(crate) fn find_unreached_pairs<D: BlockDevice>(
     alloc: Global,
     thread: &mut Thread<D>,

@@ -23,10 +23,10 @@ use lfs_thread::Thread;
 use std::alloc::Global;
 
 impl<D: BlockDevice> Tree<D> {
-    /// Looks up a path, and returns the contents of a file there. Each pair of the directories
-    /// above it is read at most once, and none where all of them are cached.
+    /// Looks up a path, and returns the contents of the file there, if it is one. Reads each
+    /// metadata pair of the directories above it at most once, and none if all of them are cached.
     ///
-    /// Errors: `Io` where a read failed. `NoMemory` where memory isn't granted. The tree has failed
+    /// Errors: `Io` if a read failed. `NoMemory` if memory can't be allocated. The tree has failed
     /// after either.
     pub fn find_file(&mut self, alloc: Global, path: &Path<'_>) -> Result<FoundFile, Error>
         requires { self.old.failed ≡ false }
@@ -40,14 +40,14 @@ impl<D: BlockDevice> Tree<D> {
         found
     }
 
-    /// Reads the bytes from a position on of a file with these contents into the buffer, as many as
-    /// the buffer and the file have. Returns how many these are; the rest of the buffer stays. Nothing
-    /// is looked up, and inline bytes take no reads. The bytes of a list are found from the nearest
-    /// of its blocks that are known, and the blocks on the way are noted. A read that goes on within
-    /// a block reads it whole into the cache, where memory for it is granted.
+    /// Fills a buffer with the bytes of a file from a position on, or a part of it if the file ends
+    /// earlier. Returns how many bytes these are; the rest of the buffer stays as it was. Looks
+    /// nothing up, and makes no read for inline bytes. Finds the blocks of a list from the nearest
+    /// one in `known`, and adds those on its way to `known`. A sequential read within a block reads
+    /// the whole block into the cache, if memory for it can be allocated.
     ///
-    /// Errors: `Io` where a read failed. Then the tree has failed, and it isn't said what the buffer
-    /// holds.
+    /// Errors: `Io` if a read failed. Then the tree has failed, and the buffer's bytes are
+    /// unspecified.
     pub fn read(
         &mut self,
         contents: &FileContents,
@@ -70,8 +70,7 @@ impl<D: BlockDevice> Tree<D> {
         count
     }
 
-    /// Returns the size in bytes of a file with these contents. The call makes no call of the
-    /// device.
+    /// Returns the size in bytes of a file with these contents. Does not access the device.
     pub fn size_of_contents(&self, contents: &FileContents) -> u32
         requires works { self.now.failed ≡ false }
         requires there { (path : ModelPath) × IsStorageAt self.now.pairs path contents.now }
@@ -86,8 +85,7 @@ impl<D: BlockDevice> Tree<D> {
     }
 }
 
-// Copies bytes from a position on to the beginning of the buffer, as many as there are and as it has
-// room for. Returns how many these are.
+// Copies the bytes from a position on into the buffer, as many as fit. Returns how many these are.
 fn copy_from_position(bytes: &[u8], position: u32, buf: &mut [u8]) -> usize
     ensures count { result ≡ min (length buf.old) (length bytes.now - position) }
     ensures bytes { take result buf.new ≡ take (length buf.old) (drop position bytes.now) }
@@ -99,8 +97,8 @@ fn copy_from_position(bytes: &[u8], position: u32, buf: &mut [u8]) -> usize
     count
 }
 
-// Reads the bytes from a position on of a file with these contents into the buffer. The known blocks
-// are those of its list.
+// Reads the bytes of a file from a position on into the buffer. `known` has blocks of the file's
+// list.
 fn read_known_contents<D: BlockDevice>(
     thread: &mut Thread<D>,
     contents: &FileContents,

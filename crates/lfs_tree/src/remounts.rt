@@ -1,4 +1,4 @@
-// A device that is mounted again.
+// Remounts.
 
 ghost use Rattle.std.specs.Prelude.{◌≡◌, IfErr, IfOk, OnErr, OnOk};
 ghost use Rattle.lfs_blocks.specs.Next.{BeginsAt};
@@ -10,18 +10,18 @@ use lfs_device::{BlockDevice, Error};
 use lfs_thread::{Thread, ThreadParts};
 use std::alloc::Global;
 
-// What a thread has besides its device, for a device of which nothing is known.
+// The parts of a thread besides its device, allocated before a remount that may fail.
 #[derive(Drop)]
 pub(crate) struct SpareThreadParts {
     alloc: Global,
     cache: Cache,
     map: BlockMap,
-    // Where the search for free blocks goes on.
+    // The block at which the lookahead goes on.
     start: u32,
 }
 
 impl SpareThreadParts {
-    // Takes the memory for it.
+    // Allocates the parts.
     pub(crate) fn new(alloc: Global, start: u32) -> Result<SpareThreadParts, Error>
         ensures start { IfOk result (λ spare. spare.start ≡ start) }
         ensures error { IfErr result (λ e. e ≡ Error.NoMemory) }
@@ -38,9 +38,8 @@ impl SpareThreadParts {
     }
 }
 
-// Mounts the same device again, and searches on for free blocks, from the block that it returns. So
-// a block whose erase or program failed isn't the first one again. A tree that fails keeps its order
-// of names.
+// Mounts the same device again. The lookahead goes on at `spare.start`, so a block whose erase or
+// program failed isn't the first one to be tried again. A tree that fails keeps its order of names.
 pub(crate) fn mount_again<D: BlockDevice>(
     tree: Tree<D>,
     spare: SpareThreadParts,

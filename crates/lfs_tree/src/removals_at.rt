@@ -1,4 +1,4 @@
-// Entries at paths that are removed, in a thread that has nothing to recover.
+// Removals by path, in a thread that has nothing to recover.
 
 ghost use Rattle.std.specs.Prelude.{◌≡◌, true, false, is_err, OnOk};
 ghost use Rattle.lfs_tree.specs.SettledFiles.{ChangesOnlyMap};
@@ -26,10 +26,9 @@ use lfs_operations::{remove_directory, remove_file};
 use lfs_thread::Thread;
 use std::alloc::Global;
 
-// Frees the blocks of a file's list in the map, after no pair names it any more. Nothing is
-// written.
+// Frees the blocks of a file's list in the map, once no pair names it. Writes nothing.
 //
-// Errors: `Io` where a read failed. The thread has failed then.
+// Errors: `Io` if a read failed. The thread has failed then.
 pub(crate) fn free_file_list<D: BlockDevice>(
     thread: &mut Thread<D>,
     contents: FileStorage,
@@ -60,7 +59,7 @@ pub(crate) fn free_file_list<D: BlockDevice>(
     }
 }
 
-// Removes the file in a slot of the directory that begins with the pair of number `parent`.
+// Removes the file in a slot of the directory that begins with the pair of index `parent`.
 fn remove_with_list<D: BlockDevice>(
     alloc: Global,
     thread: &mut Thread<D>,
@@ -79,7 +78,7 @@ fn remove_with_list<D: BlockDevice>(
     free_file_list(thread, contents)
 }
 
-// Removes what was found, a file or a directory without entries.
+// Removes the entry that a look-up found: a file, or a directory without entries.
 fn remove_found_entry<D: BlockDevice>(
     alloc: Global,
     thread: &mut Thread<D>,
@@ -109,7 +108,7 @@ fn remove_found_entry<D: BlockDevice>(
 
 // Removes a file, or a directory without entries.
 //
-// Errors: `Io` where a call of the device failed. `NoMemory` where memory isn't granted.
+// Errors: `Io` if a device call failed. `NoMemory` if memory can't be allocated.
 pub(crate) fn remove_at<D: BlockDevice>(
     alloc: Global,
     thread: &mut Thread<D>,

@@ -1,4 +1,4 @@
-// What is at the two paths of a rename, before anything is written.
+// The look-ups of a rename's two paths, before anything is written.
 
 ghost use Rattle.std.specs.Prelude.{◌≡◌, ◌≤◌, ◌+◌, ◌++◌, true, false, IfOk, IfSome, IsSome, sum_by};
 ghost use Rattle.lfs_model.specs.crash.Frame.{directory_pair_count, ancestor_paths};
@@ -25,8 +25,8 @@ use lfs_lookup::{
 use lfs_thread::Thread;
 use std::alloc::Global;
 
-/// Where the two paths of a rename lead to, in an image that has nothing to recover. A rename takes
-/// it in place of two look-ups.
+/// The results of the look-ups of a rename's two paths, in an image that has nothing to recover.
+/// They save [`rename`](Tree::rename) its own look-ups.
 #[derive(Clone, Copy, Drop)]
 pub struct RenameTargets {
     pub(crate) entry: PathLookup,
@@ -40,14 +40,14 @@ pub struct RenameFindings {
     pub entry: FoundNode,
     /// What is at the new path.
     pub target: NodeAndEmptiness,
-    /// How many bytes of its pair the attributes at the old path take, each with its tag of 4
-    /// bytes.
+    /// How many bytes the attributes at the old path use of their metadata pair, each with its tag
+    /// of 4 bytes.
     pub attributes_size: usize,
-    /// Where the paths lead to. None where something is to recover first.
+    /// The results for [`rename`](Tree::rename). None if a recovery has to come first.
     pub targets: Option<RenameTargets>,
 }
 
-// Returns what was found, but for where a name belongs and in which directory it is.
+// Returns the result of a look-up without the directory, and without the slot of a missing name.
 pub(crate) fn found_without_parent(found: PathLookup) -> VisiblePathLookup
     ensures { result ≡ lookup_without_parent found }
 {
@@ -82,7 +82,7 @@ fn find_rename_targets<D: BlockDevice>(
     })
 }
 
-// Returns where the two paths lead to: what is known, or else what a look-up finds.
+// Returns the results of both look-ups: `known` if they are there, or else it looks the paths up.
 pub(crate) fn given_or_found<D: BlockDevice>(
     alloc: Global,
     thread: &mut Thread<D>,
@@ -102,8 +102,7 @@ pub(crate) fn given_or_found<D: BlockDevice>(
     }
 }
 
-// Returns what is at a path by what was found there, and whether it is a directory that has
-// entries.
+// Returns the node that a look-up found, and whether it is a directory that has entries.
 fn node_and_emptiness<D: BlockDevice>(
     alloc: Global,
     thread: &mut Thread<D>,
@@ -120,7 +119,7 @@ fn node_and_emptiness<D: BlockDevice>(
 {
     let shown = found_without_parent(found);
     let has_entries = has_entries(alloc, thread, first_pair_found(root, shown))?;
-    // By the sizes of its blocks a list has as many bytes as its entry says.
+    // A proof needs the device's block size to see that a list has as many bytes as its entry says.
     let _device = thread.device();
     Ok(NodeAndEmptiness {
         finding: finding_shown(shown),
@@ -128,7 +127,7 @@ fn node_and_emptiness<D: BlockDevice>(
     })
 }
 
-// Looks up the two paths of a rename where nothing is to recover.
+// Looks up the two paths of a rename if nothing is to recover.
 fn rename_findings<D: BlockDevice>(
     alloc: Global,
     thread: &mut Thread<D>,
@@ -146,7 +145,7 @@ fn rename_findings<D: BlockDevice>(
     let targets = find_rename_targets(alloc, thread, root, from, to)?;
     let attributes_size = attributes_size_at(alloc, thread, root, from)?;
     let target = node_and_emptiness(alloc, thread, root, to, targets.target)?;
-    // By the sizes of its blocks a list has as many bytes as its entry says.
+    // A proof needs the device's block size to see that a list has as many bytes as its entry says.
     let _device = thread.device();
     Ok(RenameFindings {
         entry: finding_shown(found_without_parent(targets.entry)),
@@ -156,7 +155,7 @@ fn rename_findings<D: BlockDevice>(
     })
 }
 
-// Looks up the two paths of a rename where something is to recover first.
+// Looks up the two paths of a rename if a recovery has to come first.
 fn unrecovered_rename_findings<D: BlockDevice>(
     alloc: Global,
     thread: &mut Thread<D>,
@@ -205,11 +204,11 @@ fn rename_targets<D: BlockDevice>(
 }
 
 impl<D: BlockDevice> Tree<D> {
-    /// Looks up the two paths of a rename. Where nothing is to recover, the rename needs no other
-    /// look-up. The call reads no more pairs than the directories above the old path have, twice,
-    /// those above the new path and the one at it.
+    /// Looks up the two paths of a rename. If nothing is to recover, [`rename`](Tree::rename) needs
+    /// no other look-up. Makes at most two reads for each metadata pair of the directories above
+    /// the old path, and one for each pair of those above the new path and of the directory at it.
     ///
-    /// Errors: `Io` where a read failed. `NoMemory` where memory isn't granted. The tree has failed
+    /// Errors: `Io` if a read failed. `NoMemory` if memory can't be allocated. The tree has failed
     /// after either.
     pub fn look_up_rename(
         &mut self,

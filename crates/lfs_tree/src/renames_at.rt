@@ -1,4 +1,4 @@
-// Entries at paths that get another one, in a thread that has nothing to recover.
+// Renames by path, in a thread that has nothing to recover.
 
 ghost use Rattle.std.specs.Prelude.{ℕ, ◌≡◌, false, true, List, IfOk, IfSome, IsSome, OnOk};
 ghost use Rattle.lfs_model.specs.format.Slots.{zero_gstate};
@@ -33,14 +33,14 @@ use lfs_operations::{
 use lfs_thread::Thread;
 use std::alloc::Global;
 
-// An entry's slot, and the number of the first pair of its directory.
+// An entry's slot, and the index of the first pair of its directory.
 #[derive(Clone, Copy, Drop)]
 pub(crate) struct RenameSource {
     pub(crate) slot: SlotPosition,
     pub(crate) first: usize,
 }
 
-// An entry that gets another path, what is at that path, and the path's last name.
+// The entry that is renamed, the look-up of its new path, and that path's last name.
 #[derive(Drop)]
 struct FoundMove<'a> {
     source: RenameSource,
@@ -63,8 +63,8 @@ fn found_rename_source(found: PathLookup) -> RenameSource
     }
 }
 
-// Puts an entry at a place, in its pair or in another one. With `replaces` the file that is there
-// goes, and its list is left in the map.
+// Moves an entry to a slot, in its own pair or in another one. With `replaces` the file in that
+// slot is removed, and its list stays in the map.
 fn move_entry<D: BlockDevice>(
     alloc: Global,
     thread: &mut Thread<D>,
@@ -99,7 +99,7 @@ fn move_entry<D: BlockDevice>(
     }
 }
 
-// Puts an entry in the place of a file.
+// Moves an entry over a file, which is removed.
 fn move_onto_file<D: BlockDevice>(
     alloc: Global,
     thread: &mut Thread<D>,
@@ -119,7 +119,7 @@ fn move_onto_file<D: BlockDevice>(
     free_file_list(thread, contents)
 }
 
-// Puts an entry in the place of a directory without entries, whose own pair has number `gone`.
+// Moves an entry over a directory without entries, which is removed. Its own pair has index `gone`.
 fn move_onto_directory<D: BlockDevice>(
     alloc: Global,
     thread: &mut Thread<D>,
@@ -154,8 +154,8 @@ fn move_onto_directory<D: BlockDevice>(
     }
 }
 
-// Finds the entry that moves, and what is at its new path. The paths are looked up, unless it is
-// known where they lead to.
+// Finds the entry that is renamed, and what is at its new path. Looks the paths up unless `known`
+// has the results.
 fn find_move<'a, D: BlockDevice>(
     alloc: Global,
     thread: &mut Thread<D>,
@@ -186,10 +186,10 @@ fn find_move<'a, D: BlockDevice>(
     })
 }
 
-// Gives an entry another path. At that path is no entry, a file, or a directory without entries.
-// The paths are looked up, unless it is known where they lead to.
+// Renames an entry. Its new path has no entry, a file, or a directory without entries. Looks the
+// paths up unless `known` has the results.
 //
-// Errors: `Io` where a call of the device failed. `NoMemory` where memory isn't granted.
+// Errors: `Io` if a device call failed. `NoMemory` if memory can't be allocated.
 pub(crate) fn rename_at<D: BlockDevice>(
     alloc: Global,
     thread: &mut Thread<D>,
@@ -220,15 +220,15 @@ pub(crate) fn rename_at<D: BlockDevice>(
 }
 
 impl<D: BlockDevice> Tree<D> {
-    /// Gives an entry another path. At that path is no entry, a file, or an empty directory, which
-    /// is replaced. The entries beneath a directory move with it.
+    /// Renames or moves an entry. Replaces a file or an empty directory at the new path. The
+    /// entries beneath a directory move with it.
     ///
-    /// `known` is where the paths lead to, as [`look_up_rename`](Tree::look_up_rename) has just
-    /// found it. It is None where something is to recover: a recovery comes first then, and the
-    /// paths are looked up again after it.
+    /// `known` is the result of [`look_up_rename`](Tree::look_up_rename), called just before. It is
+    /// None if something is to recover. Then this call recovers first, and looks the paths up
+    /// again.
     ///
-    /// Errors: `Io` where a call of the device failed. `NoMemory` where memory isn't granted. The
-    /// tree has failed after either.
+    /// Errors: `Io` if a device call failed. `NoMemory` if memory can't be allocated. The tree has
+    /// failed after either.
     pub fn rename(
         &mut self,
         alloc: Global,

@@ -1,4 +1,4 @@
-// A mounted image, whose calls take paths.
+// A mounted image, changed and read by paths.
 
 ghost use Rattle.std.specs.Prelude.{◌≡◌, ◌<◌, ◌==◌, ◌≤◌, ◌+◌, ◌^◌, ◌++◌, ◌∷◌, List, [], length, map, true, false, None, Some, IfOk, IfErr, IfSome, IsSome, OnErr, OnOk, sum_by};
 ghost use Rattle.std.specs.List.{list_any};
@@ -52,18 +52,17 @@ use lfs_thread::Thread;
 use std::alloc::Global;
 use std::marker::Model;
 
-/// A mounted image: a file system of littlefs on a device, in a version that the device's profile
-/// accepts.
+/// A mounted littlefs image on a device, in a version that the device's profile accepts.
 ///
-/// After each change of the tree at most one metadata pair moves to other blocks, where the device's
-/// profile gives `pair_cycles` and the pair is worn.
+/// After each change at most one worn metadata pair is relocated to other blocks, if `pair_cycles`
+/// of the device's profile isn't 0.
 ///
-/// After an error the tree has failed. Then the only useful call is [`remount`](Tree::remount).
+/// After an error the tree has failed, and only [`remount`](Tree::remount) is of use.
 #[derive(Drop)]
 pub struct Tree<D: BlockDevice> {
-    // The thread has failed where a call of the tree has.
+    // The threaded list of metadata pairs. It has failed once a call of the tree has.
     pub(crate) thread: Thread<D>,
-    // The number of the root directory's first pair.
+    // The index of the root directory's first pair.
     pub(crate) root: usize,
     pub(crate) is_writable: bool,
 }
@@ -80,11 +79,11 @@ impl<D: BlockDevice> Model for Tree<D> {
 }
 
 impl<D: BlockDevice> Tree<D> {
-    /// Reads the image of a device, in the order of names that it has. Where both orders fit, the
-    /// longer names come first. Only reads are made.
+    /// Mounts the image of a device, and finds the order of names that it has. If both orders fit,
+    /// it is `LongerFirst`. Only reads the device.
     ///
-    /// Errors: `Corrupt` exactly where the device has no accepted image in either order. `Io` where
-    /// a read failed. `NoMemory` where memory isn't granted. An error comes with the device.
+    /// Errors: `Corrupt` exactly if the device has no accepted image in either order. `Io` if a
+    /// read failed. `NoMemory` if memory can't be allocated. An error returns the device, too.
     pub fn mount(alloc: Global, device: D) -> Result<Tree<D>, (D, Error)>
         ensures mounted { IfOk result (λ t. IsMountedTree (ordered_disk t.disk.order (disk_of_device D.BlockDevice device)) (D.history device) t) }
         ensures longer { IfOk result (λ t. t.disk.order ≡ ShorterFirst → (ps : List Pair) → ¬ IsAccepted (ordered_disk LongerFirst (disk_of_device D.BlockDevice device)) ps) }
@@ -106,7 +105,7 @@ impl<D: BlockDevice> Tree<D> {
 
     /// Makes an empty file system on a device, as [`format`](crate::format) does.
     ///
-    /// Errors are those of that call.
+    /// Errors are those of [`format`](crate::format).
     pub fn format(alloc: Global, device: D, order: NameOrder) -> Result<Tree<D>, (D, Error)>
         ensures works { IfOk result (λ t. (t.failed ≡ false) × (t.writable ≡ true)) }
         ensures sound { IfOk result IsSoundState }
@@ -125,9 +124,9 @@ impl<D: BlockDevice> Tree<D> {
         }
     }
 
-    /// Reads the device again, after an error too, and finds the order of its names again. No block
-    /// is in flight afterwards. The search for free blocks goes on after the block that was taken
-    /// last, so after an `Io` the operation can be tried again on another block.
+    /// Mounts the device again, also after an error, and finds the order of its names again. No
+    /// block is in flight afterwards. The lookahead goes on after the block that was allocated
+    /// last, so an operation that failed with `Io` can be retried on another block.
     ///
     /// Errors are those of [`mount`](Tree::mount). The tree has failed after any.
     pub fn remount(&mut self, alloc: Global) -> Result<(), Error>
@@ -147,7 +146,7 @@ impl<D: BlockDevice> Tree<D> {
         }
     }
 
-    /// Borrows the device, as the last call left it, after an error too.
+    /// Borrows the device, as the last call left it, also after an error.
     pub fn device(&self) -> &D
         ensures disk { ordered_disk self.now.disk.order (disk_of_device D.BlockDevice result.now) ≡ self.now.disk }
         ensures history { D.history result.now ≡ self.now.history }
@@ -155,7 +154,7 @@ impl<D: BlockDevice> Tree<D> {
         self.thread.device()
     }
 
-    /// Returns the device, as the last call left it, also from a tree that has failed.
+    /// Returns the device, as the last call left it, also after an error.
     pub fn into_device(self) -> D
         ensures disk { ordered_disk self.disk.order (disk_of_device D.BlockDevice result) ≡ self.disk }
         ensures history { D.history result ≡ self.history }
@@ -163,14 +162,14 @@ impl<D: BlockDevice> Tree<D> {
         self.thread.into_device()
     }
 
-    /// Returns the order of the names in the image's directories.
+    /// Returns the order of names in the image's directories.
     pub fn order(&self) -> NameOrder
         ensures { result ≡ self.now.disk.order }
     {
         self.thread.order()
     }
 
-    /// Returns whether a call failed.
+    /// Returns whether the tree has failed.
     pub fn has_failed(&self) -> bool
         ensures { result ≡ self.now.failed }
     {
@@ -194,7 +193,7 @@ impl<D: BlockDevice> Tree<D> {
         self.device().geometry()
     }
 
-    /// Makes the tree fail, for a session whose own memory isn't granted.
+    /// Marks the tree as failed, for a session that can't allocate its own memory.
     pub fn fail(&mut self)
         ensures { self.new ≡ record self.old { failed = true } }
     {
@@ -226,10 +225,10 @@ impl<D: BlockDevice> Tree<D> {
         self.thread.state()
     }
 
-    /// Returns the superblock with which the root directory begins. The call takes at most one read.
+    /// Returns the image's superblock. Makes at most one read.
     ///
-    /// Errors: `Io` where the read failed. `NoMemory` where memory isn't granted. The tree has failed
-    /// after either.
+    /// Errors: `Io` if the read failed. `NoMemory` if memory can't be allocated. The tree has
+    /// failed after either.
     pub fn superblock(&mut self, alloc: Global) -> Result<Superblock, Error>
         requires { self.old.failed ≡ false }
         ensures asks { ReadsTreeOrFails self.old result self.new }
@@ -242,10 +241,10 @@ impl<D: BlockDevice> Tree<D> {
     }
 
     /// Returns which rule of the writing profile the image breaks, and where. Returns None exactly
-    /// if the image may be written. The call only reads.
+    /// if the image may be written. Only reads the device.
     ///
-    /// Errors: `Io` if a read failed. `NoMemory` if memory isn't granted. The tree has failed after
-    /// either.
+    /// Errors: `Io` if a read failed. `NoMemory` if memory can't be allocated. The tree has failed
+    /// after either.
     pub fn profile_breach(&mut self, alloc: Global) -> Result<Option<ProfileBreach>, Error>
         requires { self.old.failed ≡ false }
         ensures asks { ReadsTreeOrFails self.old result self.new }
@@ -256,10 +255,11 @@ impl<D: BlockDevice> Tree<D> {
         breach
     }
 
-    /// Looks up a path. Each pair of the directories above it is read at most once, and none where
-    /// all of them are cached. At most eight directories of one pair each are cached then.
+    /// Looks up a path. Reads each metadata pair of the directories above it at most once, and none
+    /// if all of them are cached. Leaves them cached if they are at most eight directories of one
+    /// pair each.
     ///
-    /// Errors: `Io` where a read failed. `NoMemory` where memory isn't granted. The tree has failed
+    /// Errors: `Io` if a read failed. `NoMemory` if memory can't be allocated. The tree has failed
     /// after either.
     pub fn look_up(&mut self, alloc: Global, path: &Path<'_>) -> Result<FoundNode, Error>
         requires { self.old.failed ≡ false }
@@ -273,10 +273,10 @@ impl<D: BlockDevice> Tree<D> {
         found
     }
 
-    /// Looks up a path, and returns whether it leads to a directory that has entries. The call
-    /// reads no more pairs than the directories above the path and the one at it have.
+    /// Looks up a path, and returns whether it leads to a directory that has entries. Makes at most
+    /// one read for each metadata pair of the directory at the path and of those above it.
     ///
-    /// Errors: `Io` where a read failed. `NoMemory` where memory isn't granted. The tree has failed
+    /// Errors: `Io` if a read failed. `NoMemory` if memory can't be allocated. The tree has failed
     /// after either.
     pub fn look_up_node(
         &mut self,
@@ -294,11 +294,10 @@ impl<D: BlockDevice> Tree<D> {
         inside
     }
 
-    /// Looks up a path, and returns an attribute of its entry, which has at most 1,022 bytes. Each
-    /// pair of the directories above it is read at most once, and none where all of them are
-    /// cached.
+    /// Looks up a path, and returns an attribute of its entry, at most 1,022 bytes. Reads each
+    /// metadata pair of the directories above it at most once, and none if all of them are cached.
     ///
-    /// Errors: `Io` where a read failed. `NoMemory` where memory isn't granted. The tree has failed
+    /// Errors: `Io` if a read failed. `NoMemory` if memory can't be allocated. The tree has failed
     /// after either.
     pub fn get_attr(
         &mut self,
@@ -317,11 +316,11 @@ impl<D: BlockDevice> Tree<D> {
         found
     }
 
-    /// Returns how many bytes of its pair the attributes of the entry at a path take, each with its
-    /// tag of 4 bytes. Returns 0 where no entry is there. The call reads no more pairs than the
-    /// directories above the path have, and none where all of them are cached.
+    /// Returns how many bytes the attributes of the entry at a path use of its metadata pair, each
+    /// with its tag of 4 bytes; 0 if there is no entry. Makes at most one read for each metadata
+    /// pair of the directories above the path, and none if all of them are cached.
     ///
-    /// Errors: `Io` where a read failed. `NoMemory` where memory isn't granted. The tree has failed
+    /// Errors: `Io` if a read failed. `NoMemory` if memory can't be allocated. The tree has failed
     /// after either.
     pub fn attributes_size(&mut self, alloc: Global, path: &Path<'_>) -> Result<usize, Error>
         requires { self.old.failed ≡ false }
@@ -334,11 +333,11 @@ impl<D: BlockDevice> Tree<D> {
         size
     }
 
-    /// Looks up a path, and returns the entries in it, where it leads to a directory. Each pair of
-    /// the directories above it, and of its own, is read at most once, and none where all of them
+    /// Looks up a path, and returns the entries of the directory there, if it is one. Reads each
+    /// metadata pair of the directory and of those above it at most once, and none if all of them
     /// are cached.
     ///
-    /// Errors: `Io` where a read failed. `NoMemory` where memory isn't granted. The tree has failed
+    /// Errors: `Io` if a read failed. `NoMemory` if memory can't be allocated. The tree has failed
     /// after either.
     pub fn list(&mut self, alloc: Global, path: &Path<'_>) -> Result<Listing, Error>
         requires { self.old.failed ≡ false }
@@ -352,12 +351,12 @@ impl<D: BlockDevice> Tree<D> {
         listing
     }
 
-    /// Makes an empty directory where no entry is.
+    /// Makes an empty directory at a path without an entry.
     ///
-    /// A recovery comes first.
+    /// Recovers first.
     ///
-    /// Errors: `Io` where a call of the device failed. `NoMemory` where memory isn't granted. The
-    /// tree has failed after either.
+    /// Errors: `Io` if a device call failed. `NoMemory` if memory can't be allocated. The tree has
+    /// failed after either.
     pub fn mkdir(&mut self, alloc: Global, path: &Path<'_>) -> Result<(), Error>
         requires { CanMakeDirectory self.old path.now }
         ensures { AppliesCallOrFails self.old (call.Mkdir path.now) result self.new }
@@ -368,15 +367,15 @@ impl<D: BlockDevice> Tree<D> {
         self.relocate(alloc, plan, made)
     }
 
-    /// Makes an empty file where no entry is. Where nothing is to recover and no pair may move, the
-    /// call takes at most six reads.
+    /// Creates an empty file at a path without an entry. Makes at most six reads if nothing is to
+    /// recover and no pair may be relocated.
     ///
-    /// `known` is where the path leads to, as [`look_up_creation`](Tree::look_up_creation) has just found
-    /// it. It is None where something is to recover: a recovery comes first then, and the path is looked up
-    /// again after it.
+    /// `known` is the result of [`look_up_creation`](Tree::look_up_creation), called just before.
+    /// It is None if something is to recover. Then this call recovers first, and looks the path up
+    /// again.
     ///
-    /// Errors: `Io` where a call of the device failed. `NoMemory` where memory isn't granted. The
-    /// tree has failed after either.
+    /// Errors: `Io` if a device call failed. `NoMemory` if memory can't be allocated. The tree has
+    /// failed after either.
     pub fn create(
         &mut self,
         alloc: Global,
@@ -397,10 +396,10 @@ impl<D: BlockDevice> Tree<D> {
 
     /// Removes a file, or a directory without entries.
     ///
-    /// A recovery comes first.
+    /// Recovers first.
     ///
-    /// Errors: `Io` where a call of the device failed. `NoMemory` where memory isn't granted. The
-    /// tree has failed after either.
+    /// Errors: `Io` if a device call failed. `NoMemory` if memory can't be allocated. The tree has
+    /// failed after either.
     pub fn remove(&mut self, alloc: Global, path: &Path<'_>) -> Result<(), Error>
         requires { CanRemoveEntry self.old path.now }
         ensures { AppliesCallOrFails self.old (call.Remove path.now) result self.new }
@@ -411,12 +410,12 @@ impl<D: BlockDevice> Tree<D> {
         self.relocate(alloc, plan, removed)
     }
 
-    /// Sets an attribute of an entry, in place of the one of that type, if the entry has one.
+    /// Sets an attribute of an entry, and replaces the one of that type, if there is one.
     ///
-    /// A recovery comes first.
+    /// Recovers first.
     ///
-    /// Errors: `Io` where a call of the device failed. `NoMemory` where memory isn't granted. The
-    /// tree has failed after either.
+    /// Errors: `Io` if a device call failed. `NoMemory` if memory can't be allocated. The tree has
+    /// failed after either.
     pub fn set_attr(
         &mut self,
         alloc: Global,
@@ -433,12 +432,12 @@ impl<D: BlockDevice> Tree<D> {
         self.relocate(alloc, plan, set)
     }
 
-    /// Ends what a loss of power left in the image: a set move, and directories that no path leads
-    /// to (DESIGN.md of littlefs, "The move problem"). These directories are dropped with their
-    /// entries, and the blocks of their files are free. Nothing is written where nothing is left.
+    /// Completes what a power loss left half done: a move, and orphans, the directories that no
+    /// path leads to (DESIGN.md of littlefs, "The move problem"). Drops the orphans with their
+    /// entries, and frees the blocks of their files. Writes nothing if nothing is left.
     ///
-    /// Errors: `Io` where a call of the device failed. `NoMemory` where memory isn't granted. The
-    /// tree has failed after either.
+    /// Errors: `Io` if a device call failed. `NoMemory` if memory can't be allocated. The tree has
+    /// failed after either.
     pub fn recover(&mut self, alloc: Global) -> Result<(), Error>
         requires works { self.old.failed ≡ false }
         requires writable { self.old.writable ≡ true }
@@ -456,10 +455,10 @@ impl<D: BlockDevice> Tree<D> {
 
     /// Removes an attribute of an entry.
     ///
-    /// A recovery comes first.
+    /// Recovers first.
     ///
-    /// Errors: `Io` where a call of the device failed. `NoMemory` where memory isn't granted. The
-    /// tree has failed after either.
+    /// Errors: `Io` if a device call failed. `NoMemory` if memory can't be allocated. The tree has
+    /// failed after either.
     pub fn remove_attr(&mut self, alloc: Global, path: &Path<'_>, kind: u8) -> Result<(), Error>
         requires { CanRemoveAttr self.old path.now kind }
         ensures { AppliesCallOrFails self.old (call.RemoveAttr path.now kind) result self.new }

@@ -1,4 +1,4 @@
-// Worn pairs that move after an operation.
+// Wear leveling: worn pairs are relocated after an operation.
 
 ghost use Rattle.std.specs.Prelude.{◌≡◌, false, true, IfOk, None, OnOk};
 ghost use Rattle.lfs_model.specs.format.Slots.{zero_gstate};
@@ -15,8 +15,8 @@ use lfs_operations::{MovePlan, plan_move, relocate};
 use std::alloc::Global;
 
 impl<D: BlockDevice> Tree<D> {
-    // Plans the move of a worn pair, before an operation that takes at most `room` blocks. None is
-    // planned where the profile gives no cycles.
+    // Plans the relocation of a worn pair, before an operation that allocates at most `room`
+    // blocks. Returns None if the profile's `pair_cycles` is 0.
     pub(crate) fn plan_move(&mut self, room: u32) -> Option<MovePlan>
         requires { self.old.failed ≡ false }
         ensures planned { IsPlanned self.old room result }
@@ -29,7 +29,7 @@ impl<D: BlockDevice> Tree<D> {
         plan_move(&mut self.thread, self.root, room)
     }
 
-    // Plans a move, and then recovers.
+    // Plans a relocation, and then recovers.
     pub(crate) fn recover_planned(
         &mut self,
         alloc: Global,
@@ -47,8 +47,8 @@ impl<D: BlockDevice> Tree<D> {
         Ok(plan)
     }
 
-    // Moves at most one worn pair after an operation, unless the operation itself failed. The
-    // operation's error is returned then.
+    // Relocates at most one worn pair after an operation. If the operation failed, returns its
+    // error and does nothing.
     pub(crate) fn relocate(
         &mut self,
         alloc: Global,

@@ -24,10 +24,10 @@ use lfs_lookup::Path;
 use std::alloc::Global;
 
 impl<D: BlockDevice> Tree<D> {
-    /// Returns the contents of a file for a writer that opens it: in memory where they are inline
-    /// in its entry, else its list.
+    /// Returns the contents of a file for a new writer: in memory if the file is inline, otherwise
+    /// its list.
     ///
-    /// Errors: `Io` where a read failed. `NoMemory` where memory isn't granted. The tree has failed
+    /// Errors: `Io` if a read failed. `NoMemory` if memory can't be allocated. The tree has failed
     /// after either.
     pub fn open_writer_contents(
         &mut self,
@@ -45,9 +45,9 @@ impl<D: BlockDevice> Tree<D> {
         contents
     }
 
-    /// Returns contents of no bytes, for a writer of an empty file, or of one that is written anew.
+    /// Returns empty contents, for a writer of an empty file or of one that is truncated.
     ///
-    /// Errors: `NoMemory` where memory isn't granted. The tree has failed then.
+    /// Errors: `NoMemory` if memory can't be allocated. The tree has then failed.
     pub fn empty_contents(&mut self, alloc: Global) -> Result<WriterContents, Error>
         requires works { self.old.failed ≡ false }
         requires idle { in_flight_count self.old.map ≡ 0 }
@@ -63,11 +63,11 @@ impl<D: BlockDevice> Tree<D> {
         contents
     }
 
-    /// Writes bytes, at least one, at a place of a writer's contents. Zeros fill a gap before it.
-    /// The image stays as it is.
+    /// Writes bytes, at least one, at an offset in bytes of a writer's contents, and fills a gap
+    /// before it with zeros. Doesn't change the image.
     ///
-    /// Errors: `Io` where a call of the device failed. `NoMemory` where memory isn't granted. After
-    /// an error the contents are dropped, and the tree has failed.
+    /// Errors: `Io` if a device call failed. `NoMemory` if memory can't be allocated. After an
+    /// error the contents are lost, and the tree has failed.
     pub fn write(
         &mut self,
         alloc: Global,
@@ -86,7 +86,8 @@ impl<D: BlockDevice> Tree<D> {
         written
     }
 
-    /// Cuts a writer's contents to a size, or fills them up to it with zeros. The image stays as it is.
+    /// Truncates a writer's contents to a size in bytes, or extends them to it with zeros. Doesn't
+    /// change the image.
     ///
     /// Errors are those of [`write`](Tree::write).
     pub fn truncate(
@@ -106,8 +107,8 @@ impl<D: BlockDevice> Tree<D> {
         truncated
     }
 
-    /// Commits a writer's contents. The file has them then, and no block is in flight any more. A worn
-    /// pair may move after it.
+    /// Commits a writer's contents to its file. Afterwards no block is in flight. May relocate a
+    /// worn pair.
     ///
     /// Errors are those of [`write`](Tree::write).
     pub fn commit_writer_contents(

@@ -1,4 +1,4 @@
--- What a path leads to, as a look-up finds it.
+-- The result of a path's look-up.
 use Rattle.std.specs.Prelude.{ℕ, ◌≡◌, ◌<◌, nat_lt, List, length, Option, Some, None, Bool}
 use Rattle.lfs_model.specs.format.Thread.{Pair, pairs_gstate}
 use Rattle.lfs_model.specs.tree.Tree.{Path}
@@ -15,17 +15,17 @@ use Rattle.lfs_lookup.specs.declared.paths.VisiblePathLookup.{VisiblePathLookup}
 use Rattle.lfs_lookup.specs.declared.paths.VisiblePathLookup.TheVariants as shown
 use Rattle.lfs_lookup.specs.declared.search.SlotPosition.{SlotPosition}
 
--- where the slot that a set move names counts as deleted, and no other
+-- it ignores only the slot that a pending move names, which counts as deleted
 pub record IsLookupResult (t : KeptThread) (path : Path) (shown : VisiblePathLookup) : Type 0 where
   pub moved : Option SlotPosition
   pub hides : HidesOnlySlot (pairs_gstate t.pairs) moved 0 t.pairs
   pub shows : IsUnhiddenResult t moved path shown
 
--- whether the directory that begins with the pair of that number has an entry, if there is one
+-- whether the directory that begins with the pair of that index has an entry; false for None
 abbrev pub has_entries_from : List Pair → Option ℕ → Bool
 has_entries_from ps from = nat_lt 0 (length (pair_entries_from ps from))
 
--- the number of the first pair of the directory that was found
+-- the index of the first pair of the directory that was found
 abbrev pub found_pair_number : ℕ → VisiblePathLookup → Option ℕ
 found_pair_number root shown.Root = Some root
 found_pair_number root (shown.Directory slot first) = Some first
@@ -35,7 +35,7 @@ abbrev pub storage_size : FileStorage → ℕ
 storage_size (contents.Inline len) = len
 storage_size (contents.List head size) = size
 
--- inline bytes are in an entry
+-- inline bytes are short enough for an entry's tag
 abbrev pub InlineFitsTag : FileStorage → Type 0
 InlineFitsTag (contents.Inline len) = len < 0x3ff
 InlineFitsTag (contents.List head size) = Unit {0}
@@ -44,7 +44,7 @@ abbrev pub FoundInlineFits : VisiblePathLookup → Type 0
 FoundInlineFits (shown.File slot contents) = InlineFitsTag contents
 FoundInlineFits _ = Unit {0}
 
--- the parent's refusal of a path, and the entry at it
+-- the refusal of the path by a parent, and the entry at the path
 abbrev pub node_or_refusal : VisiblePathLookup → FoundNode
 node_or_refusal shown.Root = record { fault = None; node = node.Directory }
 node_or_refusal (shown.Directory slot first) = record { fault = None; node = node.Directory }

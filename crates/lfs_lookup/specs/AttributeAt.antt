@@ -18,7 +18,7 @@ IsAttribute kind attributes found = option_map (λ v. v.items) found ≡ attribu
 abbrev pub AttributeFits : Option (Vec ℕ Global) → Type 0
 AttributeFits found = IfSome found (λ v. length v.items ≤ 1022)
 
--- the slot of a file or of a directory
+-- the slot of the entry that was found
 abbrev pub lookup_spot : VisiblePathLookup → Option SlotPosition
 lookup_spot (shown.File slot contents) = Some slot
 lookup_spot (shown.Directory slot first) = Some slot
@@ -33,11 +33,11 @@ abbrev pub AreAttributesAt : KeptThread → Option SlotPosition → Attributes �
 AreAttributesAt t None attributes = attributes ≡ []
 AreAttributesAt t (Some spot) attributes = (slot : Slot) × (IsSpotSlot t spot slot × (slot.attributes ≡ attributes))
 
--- putting an attribute adds its size, and subtracts that of the attribute of its type
+-- setting an attribute adds its size, and subtracts that of the one it replaces
 abbrev pub PutChangesSize : Attributes → Type 0
 PutChangesSize attributes = (kind : ℕ) (bytes : List ℕ) → attributes_size (attributes_with kind bytes attributes) + option_map_or (λ b. 4 + length b) (attribute_bytes kind attributes) 0 ≡ attributes_size attributes + (4 + length bytes)
 
--- so many bytes of a pair are the attributes'
+-- the attributes use `size` bytes of their pair
 pub record IsAttributesSize (attributes : Attributes) (size : ℕ) : Type 0 where
   pub is : size ≡ attributes_size attributes
   pub small : size < 2 ^ 32

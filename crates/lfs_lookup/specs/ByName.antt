@@ -1,4 +1,4 @@
--- Entries in the order of their names, the shorter names first.
+-- Entries sorted by name, a shorter name before a longer one that begins with it.
 use Rattle.std.specs.Prelude.{Bool, List}
 use Rattle.std.specs.List.Sorted.{IsPermutation, IsSortedBy}
 use Rattle.lfs_model.specs.declared.order.NameOrder.TheVariants.{ShorterFirst}

@@ -1,4 +1,4 @@
--- The slot at a spot, and the contents of a file's slot.
+-- The slot at a position, and the contents of a file's slot.
 use Rattle.std.specs.Prelude.{◌≡◌, ◌<◌, Option, length, slice_get, Some, None}
 use Rattle.lfs_model.specs.format.Slots.{Slot}
 use Rattle.lfs_model.specs.tree.View.{IsFormedList}
@@ -13,14 +13,14 @@ use Rattle.lfs_lookup.specs.declared.search.SlotPosition.{SlotPosition}
 abbrev pub IsSpotSlot : KeptThread → SlotPosition → Slot → Type 0
 IsSpotSlot t spot slot = slice_get (thread_pair t spot.pair).content.slots spot.id ≡ Some slot
 
--- the slot at the spot is a file's with these contents, whose list is well formed
+-- the slot at `spot` is a file's with these contents, whose list is well formed
 pub record IsFileAt (t : KeptThread) (spot : SlotPosition) (contents : FileStorage) (slot : Slot) : Type 0 where
   pub below : spot.pair < length t.pairs
   pub there : IsSpotSlot t spot slot
   pub shows : IsStorage contents slot.struct
   pub list : IsFormedList t.disk slot.struct
 
--- the slot of a file, and where its bytes are
+-- the slot of the file that was found, and where its bytes are stored
 abbrev pub spot_and_storage : VisiblePathLookup → Option (SlotPosition × FileStorage)
 spot_and_storage (File slot contents) = Some (slot, contents)
 spot_and_storage _ = None

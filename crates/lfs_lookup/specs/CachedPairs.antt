@@ -1,4 +1,4 @@
--- Which pairs are cached: those whose logs are in cached blocks.
+-- Cached pairs: those whose logs are in cached blocks.
 use Rattle.std.specs.Prelude.{ℕ, suc, ◌≡◌, ◌≤◌, ◌<◌, List, [], take, length, Result, OnOk, IfOk, IsSome}
 use Rattle.std.specs.List.{AllByRecursion}
 use Rattle.std.specs.Option.{option_map_or}
@@ -13,29 +13,29 @@ use Rattle.lfs_model.specs.tree.Tree.{Path, address_at_path}
 use Rattle.lfs_pair.specs.Pair.{active_block_at}
 use Rattle.lfs_thread.specs.Kept.{ThreadView}
 
--- the block is one of the n that were used last
+-- the block is one of the n most recently used ones
 abbrev pub IsLastUsed : ℕ → CachedBlocks → ℕ → Type 0
 IsLastUsed n cache b = IsSome (cached_bytes (take n cache) b)
 
--- the blocks with the logs of these pairs are, too
+-- the same of the blocks with these pairs' logs
 abbrev pub AreLastUsed : ℕ → Disk → CachedBlocks → List Pair → Type 0
 AreLastUsed n disk cache ps = AllByRecursion (λ p. IsLastUsed n cache (active_block_at disk p.at)) ps
 
 abbrev pub ArePairsCached : ThreadView → List Pair → Type 0
 ArePairsCached t ps = AreLastUsed cache_limit t.kept.disk t.cache ps
 
--- pairs that were cached still are
+-- blocks that were cached still are
 abbrev pub StayCached : CachedBlocks → CachedBlocks → Type 0
 StayCached old new = (b : ℕ) → IsLastUsed cache_limit old b → IsLastUsed cache_limit new b
 
 -- ---- along the pairs of a directory
 
--- the block was used last, and each block that was used before is one place further back
+-- the block is now the most recently used one, and those before it are one rank less recent
 pub record BecomesMostRecent (b : ℕ) (old new : CachedBlocks) : Type 0 where
   pub first : IsLastUsed 1 new b
   pub others : (n c : ℕ) → n < cache_limit → IsLastUsed n old c → IsLastUsed (suc n) new c
 
--- Where all these pairs are cached no block is read, and pairs that were cached still are. One pair alone is loaded.
+-- If all these pairs are cached, no block is read, and cached pairs stay cached. A single pair is cached afterwards.
 pub record KeepsCachedPairs {X : Type 0} (ps : List Pair) (old new : ThreadView) (result : Result X Error) : Type 0 where
   pub none : ArePairsCached old ps → read_count new.kept.history ≡ read_count old.kept.history
   pub stay : ArePairsCached old ps → OnOk result (StayCached old.cache new.cache)
@@ -43,11 +43,11 @@ pub record KeepsCachedPairs {X : Type 0} (ps : List Pair) (old new : ThreadView)
 
 -- ---- down the directories of a path
 
--- the pairs of the directory at a path, if one is there
+-- the pairs of the directory at a path, if there is one
 abbrev pub pairs_at : List Pair → Path → List Pair
 pairs_at ps path = option_map_or (directory_pairs ps) (address_at_path (all_entries ps) (root_address ps) path) []
 
--- the pairs of the directories at these paths are among the n that were used last
+-- the pairs of the directories at these paths are among the n most recently used ones
 abbrev pub AreDirectoriesRecent : ℕ → Disk → CachedBlocks → List Pair → List Path → Type 0
 AreDirectoriesRecent n disk cache ps paths = AllByRecursion (λ p. AreLastUsed n disk cache (pairs_at ps p)) paths
 
@@ -59,8 +59,8 @@ pub record AreFewSmall (ps : List Pair) (paths : List Path) : Type 0 where
   pub few : length paths ≤ cache_limit
   pub small : AllByRecursion (λ p. directory_pair_count ps p ≡ 1) paths
 
--- Where all pairs of these directories are cached no block is read, and pairs that were cached still are. Small directories are
--- the last that were used, where the way led through all of them.
+-- If all pairs of these directories are cached, no block is read, and cached pairs stay cached. If the directories are few and
+-- small, and the look-up went through all of them, their pairs are the most recently used ones.
 pub record KeepsCachedDirectories {X : Type 0} (through : X → Type 0) (paths : List Path) (old new : ThreadView) (result : Result X Error) : Type 0 where
   pub none : AreDirectoriesCached old paths → read_count new.kept.history ≡ read_count old.kept.history
   pub stay : AreDirectoriesCached old paths → OnOk result (StayCached old.cache new.cache)

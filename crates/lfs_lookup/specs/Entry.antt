@@ -1,4 +1,4 @@
--- What a caller gets of a slot's struct.
+-- A slot's struct, decoded.
 use Rattle.std.specs.Prelude.{ℕ, ◌≡◌, ◌<◌, List, length}
 use Rattle.lfs_model.specs.format.Slots.{Struct, Inline, Ctz, Branch, address_view}
 use Rattle.lfs_lookup.specs.declared.entry.FileStorage.{FileStorage}

@@ -1,4 +1,4 @@
--- What a look-up finds, and what a list returns.
+-- The results of look-ups and listings.
 use Rattle.std.specs.Prelude.{ℕ, ◌≡◌, [], nat_lt, Bool, true, false, length, Option, Some, None, is_none}
 use Rattle.lfs_model.specs.session.TreeEdits.{is_directory, is_file, directory_names}
 use Rattle.lfs_model.specs.session.Operations as ops
@@ -33,7 +33,7 @@ node_size_if_file node.Nothing = None
 node_size_if_file (node.File size) = Some size
 node_size_if_file node.Directory = None
 
--- what was found is the node at a path; there is none where a parent refuses
+-- `found` is the node at the path, or nothing, with the refusal, if a parent refuses the path
 pub record IsFoundNode (t : Tree) (p : Path) (found : FoundNode) : Type 0 where
   pub parents : parents_refusal t [] p ≡ found.fault
   pub nothing : is_none (t p) ≡ is_absent found.node
@@ -41,7 +41,7 @@ pub record IsFoundNode (t : Tree) (p : Path) (found : FoundNode) : Type 0 where
   pub files : is_file (t p) ≡ is_file_node found.node
   pub sizes : node_file_size (t p) ≡ node_size_if_file found.node
 
--- whether an entry is beneath a path
+-- whether there is an entry beneath a path
 abbrev pub has_entry_beneath : Tree → Path → Bool
 has_entry_beneath t p = nat_lt 0 (length (directory_names (t p)))
 

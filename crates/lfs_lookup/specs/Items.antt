@@ -10,7 +10,7 @@ use Rattle.lfs_lookup.specs.declared.items.NameAndOwnedStruct.{NameAndOwnedStruc
 use Rattle.lfs_lookup.specs.declared.items.OwnedStruct.{OwnedStruct}
 use Rattle.lfs_lookup.specs.declared.items.OwnedStruct.TheVariants as variant
 
--- a name and its entry
+-- the name and the struct of an entry
 pub record NamedStruct : Type 0 where
   pub name : Name
   pub struct : Struct
@@ -44,11 +44,11 @@ optional_entry_list (Some x) = x ∷ []
 abbrev pub raw_entries : List RawSlot → List NamedStruct
 raw_entries slots = flat_map (λ s. optional_entry_list (raw_entry s)) slots
 
--- the slots without the one of that id
+-- the slots without the one with that id, if any
 abbrev pub slots_except : {X : Type 0} → Option ℕ → List X → List X
 slots_except None slots = slots
 slots_except (Some id) slots = remove slots id
 
--- the entries among slots of which one may be moved away
+-- the entries among slots, without the slot that a pending move names
 abbrev pub unhidden_entries : Option ℕ → List Slot → List NamedStruct
 unhidden_entries moved slots = map named_struct (filter (λ s. not (is_superblock s)) (slots_except moved slots))

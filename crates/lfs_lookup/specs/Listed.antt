@@ -1,4 +1,4 @@
--- The entries of directories, as a list returns them.
+-- The entries of directories, as a listing returns them.
 use Rattle.std.specs.Prelude.{ℕ, ◌≡◌, ◌&&◌, ◌==◌, if◌then◌else◌, List, [], ◌∷◌, map, drop, Option, Some, None}
 use Rattle.std.specs.List.{flat_map}
 use Rattle.lfs_model.specs.format.Disk.{Disk}
@@ -11,21 +11,21 @@ use Rattle.lfs_model.specs.format.Slots.{set_move_kind}
 use Rattle.lfs_model.specs.session.InDirectory.{IsPairAt, joined_count}
 use Rattle.lfs_lookup.specs.Items.{NamedStruct, named_struct}
 
--- the id of the slot that a set move names in the pair at an address
+-- the id of the slot that a pending move names in the pair at an address
 abbrev pub moved_slot_id : Gstate → ℕ × ℕ → Option ℕ
 moved_slot_id g at = if g.kind == set_move_kind && same_pair g.pair at then Some g.id else None
 
--- the first of these pairs, and those that hard tails join to it
+-- the first of these pairs, and those behind it along hard tails
 abbrev pub joined_pairs : List Pair → List Pair
 joined_pairs [] = []
 joined_pairs (p ∷ ps) = p ∷ (if is_hard_tail p.content.tail then joined_pairs ps else [])
 
--- the pairs from a number on that hard tails join
+-- the pair of an index, and those behind it along hard tails
 abbrev pub joined_pairs_from : List Pair → Option ℕ → List Pair
 joined_pairs_from ps None = []
 joined_pairs_from ps (Some first) = joined_pairs (drop first ps)
 
--- how many they are
+-- their number
 abbrev pub joined_count_from : List Pair → Option ℕ → ℕ
 joined_count_from ps None = 0
 joined_count_from ps (Some first) = joined_count (drop first ps)
@@ -34,7 +34,7 @@ joined_count_from ps (Some first) = joined_count (drop first ps)
 abbrev pub pair_entries_from : List Pair → Option ℕ → List NamedStruct
 pair_entries_from ps from = map named_struct (flat_map (unmoved_entries (pairs_gstate ps)) (joined_pairs_from ps from))
 
--- these are the entries of the directory that begins with the pair of number `first`, if a path leads there
+-- the list has the entries of the directory that begins with the pair of index `first`, if a path leads to it
 abbrev pub AreDirectoryEntries : Disk → List Pair → ℕ → List NamedStruct → Type 0
 AreDirectoryEntries disk ps first shapes =
     IsAccepted disk ps → (path : Path) (at : ℕ × ℕ) → LeadsTo ps path at → IsPairAt ps at first → shapes ≡ map named_struct (all_entries ps at)

@@ -1,4 +1,4 @@
--- What paths lead to.
+-- The results of path look-ups.
 use Rattle.std.specs.Prelude.{ℕ, ◌≡◌, List, Option, Some, None, ◌∷◌, [], ◌++◌}
 use Rattle.lfs_model.specs.declared.order.NameOrder.{NameOrder}
 use Rattle.lfs_model.specs.session.InDirectory.{IsPairAt, BelongsAt, IsPlaceOf}
@@ -27,24 +27,24 @@ pub record IsAcceptedRecovered (t : KeptThread) : Type 0 where
   pub accepted : IsAccepted t.disk t.pairs
   pub settled : pairs_gstate t.pairs ≡ zero_gstate
 
--- the image is accepted, and that slot and no other counts as deleted
+-- the image is accepted, and only the slot `moved` counts as deleted
 pub record HidesMovedSlot (t : KeptThread) (moved : Option SlotPosition) : Type 0 where
   pub accepted : IsAccepted t.disk t.pairs
   pub hides : HidesOnlySlot (pairs_gstate t.pairs) moved 0 t.pairs
 
--- the path leads to a directory that begins with the pair of number `first`
+-- the path leads to a directory that begins with the pair of index `first`
 pub record LeadsToPair (ps : List Pair) (path : Path) (first : ℕ) : Type 0 where
   pub at : ℕ × ℕ
   pub leads : LeadsTo ps path at
   pub begins : IsPairAt ps at first
 
--- the entry at a path, where a directory is wanted
+-- the result of a search for the directory at a path
 abbrev pub IsParentAt : KeptThread → Path → Parent → Type 0
 IsParentAt t path (parent.Directory first) = LeadsToPair t.pairs path first
 IsParentAt t path parent.File = directory_refusal (disk_tree t.disk t.pairs path) ≡ Some NotDir
 IsParentAt t path parent.Nothing = directory_refusal (disk_tree t.disk t.pairs path) ≡ Some NoEnt
 
--- the refusal of a path for the component before its last
+-- the refusal of a path by the parent of its last component
 abbrev pub parent_refusal : Parent → Option Refusal
 parent_refusal (parent.Directory first) = None
 parent_refusal parent.File = Some NotDir
@@ -55,26 +55,26 @@ IfDirectory (parent.Directory first) P = P first
 IfDirectory parent.File P = Unit {0}
 IfDirectory parent.Nothing P = Unit {0}
 
--- what the directories of a path lead to
+-- the result of the search for a path's parent
 pub record ParentReached (t : KeptThread) (path : Path) (parent : Parent) : Type 0 where
   pub fault : (name : Name) → parents_refusal (disk_tree t.disk t.pairs) [] (path ++ name ∷ []) ≡ parent_refusal parent
   pub begins : IfDirectory parent (LeadsToPair t.pairs path)
 
--- ---- what is found
+-- ---- without a pending move
 
--- The name is in the directory at the path above, in the slot at the spot. This slot is the slot of its path.
+-- The directory at the path `above` has the name, in the slot `spot`. This is the slot of the name's path.
 pub record IsSlotBelow (ps : List Pair) (above : Path) (name : Name) (first : ℕ) (spot : SlotPosition) : Type 0 where
   pub on : LeadsToPair ps above first
   pub stands : IsPlaceOf ps first name spot.pair spot.id
   pub slot : slot_of ps (above ++ name ∷ []) ≡ Some stands.stands.slot
 
--- nothing is at its path, and the name belongs in the directory at the path above, before the slot at the spot
+-- the directory at the path `above` doesn't have the name, which belongs before the slot `spot`
 pub record BelongsAtPath (order : NameOrder) (ps : List Pair) (above : Path) (name : Name) (first : ℕ) (spot : SlotPosition) : Type 0 where
   pub on : LeadsToPair ps above first
   pub belongs : BelongsAt order ps first name spot.pair spot.id
   pub nothing : slot_of ps (above ++ name ∷ []) ≡ None
 
--- the entry of a name in the directory at a path
+-- the result of the search for a name in the directory at a path
 abbrev pub IsNamedEntry : NameOrder → List Pair → Path → Name → PathLookup → Type 0
 IsNamedEntry order ps above name (found.Directory parent slot first) = IsSlotBelow ps above name parent slot × LeadsToPair ps (above ++ name ∷ []) first
 IsNamedEntry order ps above name (found.File parent slot contents) = (s : IsSlotBelow ps above name parent slot) × IsStorage contents s.stands.stands.slot.struct
@@ -83,35 +83,35 @@ IsNamedEntry order ps above name found.Root = ⊥
 IsNamedEntry order ps above name found.ParentIsFile = ⊥
 IsNamedEntry order ps above name found.ParentIsMissing = ⊥
 
--- the refusal of a path for its parents
+-- the refusal of a path by its parents
 abbrev pub lookup_refusal : PathLookup → Option Refusal
 lookup_refusal found.ParentIsFile = Some NotDir
 lookup_refusal found.ParentIsMissing = Some NoEnt
 lookup_refusal _ = None
 
--- the last name of the path has that entry
+-- the result is that of the path's last name in its parent
 pub record IsPathEntry (order : NameOrder) (ps : List Pair) (path : Path) (found : PathLookup) : Type 0 where
   pub above : Path
   pub name : Name
   pub is : path ≡ above ++ name ∷ []
   pub there : IsNamedEntry order ps above name found
 
--- what is found for the path, unless a parent refuses
+-- the result of the look-up, unless a parent refuses the path
 abbrev pub IsFoundOrRefused : KeptThread → Path → PathLookup → Type 0
 IsFoundOrRefused t path found.Root = path ≡ []
 IsFoundOrRefused t path found.ParentIsFile = Unit {0}
 IsFoundOrRefused t path found.ParentIsMissing = Unit {0}
 IsFoundOrRefused t path there = IsPathEntry t.disk.order t.pairs path there
 
--- what a path leads to
+-- `found` is the result of the path's look-up
 pub record LeadsToResult (t : KeptThread) (path : Path) (found : PathLookup) : Type 0 where
   pub parents : parents_refusal (disk_tree t.disk t.pairs) [] path ≡ lookup_refusal found
   pub there : IsFoundOrRefused t path found
 
--- ---- what is found where a slot counts as deleted
+-- ---- with a slot that counts as deleted
 
--- The last name of the path is at the spot, in the directory at the path above, and not in the slot that counts as deleted. This
--- slot is the slot of the path.
+-- The last name of the path is in the slot `spot` of the parent directory, and this slot doesn't count as deleted. It is the
+-- slot of the path.
 pub record IsUnhiddenSpot (ps : List Pair) (moved : Option SlotPosition) (path : Path) (spot : SlotPosition) : Type 0 where
   pub above : Path
   pub name : Name
@@ -122,7 +122,7 @@ pub record IsUnhiddenSpot (ps : List Pair) (moved : Option SlotPosition) (path :
   pub kept : skipped_id moved spot.pair ≡ Some spot.id → ⊥
   pub slot : slot_of ps path ≡ Some stands.stands.slot
 
--- the entry at a path below the root
+-- the result of the look-up of a path that isn't the root's
 abbrev pub IsVisibleEntry : List Pair → Option SlotPosition → Path → VisiblePathLookup → Type 0
 IsVisibleEntry ps moved path (shown.Directory spot first) = IsUnhiddenSpot ps moved path spot × LeadsToPair ps path first
 IsVisibleEntry ps moved path (shown.File spot contents) = (s : IsUnhiddenSpot ps moved path spot) × IsStorage contents s.stands.stands.slot.struct
@@ -131,7 +131,7 @@ IsVisibleEntry ps moved path shown.Root = ⊥
 IsVisibleEntry ps moved path shown.ParentIsFile = ⊥
 IsVisibleEntry ps moved path shown.ParentIsMissing = ⊥
 
--- what a path leads to; a parent refuses it, or not
+-- the result of the look-up of a path, or a parent's refusal
 abbrev pub IsUnhiddenResult : KeptThread → Option SlotPosition → Path → VisiblePathLookup → Type 0
 IsUnhiddenResult t moved path shown.Root = path ≡ []
 IsUnhiddenResult t moved path shown.ParentIsFile = parents_refusal (disk_tree t.disk t.pairs) [] path ≡ Some NotDir

@@ -1,4 +1,4 @@
--- What a search for a name returns.
+-- The results of a search for a name.
 use Rattle.std.specs.Prelude.{ℕ, ◌≡◌, ◌⊎◌, ◌<◌, ◌+◌, ◌==◌, if◌then◌else◌, true, false, List, [], ◌∷◌, drop, length, map, slice_get, AllPairs, Option, None, Some, IsSome}
 use Rattle.std.specs.declared.cmp.Ordering.TheVariants.{Less}
 use Rattle.lfs_model.specs.declared.order.NameOrder.{NameOrder}
@@ -18,43 +18,43 @@ use Rattle.lfs_lookup.specs.declared.search.NamePositionInPair.TheVariants as in
 use Rattle.lfs_lookup.specs.Entry.{IsStructEntry}
 use Rattle.lfs_lookup.specs.Listed.{joined_pairs}
 
--- a block's log comes to a content in which each slot has a name and a struct
+-- a block has a log in which each slot has a name and a struct
 abbrev pub HasCompleteLog : List ℕ → Type 0
 HasCompleteLog block = (content : PairContent) × IsContentLog block content
 
--- no entry has the name, but for the one at an id
+-- no entry has the name, except perhaps the one with the skipped id
 abbrev pub IsAbsentExcept : Option ℕ → List Slot → Name → Type 0
 IsAbsentExcept skip slots name = (id : ℕ) (s : Slot) → slice_get slots id ≡ Some s → is_superblock s ≡ false → (skip ≡ Some id → ⊥) → s.name ≡ name → ⊥
 
--- the name is at the id, which isn't passed over, with that struct
+-- the name is in the slot with that id, which isn't skipped, and has that entry
 pub record HasNameUnskipped (skip : Option ℕ) (slots : List Slot) (name : Name) (id : ℕ) (entry : FileOrDirectory) : Type 0 where
   pub stands : HasName slots name id
   pub shows : IsStructEntry entry stands.slot.struct
   pub kept : skip ≡ Some id → ⊥
 
--- the name isn't there, and belongs there if no slot is passed over
+-- no slot has the name; if none is skipped, it belongs at that id
 pub record AbsentBelongsAt (order : NameOrder) (skip : Option ℕ) (slots : List Slot) (name : Name) (id : ℕ) : Type 0 where
   pub absent : IsAbsentExcept skip slots name
   pub place : skip ≡ None → BelongsAtId order slots name id
 
--- among the slots of a pair, of which one may be passed over
+-- the result among the slots of a pair, of which one may be skipped
 abbrev pub FindsInPair : NameOrder → Option ℕ → List Slot → Name → NamePositionInPair → Type 0
 FindsInPair order skip slots name (in_pair.Found id entry) = HasNameUnskipped skip slots name id entry
 FindsInPair order skip slots name (in_pair.Place id) = AbsentBelongsAt order skip slots name id
 
--- in the directory that begins with the pair of number `first`
+-- the result in the directory that begins with the pair of index `first`
 abbrev pub FindsInDirectory : NameOrder → List Pair → ℕ → Name → NamePositionInDirectory → Type 0
 FindsInDirectory order ps first name (Found spot entry) = (s : IsPlaceOf ps first name spot.pair spot.id) × IsStructEntry entry s.stands.slot.struct
 FindsInDirectory order ps first name (Place spot) = BelongsAt order ps first name spot.pair spot.id
 
--- the pair of number `first` has no slots, and its directory goes on with the pair of number `next`
+-- the pair of index `first` has no slots, and its directory continues with the pair of index `next`
 pub record PassesEmptyPair (t : KeptThread) (first next : ℕ) : Type 0 where
   pub none : length (thread_pair t first).content.slots ≡ 0
   pub hard : is_hard_tail (thread_pair t first).content.tail ≡ true
   pub follows : next ≡ first + 1
   pub below : next < length t.pairs
 
--- the search begins with the pair of number `first`, or with the next one where that has no slots
+-- the search begins with the pair of index `first`, or with the next one if that has no slots
 abbrev pub StartsSearch : KeptThread → ℕ → ℕ → Type 0
 StartsSearch t first start = (start ≡ first) ⊎ PassesEmptyPair t first start
 
@@ -63,24 +63,24 @@ abbrev pub CachesFoundPair : ThreadView → NamePositionInDirectory → Type 0
 CachesFoundPair t (Found spot entry) = IsSome (cached_log t spot.pair)
 CachesFoundPair t (Place spot) = Unit {0}
 
--- The names in the directory that begins with the pair of number `first` rise, and only this pair may have a superblock.
+-- The names in the directory that begins with the pair of index `first` rise, and only this pair may have a superblock.
 pub record AreOrdered (order : NameOrder) (ps : List Pair) (first : ℕ) : Type 0 where
   pub rise : AllPairs (λ a b. name_cmp order a b ≡ Less) (map (λ s. s.name) (entry_slots (all_slots (joined_pairs (drop first ps)))))
   pub plain : HaveNoSuperblock (drop (first + 1) ps)
 
--- ---- where a slot counts as deleted
+-- ---- with a slot that counts as deleted
 
--- the id that is passed over in the pair of that number
+-- the id that is skipped in the pair of that index
 abbrev pub skipped_id : Option SlotPosition → ℕ → Option ℕ
 skipped_id None index = None
 skipped_id (Some spot) index = if spot.pair == index then Some spot.id else None
 
--- these pairs, from number `index` on, as far as hard tails lead
+-- these pairs, from index `index` on along hard tails, don't have the name
 abbrev pub IsAbsent : Option SlotPosition → ℕ → List Pair → Name → Type 0
 IsAbsent moved index [] name = Unit {0}
 IsAbsent moved index (p ∷ ps) name = IsAbsentExcept (skipped_id moved index) p.content.slots name × (is_hard_tail p.content.tail ≡ true → IsAbsent moved (index + 1) ps name)
 
--- the name is at this place, and not in the slot that counts as deleted
+-- the name is in the slot `spot`, which doesn't count as deleted
 pub record IsNameAt (ps : List Pair) (moved : Option SlotPosition) (first : ℕ) (name : Name) (spot : SlotPosition) (entry : FileOrDirectory) : Type 0 where
   pub stands : IsPlaceOf ps first name spot.pair spot.id
   pub shows : IsStructEntry entry stands.stands.slot.struct
@@ -90,7 +90,7 @@ abbrev pub FindsUnhidden : List Pair → Option SlotPosition → ℕ → Name �
 FindsUnhidden ps moved first name (Some found) = IsNameAt ps moved first name found.0 found.1
 FindsUnhidden ps moved first name None = IsAbsent moved first (drop first ps) name
 
--- in these pairs, from number `index` on, that slot and no other counts as deleted
+-- in these pairs, from index `index` on, only that slot counts as deleted
 abbrev pub HidesOnlySlot : Gstate → Option SlotPosition → ℕ → List Pair → Type 0
 HidesOnlySlot g moved index [] = Unit {0}
 HidesOnlySlot g moved index (p ∷ ps) = (skipped_id moved index ≡ moved_id g p) × HidesOnlySlot g moved (index + 1) ps

@@ -1,4 +1,4 @@
--- What of the writing profile a slot, a pair or an image breaks, as it is read.
+-- The rule of the writing profile that a slot, a pair or an image breaks.
 use Rattle.std.specs.Prelude.{ℕ, ◌≡◌, ◌≢◌, ◌⊎◌, ◌-◌, ◌≤◌, ◌&&◌, nat_lt, Bool, true, false, List, [], Option, Some, length, slice_get, slice_index_or, All, MatchOption}
 use Rattle.lfs_model.specs.format.Disk.{profile_attr_max, charge_limit, profile_file_max, inline_limit, profile_name_max}
 use Rattle.lfs_model.specs.format.EntryTypes.{SuperblockFields}
@@ -24,7 +24,7 @@ HasProfileLimits profile fields = (fields.name_max ≡ profile_name_max profile)
 abbrev pub ChargeFits : Profile → ℕ → ℕ → Slot → Type 0
 ChargeFits profile block_size page s = entry_charge profile block_size s.name s.attributes ≤ charge_limit block_size page
 
--- the slot of that number in the pair at an address breaks that rule
+-- the slot of that index in the pair at an address breaks that rule
 abbrev pub BreaksSlot : Profile → ℕ → ℕ → ℕ × ℕ → ℕ → Slot → ProfileBreach → Type 0
 BreaksSlot profile block_size page at id s (breach.OtherLimits pair slot limit) = (address_view pair ≡ at) × (slot ≡ id) × HasOtherLimit profile limit s
 BreaksSlot profile block_size page at id s (breach.LongInline pair slot) = (address_view pair ≡ at) × (slot ≡ id) × HasLongInline (inline_limit profile block_size) s
@@ -44,7 +44,7 @@ BreaksSlots profile block_size page at slots b = (id : ℕ) × ((s : Slot) × ((
 abbrev pub IsSlotsBreach : Profile → ℕ → ℕ → ℕ × ℕ → List Slot → Option ProfileBreach → Type 0
 IsSlotsBreach profile block_size page at slots b = MatchOption b (All (IsWritableSlot profile block_size page) slots) (BreaksSlots profile block_size page at slots)
 
--- A pair is in the profile; `follows` tells whether a hard tail names it.
+-- A pair is in the profile; `follows` says whether it is behind a hard tail.
 pub record IsWritablePair (profile : Profile) (block_size page : ℕ) (follows : Bool) (c : PairContent) : Type 0 where
   pub pair : FitsInPair block_size page c
   pub slots : All (IsWritableSlot profile block_size page) c.slots
@@ -64,6 +64,6 @@ BreaksPair profile block_size page follows p b = BreaksSlots profile block_size 
 abbrev pub IsPairBreach : Profile → ℕ → ℕ → Bool → Pair → Option ProfileBreach → Type 0
 IsPairBreach profile block_size page follows p b = MatchOption b (IsWritablePair profile block_size page follows p.content) (BreaksPair profile block_size page follows p)
 
--- the pair comes after the root's first pair, and a hard tail names it
+-- the pair is behind the root's first pair, and behind a hard tail
 abbrev pub follows_tail_at : ℕ → List Pair → ℕ → Bool
 follows_tail_at root ps index = nat_lt root index && is_hard_tail (slice_index_or ps (index - 1) empty_anchor).content.tail

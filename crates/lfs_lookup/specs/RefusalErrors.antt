@@ -1,4 +1,4 @@
--- Errors that are refusals: every one but those that make a session fail.
+-- Errors that are refusals: all except those that make a session fail.
 use Rattle.std.specs.Prelude.{◌≡◌, Bool, true, false, refl}
 use Rattle.lfs_device.specs.declared.error.Error.{Error}
 use Rattle.lfs_device.specs.declared.error.Error.TheVariants as error
@@ -11,7 +11,7 @@ is_refusal error.NoMemory = false
 is_refusal error.Corrupt = false
 is_refusal _ = true
 
--- the refusal that an error is; an error that isn't one gives any
+-- an error as a refusal; any refusal if the error isn't one
 abbrev pub error_refusal : Error → Refusal
 error_refusal error.NoEnt = ops.NoEnt
 error_refusal error.BadFile = ops.BadFile

@@ -1,4 +1,4 @@
--- What a search needs.
+-- The premises of a search.
 use Rattle.std.specs.Prelude.{ℕ, ◌≡◌, ◌<◌, false, length, Option, IfSome, IsSome}
 use Rattle.lfs_model.specs.format.Thread.{count_before_root}
 use Rattle.lfs_model.specs.tree.View.{IsAccepted}
@@ -7,28 +7,28 @@ use Rattle.lfs_thread.specs.Kept.{ThreadView}
 use Rattle.lfs_lookup.specs.LookupPaths.{HidesMovedSlot, IsAcceptedRecovered}
 use Rattle.lfs_lookup.specs.declared.search.SlotPosition.{SlotPosition}
 
--- the thread works, and has a pair of that number
+-- the thread hasn't failed, and has a pair of that number
 pub record CanReadPair (t : ThreadView) (index : ℕ) : Type 0 where
   pub works : t.failed ≡ false
   pub below : index < length t.kept.pairs
 
--- The thread works. Where there is a slot, its pair is in the thread, and cached.
+-- The thread hasn't failed. If there is a slot, its pair is in the thread, and cached.
 pub record CanReadCachedSlot (t : ThreadView) (slot : Option SlotPosition) : Type 0 where
   pub works : t.failed ≡ false
   pub below : IfSome slot (λ s. s.pair < length t.kept.pairs)
   pub cached_log : IfSome slot (λ s. IsSome (cached_log t s.pair))
 
--- the thread works, its image is accepted, and that slot and no other counts as deleted
+-- the thread hasn't failed, its image is accepted, and only that slot counts as deleted
 pub record CanSearchUnhidden (t : ThreadView) (moved : Option SlotPosition) : Type 0 where
   pub works : t.failed ≡ false
   pub hiding : HidesMovedSlot t.kept moved
 
--- the thread works, and its image is accepted and has nothing to recover
+-- the thread hasn't failed, and its image is accepted and has nothing to recover
 pub record CanSearchRecovered (t : ThreadView) : Type 0 where
   pub works : t.failed ≡ false
   pub settled : IsAcceptedRecovered t.kept
 
--- the thread works, its image is accepted, and the root directory begins with the pair of that number
+-- the thread hasn't failed, its image is accepted, and the root directory begins with the pair of that index
 pub record CanSearchFromRoot (t : ThreadView) (first : ℕ) : Type 0 where
   pub works : t.failed ≡ false
   pub accepted : IsAccepted t.kept.disk t.kept.pairs

@@ -1,4 +1,4 @@
--- All entries beneath the root, as a walk finds them.
+-- A walk of all entries beneath the root.
 use Rattle.std.specs.Prelude.{ℕ, ◌≡◌, List, [], ◌∷◌, ◌++◌, map, reverse, Some}
 use Rattle.lfs_model.specs.format.Disk.{Disk}
 use Rattle.lfs_model.specs.format.SkipLists.{IsSkipList}
@@ -15,7 +15,7 @@ use Rattle.lfs_lookup.specs.ByName.{AreShorterFirst}
 use Rattle.lfs_lookup.specs.Items.{NamedStruct, owned_view}
 use Rattle.lfs_lookup.specs.Listed.{pair_entries_from}
 
--- a path's bytes, and the entry there
+-- the bytes of a path, and the struct of its entry
 pub record PathStruct : Type 0 where
   pub path : List ℕ
   pub struct : Struct
@@ -37,20 +37,20 @@ walked_entries path shapes = map (walked_entry path) shapes
 abbrev pub pairs_addresses : List Pair → List (ℕ × ℕ)
 pairs_addresses ps = map (λ p. p.at) ps
 
--- ---- what is to be visited, the next one last
+-- ---- the stack of entries to be visited
 
--- a directory's first pair is in the thread
+-- if the struct is a directory's, its first pair is in the thread
 abbrev pub HasFirstIfDirectory : List Pair → Struct → Type 0
 HasFirstIfDirectory ps (Branch to) = (first : ℕ) × IsPairAt ps to first
 HasFirstIfDirectory ps (Inline bytes) = Unit {0}
 HasFirstIfDirectory ps (Ctz head size) = Unit {0}
 
--- the entries of the directory that begins with the pair of that number are put on top, in name order
+-- the entries of the directory that begins with the pair of that index were pushed, the first name last
 abbrev pub ArePushed : List Pair → List ℕ → ℕ → List PathStruct → List PathStruct → Type 0
 ArePushed ps path first old new =
     (shapes : List NamedStruct) × (AreShorterFirst (pair_entries_from ps (Some first)) shapes × (new ≡ old ++ reverse (walked_entries path shapes)))
 
--- the entries of a directory are put on top
+-- the entries were pushed if the struct is a directory's
 abbrev pub PushesIfDirectory : List Pair → List ℕ → Struct → List PathStruct → List PathStruct → Type 0
 PushesIfDirectory ps path (Branch to) old new = (first : ℕ) × (IsPairAt ps to first × ArePushed ps path first old new)
 PushesIfDirectory ps path (Inline bytes) old new = new ≡ old
@@ -61,7 +61,7 @@ PushesEntriesBelow ps place old new = PushesIfDirectory ps place.path place.stru
 
 -- ---- the walk
 
--- the struct gives the node
+-- the struct is that of the node
 abbrev pub IsStructNode : Disk → Struct → Node → Type 0
 IsStructNode disk (Inline bytes) node = (attributes : Attributes) × (node ≡ FileNode attributes bytes)
 IsStructNode disk (Ctz head size) node = (attributes : Attributes) × ((node ≡ FileNode attributes (struct_list_bytes disk head size)) × IsSkipList disk.blocks disk.block_size head size)
@@ -77,6 +77,6 @@ AreTreeItems disk [] (e ∷ es) = ⊥
 AreTreeItems disk (p ∷ ps) [] = ⊥
 AreTreeItems disk (p ∷ ps) (e ∷ es) = IsTreeItem disk p e × AreTreeItems disk ps es
 
--- these places are those of the walk of the tree, in order
+-- the items are those of the definition's walk, in order
 abbrev pub AreWalkItems : Disk → List Pair → List PathStruct → Type 0
 AreWalkItems disk ps places = (entries : List PathNode) × (IsWalk (disk_tree disk ps) entries × AreTreeItems disk places entries)

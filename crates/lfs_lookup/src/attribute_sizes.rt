@@ -1,4 +1,4 @@
-// How many bytes of its pair the attributes of an entry take.
+// How many bytes the attributes of an entry use of its pair.
 
 ghost use Rattle.std.specs.Prelude.{◌≡◌, ◌<◌, ◌+◌, IfErr, IfOk, IsSome, Some, false, length, map, slice_get};
 ghost use Rattle.lfs_model.specs.session.TreeEdits.{node_attributes_of};
@@ -25,7 +25,7 @@ use lfs_tag::{Attribute, Content, Log, Slot};
 use lfs_thread::Thread;
 use std::alloc::Global;
 
-// Returns the sizes of attributes together: each takes its tag and its bytes.
+// Returns how many bytes attributes use together, each with its tag of 4 bytes.
 fn total_attributes_size(attributes: &[Attribute<'_>]) -> usize
     requires { AttributesInOrder 0 (map attribute_view attributes.now) }
     ensures { result ≡ attributes_size (map attribute_view attributes.now) }
@@ -37,7 +37,7 @@ fn total_attributes_size(attributes: &[Attribute<'_>]) -> usize
     size
 }
 
-// Returns the size of the attributes of the slot at an id. There is no slot past the last.
+// Returns the size of the attributes of the slot with that id, or 0 if there is no such slot.
 fn slot_attributes_size(slots: &[Slot<'_>], id: u16) -> usize
     requires { AreWellFormed (map slot_view slots.now) }
     ensures { result ≡ attributes_size (slot_of_id (map slot_view slots.now) id).attributes }
@@ -75,14 +75,13 @@ fn cached_attributes_size<D: BlockDevice>(
     log_attributes_size(alloc, &thread.lend(slot.pair).unwrap(), slot.id)
 }
 
-/// Returns how many bytes the attributes of the entry at a path take in its pair, each with its tag
-/// of 4 bytes. Returns 0 where no entry is there, and for the root. The call reads no more pairs
-/// than the directories above the path have, as [`crate::look_up_path`], and none where all these are
-/// cached.
+/// Returns how many bytes the attributes of the entry at a path use of its pair, each with its tag
+/// of 4 bytes; 0 for the root, and if there is no entry. Makes at most one read for each metadata
+/// pair of the directories above the path, and none if all of them are cached.
 ///
-/// `root` is the number of the root directory's first pair.
+/// `root` is the index of the root directory's first pair.
 ///
-/// Errors: `Io` where a read failed. `NoMemory` where memory isn't granted.
+/// Errors: `Io` if a read failed. `NoMemory` if memory can't be allocated.
 pub fn attributes_size_at<D: BlockDevice>(
     alloc: Global,
     thread: &mut Thread<D>,

@@ -27,8 +27,8 @@ use lfs_tag::{Log, Steps, get};
 use lfs_thread::Thread;
 use std::alloc::{AllocError, Global};
 
-// Returns the bytes of an attribute of a slot of a log. Returns None where the slot hasn't that
-// attribute.
+// Returns the bytes of an attribute of a log's slot. Returns None if the slot has no attribute of
+// that type.
 fn attribute_in_log<'a>(log: &Log<'a>, kind: u8, id: u16) -> Option<&'a [u8]>
     requires { HasCompleteLog log.now }
     ensures short { IfSome result (λ bytes. length bytes.now ≤ 1022) }
@@ -66,7 +66,7 @@ fn copy_log_attribute(
     Ok(found)
 }
 
-// Returns an attribute of a slot, whose block is loaded into the cache.
+// Returns an attribute of a slot. Loads the slot's block into the cache.
 fn attribute_of_slot<D: BlockDevice>(
     alloc: Global,
     thread: &mut Thread<D>,
@@ -84,7 +84,7 @@ fn attribute_of_slot<D: BlockDevice>(
     copy_log_attribute(alloc, &thread.lend(slot.pair).unwrap(), kind, slot.id)
 }
 
-// Returns the slot of a file or of a directory. The root has none.
+// Returns the slot that a look-up found. The root has none.
 pub(crate) fn spot_if_found(shown: VisiblePathLookup) -> Option<SlotPosition>
     ensures { result ≡ lookup_spot shown }
 {
@@ -114,13 +114,13 @@ fn attribute_if_slot<D: BlockDevice>(
     }
 }
 
-/// Returns what a path leads to, and its attribute of type `kind`, if it has one. The attribute has
-/// at most 1,022 bytes; the root has none. The call reads no more pairs than the directories above
-/// the path have, as [`crate::look_up_path`], and none where all these are cached.
+/// Looks up a path, and returns its entry's attribute of type `kind`, at most 1,022 bytes. The root
+/// has no attributes. Makes at most one read for each metadata pair of the directories above the
+/// path, and none if all of them are cached.
 ///
-/// `root` is the number of the root directory's first pair.
+/// `root` is the index of the root directory's first pair.
 ///
-/// Errors: `Io` where a read failed. `NoMemory` where memory isn't granted.
+/// Errors: `Io` if a read failed. `NoMemory` if memory can't be allocated.
 pub fn find_attribute<D: BlockDevice>(
     alloc: Global,
     thread: &mut Thread<D>,
@@ -137,7 +137,7 @@ pub fn find_attribute<D: BlockDevice>(
 {
     let shown = look_up_path(alloc, thread, root, path)?;
     let bytes = attribute_if_slot(alloc, thread, spot_if_found(shown), kind)?;
-    // By the sizes of its blocks a list has as many bytes as its entry says.
+    // A proof needs the device's block size to see that a list has as many bytes as its entry says.
     let _device = thread.device();
     Ok(FoundAttribute {
         finding: finding_shown(shown),

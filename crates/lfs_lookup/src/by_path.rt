@@ -1,4 +1,4 @@
-// What paths lead to, in a thread.
+// Look-ups of paths in a thread.
 
 ghost use Rattle.std.specs.Prelude.{◌≡◌, ◌≤◌, ◌+◌, ◌++◌, [], ◌∷◌, IfOk, None, sum_by};
 ghost use Rattle.lfs_model.specs.crash.Frame.{directory_pair_count, ancestor_paths};
@@ -24,15 +24,15 @@ use lfs_device::{BlockDevice, Error};
 use lfs_thread::Thread;
 use std::alloc::Global;
 
-/// Returns what a path leads to, where the slot that a set move names counts as deleted, and no
-/// other (DESIGN.md of littlefs, "The move problem"). The call reads no more pairs than the
-/// directories above the path have, and none where all these are cached. Where nothing is to be
-/// recovered and each of these pairs has a slot, a directory of n pairs takes 1 + log2 n reads at
-/// most. The pair of a slot that is found is cached then.
+/// Looks up a path. The slot that a pending move names counts as deleted (DESIGN.md of littlefs,
+/// "The move problem"). Makes at most one read for each metadata pair of the directories above the
+/// path, and none if all of them are cached. If nothing is to recover and each of these pairs has a
+/// slot, a directory of n pairs costs at most 1 + log2 n reads. Afterwards the pair of the slot
+/// that was found is cached.
 ///
-/// `root` is the number of the root directory's first pair.
+/// `root` is the index of the root directory's first pair.
 ///
-/// Errors: `Io` where a read failed. `NoMemory` where memory isn't granted.
+/// Errors: `Io` if a read failed. `NoMemory` if memory can't be allocated.
 pub fn look_up_path<D: BlockDevice>(
     alloc: Global,
     thread: &mut Thread<D>,
@@ -62,7 +62,7 @@ fn contents_size(contents: FileStorage) -> u32
     }
 }
 
-// Makes the finding of a file.
+// Returns the finding of a file.
 fn finding_of_file(contents: FileStorage) -> FoundNode
     requires { InlineFitsTag contents }
     ensures { result ≡ record { fault = None; node = File (storage_size contents) } }
@@ -75,7 +75,7 @@ fn finding_of_file(contents: FileStorage) -> FoundNode
     }
 }
 
-// Makes the finding of no entry, where a parent may refuse the path.
+// Returns the finding of no entry, with the refusal of a parent, if any.
 fn finding_of_nothing(fault: Option<Refusal>) -> FoundNode
     ensures { result ≡ record { fault = fault; node = Nothing } }
 {
@@ -85,7 +85,7 @@ fn finding_of_nothing(fault: Option<Refusal>) -> FoundNode
     }
 }
 
-// Makes the finding of a directory.
+// Returns the finding of a directory.
 fn finding_of_directory() -> FoundNode
     ensures { result ≡ record { fault = None; node = Directory } }
 {
@@ -95,7 +95,7 @@ fn finding_of_directory() -> FoundNode
     }
 }
 
-/// Returns the finding of what was shown: the parent's refusal, or the entry.
+/// Converts the result of a look-up: to the entry, or the refusal of a parent.
 pub fn finding_shown(shown: VisiblePathLookup) -> FoundNode
     requires { FoundInlineFits shown }
     ensures { result ≡ node_or_refusal shown }
@@ -110,8 +110,8 @@ pub fn finding_shown(shown: VisiblePathLookup) -> FoundNode
     }
 }
 
-/// Returns the number of the first pair of the directory that was shown. `root` is the number of
-/// the root directory's first pair.
+/// Returns the index of the first pair of the directory that a look-up found, if it found one.
+/// `root` is the index of the root directory's first pair.
 pub fn first_pair_found(root: usize, shown: VisiblePathLookup) -> Option<usize>
     ensures { result ≡ found_pair_number root shown }
 {
@@ -122,13 +122,13 @@ pub fn first_pair_found(root: usize, shown: VisiblePathLookup) -> Option<usize>
     }
 }
 
-/// Looks up a path. Returns a file with its size in bytes, a directory, or nothing. Where a
-/// directory above it isn't there, or isn't one, the refusal is returned, too. The call reads no
-/// more pairs than these directories have, as [`look_up_path`], and none where all these are cached.
+/// Looks up a path. Returns a file with its size in bytes, a directory, or nothing, then also with
+/// the refusal if a parent is missing or isn't a directory. Makes at most one read for each
+/// metadata pair of the directories above the path, and none if all of them are cached.
 ///
-/// `root` is the number of the root directory's first pair.
+/// `root` is the index of the root directory's first pair.
 ///
-/// Errors: `Io` where a read failed. `NoMemory` where memory isn't granted.
+/// Errors: `Io` if a read failed. `NoMemory` if memory can't be allocated.
 pub fn find_node<D: BlockDevice>(
     alloc: Global,
     thread: &mut Thread<D>,
@@ -141,17 +141,17 @@ pub fn find_node<D: BlockDevice>(
     ensures reading { ReadsOrReports thread.old thread.new result }
 {
     let shown = look_up_path(alloc, thread, root, path)?;
-    // By the sizes of its blocks a list has as many bytes as its entry says.
+    // A proof needs the device's block size to see that a list has as many bytes as its entry says.
     let _device = thread.device();
     Ok(finding_shown(shown))
 }
 
-/// Looks up a path, and returns whether it leads to a directory that has entries. The call reads no
-/// more pairs than the directories above the path and the one at it have.
+/// Looks up a path, and returns whether it leads to a directory that has entries. Makes at most one
+/// read for each metadata pair of the directory at the path and of those above it.
 ///
-/// `root` is the number of the root directory's first pair.
+/// `root` is the index of the root directory's first pair.
 ///
-/// Errors: `Io` where a read failed. `NoMemory` where memory isn't granted.
+/// Errors: `Io` if a read failed. `NoMemory` if memory can't be allocated.
 pub fn path_has_entries<D: BlockDevice>(
     alloc: Global,
     thread: &mut Thread<D>,
@@ -166,7 +166,7 @@ pub fn path_has_entries<D: BlockDevice>(
 {
     let shown = look_up_path(alloc, thread, root, path)?;
     let has_entries = has_entries(alloc, thread, first_pair_found(root, shown))?;
-    // By the sizes of its blocks a list has as many bytes as its entry says.
+    // A proof needs the device's block size to see that a list has as many bytes as its entry says.
     let _device = thread.device();
     Ok(NodeAndEmptiness {
         finding: finding_shown(shown),

@@ -1,4 +1,4 @@
-// The bytes of a file that its slot has.
+// The inline bytes of a file's slot.
 
 ghost use Rattle.std.specs.Prelude.{◌≡◌, ◌≤◌, ◌<◌, ◌+◌, List, ℕ, IfOk, IfErr, IsSome, Some, drop, false, length, slice_get, take};
 ghost use Rattle.std.specs.Option.{option_copied};
@@ -20,7 +20,7 @@ use lfs_tag::{Log, Steps, get};
 use lfs_thread::Thread;
 use std::alloc::{AllocError, Global};
 
-// Returns the bytes from a position on, at most `count`.
+// Returns at most `count` bytes, from a position on.
 fn copy_bytes_from(
     alloc: Global,
     bytes: &[u8],
@@ -34,14 +34,14 @@ fn copy_bytes_from(
     Vec::from_slice(alloc, &bytes[from..from + len])
 }
 
-// Returns the inline bytes of a slot of a log. Returns None where the slot has no inline struct.
+// Returns the inline bytes of a log's slot. Returns None if its struct isn't inline.
 fn inline_in_log<'a>(log: &Log<'a>, id: u16) -> Option<&'a [u8]>
     ensures { (content : ModelContent) (slot : Slot) (bytes : List ℕ) → IsContentLog log.now content → slice_get content.slots id ≡ Some slot → slot.struct ≡ Inline bytes → option_copied result ≡ Some bytes }
 {
     get(log, INLINE_STRUCT, id, &mut Steps::new())
 }
 
-// Returns some of the inline bytes of a slot of a log.
+// Returns at most `count` inline bytes of a log's slot, from a position on.
 fn copy_inline_bytes(
     alloc: Global,
     log: &Log<'_>,
@@ -58,10 +58,10 @@ fn copy_inline_bytes(
     Ok(copy_bytes_from(alloc, bytes, position, count)?)
 }
 
-/// Returns the bytes from a position on, at most `count`, of a slot that has an inline struct. The
-/// call takes at most one read, and none where the slot's block is cached.
+/// Returns at most `count` bytes, from a position on, of a slot with an inline struct. Makes at
+/// most one read, and none if the slot's block is cached.
 ///
-/// Errors: `Io` where a read failed. `NoMemory` where memory isn't granted.
+/// Errors: `Io` if a read failed. `NoMemory` if memory can't be allocated.
 pub fn read_inline_at<D: BlockDevice>(
     alloc: Global,
     thread: &mut Thread<D>,
@@ -86,8 +86,8 @@ pub fn read_inline_at<D: BlockDevice>(
     )
 }
 
-/// Returns the slot of a file, and where the file's bytes are. Returns None where no file was
-/// found.
+/// Returns the slot and the storage of the file that a look-up found. Returns None if it found no
+/// file.
 pub fn spot_of_file(shown: VisiblePathLookup) -> Option<(SlotPosition, FileStorage)>
     ensures { result ≡ spot_and_storage shown }
 {

@@ -1,4 +1,4 @@
-// The entries of a pair and of a directory, and where a directory begins.
+// The entries of a pair and of a directory.
 
 ghost use Rattle.std.specs.Prelude.{◌≡◌, ◌<◌, ◌≤◌, ◌+◌, ◌∷◌, [], Some, IfOk, IfSome, drop, false, length, map};
 ghost use Rattle.lfs_model.specs.format.Slots.{address_view};
@@ -21,8 +21,7 @@ use lfs_tag::kinds::DELETE;
 use lfs_thread::Thread;
 use std::alloc::Global;
 
-// Returns the id of the slot that a set move names in the pair at an address, if it names one
-// there.
+// Returns the id of the slot that a pending move names, if that slot is in the pair at the address.
 fn moved_id_in(state: &MoveState, at: [u32; 2]) -> Option<usize>
     ensures { result ≡ moved_slot_id (move_view state.now) (address_view at) }
 {
@@ -33,7 +32,7 @@ fn moved_id_in(state: &MoveState, at: [u32; 2]) -> Option<usize>
     }
 }
 
-// Returns the entries of one pair, under that global state.
+// Returns the entries of one pair, without the slot that a move in `state` names.
 fn pair_items<D: BlockDevice>(
     alloc: Global,
     thread: &mut Thread<D>,
@@ -52,11 +51,11 @@ fn pair_items<D: BlockDevice>(
     items_in_log(alloc, &thread.lend(index).unwrap(), moved)
 }
 
-/// Returns the entries of one pair in their order. The superblock and the slot that a set move
-/// names are left out (DESIGN.md of littlefs, "The move problem").
+/// Returns the entries of one pair in order, without the superblock and the slot that a pending
+/// move names (DESIGN.md of littlefs, "The move problem").
 ///
-/// Errors: `Io` where the read of the pair's block failed. `NoMemory` where memory for the block,
-/// its slots or the entries isn't granted.
+/// Errors: `Io` if the read of the pair's block failed. `NoMemory` if memory for the block, its
+/// slots or the entries can't be allocated.
 pub fn unhidden_pair_items<D: BlockDevice>(
     alloc: Global,
     thread: &mut Thread<D>,
@@ -72,11 +71,11 @@ pub fn unhidden_pair_items<D: BlockDevice>(
     pair_items(alloc, thread, &state, index)
 }
 
-/// Returns the entries of the directory that begins with the pair of that number, where `state` is
-/// the thread's global state. The call reads no more pairs than the directory has, and none where
-/// all these are cached.
+/// Returns the entries of the directory that begins with the pair of index `first`. `state` is the
+/// thread's global state. Makes at most one read for each pair of the directory, and none if all of
+/// them are cached.
 ///
-/// Errors: `Io` where a read failed. `NoMemory` where memory isn't granted.
+/// Errors: `Io` if a read failed. `NoMemory` if memory can't be allocated.
 pub fn directory_items<D: BlockDevice>(
     alloc: Global,
     thread: &mut Thread<D>,
@@ -100,10 +99,10 @@ pub fn directory_items<D: BlockDevice>(
     Ok(items)
 }
 
-/// Returns the entries of the directory that begins with the pair of number `first`. These are the
-/// entries of its pairs in order, which hard tails join (SPEC.md of littlefs, "0x601
-/// LFS_TYPE_HARDTAIL"). In an accepted image they are in the disk's order of names. The call reads
-/// no more pairs than these, and none where all are cached.
+/// Returns the entries of the directory that begins with the pair of index `first`. They are in the
+/// order of its pairs along the hard tails (SPEC.md of littlefs, "0x601 LFS_TYPE_HARDTAIL"), and in
+/// an accepted image sorted in the disk's order of names. Makes at most one read for each pair of
+/// the directory, and none if all of them are cached.
 ///
 /// Errors are those of [`unhidden_pair_items`].
 pub fn directory_pair_entries<D: BlockDevice>(
@@ -142,8 +141,8 @@ pub(crate) fn items_if_directory<D: BlockDevice>(
     }
 }
 
-/// Returns whether the directory that begins with the pair of number `from` has an entry. Without
-/// a number there is no directory. The call reads no more pairs than the directory has.
+/// Returns whether the directory that begins with the pair of index `from` has an entry. Returns
+/// false if `from` is None. Makes at most one read for each pair of the directory.
 ///
 /// Errors are those of [`unhidden_pair_items`].
 pub fn has_entries<D: BlockDevice>(

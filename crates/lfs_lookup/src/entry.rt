@@ -1,4 +1,4 @@
-// The entry that a slot is.
+// A slot's struct, decoded.
 
 ghost use Rattle.lfs_model.specs.format.Content.{decoded_struct};
 ghost use Rattle.lfs_model.specs.layers.LoggedContent.{IsAllowedPart};
@@ -7,16 +7,16 @@ ghost use Rattle.lfs_lookup.specs.Entry.{IsStructEntry};
 
 use lfs_tag::{NameOrStruct, Struct};
 
-/// Where a file's bytes are. They aren't copied.
+/// Where a file's bytes are stored.
 #[derive(Clone, Copy, Debug, PartialEq, Eq, Drop)]
 pub enum FileStorage {
-    /// So many bytes, inline in the file's slot.
+    /// `len` bytes, inline in the file's slot.
     Inline { len: usize },
-    /// A skip list: the address of its last block, and its size in bytes.
+    /// A CTZ skip list: the address of its last block, and its size in bytes.
     List { head: u32, size: u32 },
 }
 
-/// A file or a directory, by its struct (SPEC.md of littlefs, "0x2xx LFS_TYPE_STRUCT").
+/// A struct, decoded (SPEC.md of littlefs, "0x2xx LFS_TYPE_STRUCT").
 #[derive(Clone, Copy, Debug, PartialEq, Eq, Drop)]
 pub enum FileOrDirectory {
     File(FileStorage),
@@ -24,8 +24,8 @@ pub enum FileOrDirectory {
     Directory([u32; 2]),
 }
 
-/// Returns the entry of a slot's struct: where a file's bytes are, or the address of a directory's
-/// first pair (SPEC.md of littlefs, "0x2xx LFS_TYPE_STRUCT").
+/// Decodes a slot's struct: returns where a file's bytes are stored, or the address of a
+/// directory's first pair (SPEC.md of littlefs, "0x2xx LFS_TYPE_STRUCT").
 pub fn entry_of_struct(structure: &NameOrStruct<'_>) -> FileOrDirectory
     requires { IsAllowedPart 2 (part_view structure.now) }
     ensures { IsStructEntry result (decoded_struct structure.now.kind structure.now.bytes.now) }

@@ -11,7 +11,7 @@ use lfs_device::{BlockDevice, Error};
 use lfs_thread::Thread;
 use std::alloc::{AllocError, Global};
 
-// Makes so many zeros.
+// Returns `len` zeros.
 pub(crate) fn zeros(alloc: Global, len: usize) -> Result<Vec<u8>, AllocError>
     ensures { IfOk result (λ bytes. length bytes.items ≡ len) }
 {
@@ -20,9 +20,9 @@ pub(crate) fn zeros(alloc: Global, len: usize) -> Result<Vec<u8>, AllocError>
     Ok(bytes)
 }
 
-/// Returns the bytes of a file, by its entry. A directory has none.
+/// Returns the bytes of a file, by its struct. A directory has none.
 ///
-/// Errors: `Io` where a read failed. `NoMemory` where memory for the bytes isn't granted.
+/// Errors: `Io` if a read failed. `NoMemory` if memory for the bytes can't be allocated.
 pub fn read_struct_bytes<D: BlockDevice>(
     alloc: Global,
     thread: &mut Thread<D>,

@@ -1,4 +1,4 @@
-// The contents of a file, as a reader keeps them.
+// The contents of a file, as a reader stores them.
 
 ghost use Rattle.std.specs.Prelude.{◌≡◌, ◌<◌, IfOk, IsSome, List, false};
 ghost use Rattle.lfs_model.specs.crash.Frame.{ancestor_paths};
@@ -22,20 +22,20 @@ use lfs_device::{BlockDevice, Error};
 use lfs_thread::Thread;
 use std::alloc::Global;
 
-/// The contents of a file, by its entry.
+/// The contents of a file, as its entry names them.
 #[derive(Drop)]
 pub enum FileContents {
-    /// Bytes that are inline in the entry.
+    /// A copy of the inline bytes.
     Inline(Vec<u8>),
-    /// A skip list: the address of its last block, and its size in bytes.
+    /// A CTZ skip list: the address of its last block, and its size in bytes.
     List { head: u32, size: u32 },
 }
 
-/// The entry that a path leads to, and the contents of a file.
+/// The entry at a path, and its contents if it is a file.
 #[derive(Drop)]
 pub struct FoundFile {
     pub finding: FoundNode,
-    /// None where no file is there.
+    /// None if the path has no file.
     pub contents: Option<FileContents>,
 }
 
@@ -62,12 +62,13 @@ fn contents_of_slot<D: BlockDevice>(
     }
 }
 
-/// Looks up a path, and returns the contents of a file there. The call reads no more pairs than the
-/// directories above the path have, as [`crate::look_up_path`], and none where all these are cached.
+/// Looks up a path, and returns the contents of the file there, if it is one. Makes at most one
+/// read for each metadata pair of the directories above the path, and none if all of them are
+/// cached.
 ///
-/// `root` is the number of the root directory's first pair.
+/// `root` is the index of the root directory's first pair.
 ///
-/// Errors: `Io` where a read failed. `NoMemory` where memory isn't granted.
+/// Errors: `Io` if a read failed. `NoMemory` if memory can't be allocated.
 pub fn find_file_contents<D: BlockDevice>(
     alloc: Global,
     thread: &mut Thread<D>,
@@ -81,7 +82,7 @@ pub fn find_file_contents<D: BlockDevice>(
     ensures reading { ReadsOrReports thread.old thread.new result }
 {
     let shown = look_up_path(alloc, thread, root, path)?;
-    // By the sizes of its blocks a list has as many bytes as its entry says.
+    // A proof needs the device's block size to see that a list has as many bytes as its entry says.
     let _device = thread.device();
     let finding = finding_shown(shown);
     let Some((slot, contents)) = spot_of_file(shown) else {

@@ -1,4 +1,4 @@
-// The results of calls by a path.
+// The results of calls by path.
 
 ghost use Rattle.std.specs.Prelude.{◌≡◌};
 ghost use Rattle.lfs_lookup.specs.Finds.{is_absent, is_directory_node, is_file_node, node_size_if_file, stat_view};
@@ -6,13 +6,12 @@ ghost use Rattle.lfs_lookup.specs.Finds.{is_absent, is_directory_node, is_file_n
 use crate::kinds::{Kind, ListItem, Stat};
 use crate::refusal::Refusal;
 
-/// The entry that a path leads to.
+/// The entry at a path.
 #[derive(Drop)]
 pub struct FoundNode {
-    /// The refusal where a component before the last isn't a directory: `NotDir`, or `NoEnt` where
-    /// no entry is there.
+    /// The refusal if a parent isn't a directory: `NotDir`, or `NoEnt` if it is missing.
     pub fault: Option<Refusal>,
-    /// The entry at the path. None where the path is refused.
+    /// The entry at the path: `Nothing` if a parent refuses it.
     pub node: Node,
 }
 
@@ -20,7 +19,7 @@ pub struct FoundNode {
 #[derive(Clone, Copy)]
 pub enum Node {
     Nothing,
-    /// A file of so many bytes.
+    /// A file, with its size in bytes.
     File { size: u32 },
     Directory,
 }
@@ -44,7 +43,7 @@ impl Node {
         matches!(self, Node::File { .. })
     }
 
-    /// Returns how many bytes a file has. Returns None where there is no file.
+    /// Returns the size of a file in bytes. Returns None for a directory and for nothing.
     pub fn size(self) -> Option<u32>
         ensures { result ≡ node_size_if_file self }
     {
@@ -55,32 +54,32 @@ impl Node {
     }
 }
 
-/// The entry that a path leads to, and whether it is a directory that has entries.
+/// The entry at a path, and whether it is a directory that has entries.
 #[derive(Drop)]
 pub struct NodeAndEmptiness {
     pub finding: FoundNode,
     pub has_entries: bool,
 }
 
-/// The entry that a path leads to, and an attribute of it.
+/// The entry at a path, and an attribute of it.
 #[derive(Drop)]
 pub struct FoundAttribute {
     pub finding: FoundNode,
-    /// The attribute's bytes. None where the entry hasn't the attribute.
+    /// The attribute's bytes. None if the entry doesn't have the attribute.
     pub bytes: Option<Vec<u8>>,
 }
 
-/// The entry that a path leads to, and the entries in it.
+/// The entry at a path, and the entries in it.
 #[derive(Drop)]
 pub struct Listing {
     pub finding: FoundNode,
-    /// The entries in name order, the shorter names first. There are none where no directory is at
-    /// the path.
+    /// The entries in name order, a shorter name before a longer one that begins with it. Empty if
+    /// the path has no directory.
     pub items: Vec<ListItem>,
 }
 
 impl Stat {
-    /// Returns the stat of a file of that size, or of a directory where there is none.
+    /// Returns the stat of a file of `size` bytes, or of a directory if `size` is None.
     pub fn from_size(size: Option<u32>) -> Stat
         ensures { stat_view result ≡ size }
     {

@@ -16,7 +16,7 @@ use lfs_tag::{Superblock, superblock_of};
 use lfs_thread::Thread;
 use std::alloc::Global;
 
-// Returns the fields in a superblock's struct.
+// Decodes a superblock's struct.
 fn superblock_of_bytes(bytes: &[u8]) -> Superblock
     requires { length bytes.now ≡ 24 }
     ensures { superblock_view result ≡ superblock_fields bytes.now }
@@ -27,12 +27,12 @@ fn superblock_of_bytes(bytes: &[u8]) -> Superblock
     }
 }
 
-/// Returns the superblock with which the root directory begins. The others of its chain may differ
-/// from it in the version alone. The call takes at most one read.
+/// Returns the superblock with which the root directory begins. Other superblocks of its chain may
+/// differ from it only in the version. Makes at most one read.
 ///
-/// `root` is the number of the root directory's first pair.
+/// `root` is the index of the root directory's first pair.
 ///
-/// Errors: `Io` where a read failed. `NoMemory` where memory isn't granted.
+/// Errors: `Io` if a read failed. `NoMemory` if memory can't be allocated.
 pub fn superblock<D: BlockDevice>(
     alloc: Global,
     thread: &mut Thread<D>,

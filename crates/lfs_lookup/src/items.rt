@@ -14,19 +14,19 @@ use lfs_device::Error;
 use lfs_tag::{Content, Log, NameOrStruct, Slot, Struct};
 use std::alloc::{AllocError, Global};
 
-/// The struct of an entry (SPEC.md of littlefs, "0x2xx LFS_TYPE_STRUCT"): where the contents of a
-/// file are, or where a directory begins.
+/// The struct of an entry (SPEC.md of littlefs, "0x2xx LFS_TYPE_STRUCT"): a file's contents, or the
+/// first pair of a directory.
 #[derive(Drop)]
 pub enum OwnedStruct {
-    /// A file's bytes, inline in the pair.
+    /// A copy of a file's inline bytes.
     Inline(Vec<u8>),
-    /// A file's skip list: the address of its last block, and its size in bytes.
+    /// A file's CTZ skip list: the address of its last block, and its size in bytes.
     Ctz { head: u32, size: u32 },
-    /// The first pair of a directory.
+    /// The address of a directory's first pair.
     Branch([u32; 2]),
 }
 
-/// A file or a directory, as an entry of the directory above it.
+/// An entry of a directory.
 #[derive(Drop)]
 pub struct NameAndOwnedStruct {
     /// The bytes of its name.
@@ -35,7 +35,7 @@ pub struct NameAndOwnedStruct {
     pub structure: OwnedStruct,
 }
 
-/// Returns the struct of a slot's part, with a copy of a file's bytes.
+/// Decodes a slot's struct, and copies inline bytes.
 pub fn owned_struct(alloc: Global, part: &NameOrStruct<'_>) -> Result<OwnedStruct, AllocError>
     requires { IsAllowedPart 2 (part_view part.now) }
     ensures { IfOk result (λ s. owned_view s ≡ decoded_struct part.now.kind part.now.bytes.now) }
@@ -67,7 +67,7 @@ fn item_of_slot(alloc: Global, slot: &Slot<'_>) -> Result<Option<NameAndOwnedStr
     Ok(Some(NameAndOwnedStruct { name, structure }))
 }
 
-// Adds the entry of a slot.
+// Appends the entry of a slot, if it is one.
 fn push_slot_item(
     alloc: Global,
     items: &mut Vec<NameAndOwnedStruct>,
@@ -94,7 +94,7 @@ fn items_of_slots(alloc: Global, slots: &[Slot<'_>]) -> Result<Vec<NameAndOwnedS
     Ok(items)
 }
 
-// Removes the slot of an id, if there is one.
+// Removes the slot with the id `moved`, if there is one.
 fn remove_moved_slot(slots: &mut Vec<Slot<'_>>, moved: Option<usize>)
     ensures { map slot_view slots.new.items ≡ slots_except moved (map slot_view slots.old.items) }
 {
@@ -105,7 +105,7 @@ fn remove_moved_slot(slots: &mut Vec<Slot<'_>>, moved: Option<usize>)
     }
 }
 
-// Returns the entries of a pair with that log, without the slot that a set move names.
+// Returns the entries in a pair's log, without the slot with the id `moved`.
 pub(crate) fn items_in_log(
     alloc: Global,
     log: &Log<'_>,
@@ -121,7 +121,7 @@ pub(crate) fn items_in_log(
     Ok(items)
 }
 
-// Sorts entries by their names, the shorter names first.
+// Sorts entries by name, a shorter name before a longer one that begins with it.
 pub(crate) fn sort_shorter_first(items: &mut Vec<NameAndOwnedStruct>)
     ensures { AreShorterFirst (items_view items.old.items) (items_view items.new.items) }
 {

@@ -1,4 +1,4 @@
-// What an entry is: a file of a size, or a directory.
+// The kind and size of an entry.
 
 ghost use Rattle.std.specs.Prelude.{◌≡◌};
 ghost use Rattle.lfs_lookup.specs.declared.kinds.Kind.TheVariants.{Dir};
@@ -12,11 +12,11 @@ pub enum Kind {
     Dir,
 }
 
-/// A kind and a size.
+/// An entry's kind, and its size.
 #[derive(Clone, Copy, Debug)]
 pub struct Stat {
     pub kind: Kind,
-    /// How many bytes a file has. 0 for a directory.
+    /// The size of a file in bytes; 0 for a directory.
     pub size: u32,
     ghost no_bytes: { kind ≡ Dir → size ≡ 0 },
 }
@@ -27,7 +27,7 @@ pub struct ListItem {
     /// The bytes of its name.
     pub name: ArrayVec<u8, 255>,
     pub kind: Kind,
-    /// How many bytes a file has. 0 for a directory.
+    /// The size of a file in bytes; 0 for a directory.
     pub size: u32,
     ghost no_bytes: { kind ≡ Dir → size ≡ 0 },
 }

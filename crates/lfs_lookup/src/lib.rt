@@ -1,6 +1,6 @@
 // SPDX-License-Identifier: BSD-3-Clause
-//! Look-ups in the directories of an accepted image, by name and by path. Also the image's
-//! superblock, and why an image may not be changed.
+//! Look-ups in the directories of an accepted image, by name and by path; also the image's
+//! superblock, and the rules of the writing profile that an image breaks.
 #![tactic(auto)]
 
 mod addresses;

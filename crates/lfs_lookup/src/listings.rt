@@ -23,7 +23,7 @@ use lfs_device::{BlockDevice, Error};
 use lfs_thread::Thread;
 use std::alloc::{AllocError, Global};
 
-// Returns how many bytes a file has. Returns None for a directory.
+// Returns the size of a file in bytes. Returns None for a directory.
 fn listed_size(structure: &OwnedStruct) -> Option<u32>
     requires { StructFitsTag (owned_view structure.now) }
     ensures { result ≡ listed_struct_size (owned_view structure.now) }
@@ -35,7 +35,7 @@ fn listed_size(structure: &OwnedStruct) -> Option<u32>
     }
 }
 
-// Returns an entry by name, kind and size.
+// Converts an entry to its name, kind and size.
 fn to_list_item(item: NameAndOwnedStruct) -> ListItem
     requires { IsInLimits (item_view item) }
     ensures { listed_item_view result ≡ name_and_size (item_view item) }
@@ -51,7 +51,7 @@ fn to_list_item(item: NameAndOwnedStruct) -> ListItem
     }
 }
 
-// Returns entries by name, kind and size.
+// Converts entries to their names, kinds and sizes.
 fn to_list_items(alloc: Global, items: Vec<NameAndOwnedStruct>) -> Result<Vec<ListItem>, AllocError>
     requires { AreInLimits (items_view items.items) }
     ensures { IfOk result (λ listed. map listed_item_view listed.items ≡ map name_and_size (items_view items.items)) }
@@ -63,14 +63,14 @@ fn to_list_items(alloc: Global, items: Vec<NameAndOwnedStruct>) -> Result<Vec<Li
     Ok(listed)
 }
 
-/// Looks up a path, and returns the entries of the directory at it. They are in name order, the
-/// shorter names first; there are none where no directory is at the path. The call reads no more
-/// pairs than the directories above the path and the one at it have, and none where all these are
-/// cached.
+/// Looks up a path, and returns the entries of the directory there, none if it isn't one. They are
+/// in name order, a shorter name before a longer one that begins with it. Makes at most one read
+/// for each metadata pair of the directory at the path and of those above it, and none if all of
+/// them are cached.
 ///
-/// `root` is the number of the root directory's first pair.
+/// `root` is the index of the root directory's first pair.
 ///
-/// Errors: `Io` where a read failed. `NoMemory` where memory isn't granted.
+/// Errors: `Io` if a read failed. `NoMemory` if memory can't be allocated.
 pub fn list_directory<D: BlockDevice>(
     alloc: Global,
     thread: &mut Thread<D>,
@@ -87,8 +87,8 @@ pub fn list_directory<D: BlockDevice>(
     let shown = look_up_path(alloc, thread, root, path)?;
     let mut items = items_if_directory(alloc, thread, first_pair_found(root, shown))?;
     sort_shorter_first(&mut items);
-    // The blocks hold bytes, so inline contents are short. By the sizes of its blocks a list has as
-    // many bytes as its entry says.
+    // A proof needs that blocks hold bytes to see that inline contents are short, and the device's
+    // block size to see that a list has as many bytes as its entry says.
     let _device = thread.device();
     let listed = to_list_items(alloc, items)?;
     Ok(Listing {

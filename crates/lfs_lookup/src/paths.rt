@@ -1,4 +1,4 @@
-// Paths, from the root down.
+// Look-ups of paths, from the root down.
 
 ghost use Rattle.std.specs.Prelude.{◌≡◌, None, ◌<◌, ◌≤◌, ◌+◌, IfOk, map, sum_by, ◌++◌, ◌∷◌, [], drop};
 ghost use Rattle.lfs_model.specs.crash.Frame.{directory_pair_count, ancestor_paths};
@@ -24,24 +24,24 @@ use lfs_tag::MoveState;
 use lfs_tag::kinds::DELETE;
 use lfs_thread::{Thread, number_at_address};
 
-// What a path leads to, where a directory is wanted.
+// The result of a search for a directory.
 #[derive(Clone, Copy, Debug, PartialEq, Eq, Drop)]
 pub(crate) enum Parent {
-    // A directory, by the number of its first pair.
+    // A directory: the index of its first pair.
     Directory(usize),
-    // A file is there.
+    // The path leads to a file.
     File,
-    // No entry is there.
+    // There is no entry.
     Nothing,
 }
 
-/// What a path leads to. `parent` is the number of the first pair of the directory that has, or
-/// would have, its last name.
+/// The result of a path's look-up. `parent` is the index of the first pair of the directory to
+/// which the path's last name belongs.
 #[derive(Clone, Copy, Debug, PartialEq, Eq, Drop)]
 pub enum PathLookup {
     /// The root directory, which has no slot.
     Root,
-    /// A directory, which begins with the pair of number `first`.
+    /// A directory, which begins with the pair of index `first`.
     Directory {
         parent: usize,
         slot: SlotPosition,
@@ -53,24 +53,24 @@ pub enum PathLookup {
         slot: SlotPosition,
         contents: FileStorage,
     },
-    /// No entry. The name belongs before the slot `place`.
+    /// No entry. A new one belongs before the slot `place`.
     Nothing {
         parent: usize,
         place: SlotPosition,
     },
     /// A component before the last is a file.
     ParentIsFile,
-    /// A component before the last isn't there.
+    /// A component before the last is missing.
     ParentIsMissing,
 }
 
-/// What a path leads to where a slot may count as deleted. It is like [`PathLookup`], but has no place
-/// for a name that isn't there.
+/// The result of a path's look-up if a slot may count as deleted. Like [`PathLookup`], but without
+/// the slot at which a missing name belongs.
 #[derive(Clone, Copy, Debug, PartialEq, Eq, Drop)]
 pub enum VisiblePathLookup {
     /// The root directory, which has no slot.
     Root,
-    /// A directory, which begins with the pair of number `first`.
+    /// A directory, which begins with the pair of index `first`.
     Directory {
         slot: SlotPosition,
         first: usize,
@@ -84,12 +84,12 @@ pub enum VisiblePathLookup {
     Nothing,
     /// A component before the last is a file.
     ParentIsFile,
-    /// A component before the last isn't there.
+    /// A component before the last is missing.
     ParentIsMissing,
 }
 
-// Returns the slot that counts as deleted under a global state: the one that a set move names
-// (DESIGN.md of littlefs, "The move problem"). Returns None where no move is set.
+// Returns the slot that counts as deleted, because a pending move in `state` names it (DESIGN.md of
+// littlefs, "The move problem"). Returns None if no move is pending.
 pub(crate) fn moved_slot_spot<D: BlockDevice>(
     thread: &Thread<D>,
     state: &MoveState,
@@ -107,7 +107,7 @@ pub(crate) fn moved_slot_spot<D: BlockDevice>(
     }
 }
 
-// Returns the directory of that name in a directory, where a slot may count as deleted.
+// Finds a directory by its name in another one. The slot `moved` counts as deleted.
 fn find_subdirectory<D: BlockDevice>(
     thread: &mut Thread<D>,
     first: usize,
@@ -130,9 +130,9 @@ fn find_subdirectory<D: BlockDevice>(
     }
 }
 
-// Returns the directory that the names lead to from the root, where the slot `moved` counts as
-// deleted. The root begins with the pair of number `root`. The search ends at the first name that
-// is no directory's. It reads no more pairs than the directories above the last one have.
+// Finds the directory at a path. The slot `moved` counts as deleted. The root begins with the pair
+// of index `root`. The search ends at the first name that isn't a directory's, and makes at most
+// one read for each pair of the directories above the last one.
 //
 // Errors are those of `find_name`.
 pub(crate) fn find_directory<D: BlockDevice>(
@@ -158,7 +158,7 @@ pub(crate) fn find_directory<D: BlockDevice>(
     Ok(Parent::Directory(first))
 }
 
-// Returns the entry of a name in a directory.
+// Finds a name in a directory.
 fn search_directory<D: BlockDevice>(
     thread: &mut Thread<D>,
     parent: usize,
@@ -192,11 +192,11 @@ fn search_directory<D: BlockDevice>(
 }
 
 /// Looks up a path by the names of its components, from the root down. The root begins with the
-/// pair of number `root`. The call reads no more pairs than the directories above the path have.
-/// Where each of these pairs has a slot, a directory of n pairs takes 1 + log2 n reads at most.
+/// pair of index `root`. Makes at most one read for each metadata pair of the directories above the
+/// path. If each of these pairs has a slot, a directory of n pairs costs at most 1 + log2 n reads.
 ///
-/// Errors: `Io` where a read failed. `NoMemory` where memory for a block isn't granted. The thread
-/// works after either.
+/// Errors: `Io` if a read failed. `NoMemory` if memory for a block can't be allocated. The thread
+/// doesn't fail.
 pub fn look_up<D: BlockDevice>(
     thread: &mut Thread<D>,
     root: usize,
@@ -219,7 +219,7 @@ pub fn look_up<D: BlockDevice>(
     }
 }
 
-// Returns the entry of a name in a directory, where a slot may count as deleted.
+// Finds a name in a directory. The slot `moved` counts as deleted.
 fn look_up_name<D: BlockDevice>(
     thread: &mut Thread<D>,
     parent: usize,
@@ -246,9 +246,9 @@ fn look_up_name<D: BlockDevice>(
     }
 }
 
-// Looks up a path as `look_up` does, where the slot `moved` counts as deleted: the one that a set
-// move names (DESIGN.md of littlefs, "The move problem"). The block of the slot that is found is
-// cached then.
+// Looks up a path as `look_up` does. The slot `moved`, which a pending move names, counts as
+// deleted (DESIGN.md of littlefs, "The move problem"). Afterwards the block of the slot that was
+// found is cached.
 //
 // Errors are those of `find_name`.
 pub(crate) fn look_up_unhidden<D: BlockDevice>(

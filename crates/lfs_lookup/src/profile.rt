@@ -1,4 +1,4 @@
-// What of the writing profile an image breaks.
+// Finds a rule of the writing profile that an image breaks.
 
 ghost use Rattle.std.specs.Prelude.{List, ◌≡◌, ◌↔◌, ◌<◌, ◌⊎◌, IsTrue, All, IfOk, IfErr, IfSome, MatchOption, None, Some, false, length, map, true};
 ghost use Rattle.lfs_model.specs.format.Content.{complete_slot, complete_slots, decoded_struct};
@@ -26,16 +26,16 @@ use lfs_tag::{Attribute, Content, Log, NameOrStruct, Slot, Superblock, superbloc
 use lfs_thread::Thread;
 use std::alloc::Global;
 
-// Where a slot is: the address of its pair, and its number there.
+// The address of a slot's pair, and its index there.
 #[derive(Clone, Copy)]
 struct SlotPlace {
     pair: [u32; 2],
     slot: usize,
 }
 
-// ---- which of two rules is told
+// ---- which of two breaches is reported
 
-// Returns the place of a rule in the order in which rules are told.
+// Returns the rank of a rule: the one of least rank is reported.
 fn rule_order(breach: ProfileBreach) -> u32 {
     match breach {
         ProfileBreach::OtherLimits { .. } => 0,
@@ -45,7 +45,7 @@ fn rule_order(breach: ProfileBreach) -> u32 {
     }
 }
 
-// Returns the breach of the rule that is told before the other one, and of one rule the first.
+// Returns the breach with the rule of less rank, or `first` if both break the same rule.
 fn breach_to_tell(
     first: Option<ProfileBreach>,
     next: Option<ProfileBreach>,
@@ -91,7 +91,7 @@ fn other_limit_of(geometry: &Geometry, structure: &NameOrStruct<'_>) -> Option<O
     }
 }
 
-// Returns what of the writing profile a superblock's slot breaks.
+// Returns the rule of the writing profile that a superblock's slot breaks, if any.
 fn breach_of_superblock(
     geometry: &Geometry,
     place: SlotPlace,
@@ -107,15 +107,15 @@ fn breach_of_superblock(
     }
 }
 
-// Returns whether no more bytes are inline than the limit.
+// Returns whether a struct's inline bytes are within the inline limit.
 fn inline_fits(geometry: &Geometry, structure: &NameOrStruct<'_>) -> bool
     ensures { IsTrue result ↔ InlineBytesFit (inline_limit geometry.now.profile geometry.now.block_size) (decoded_struct structure.now.kind structure.now.bytes.now) }
 {
     structure.kind != INLINE_STRUCT || structure.bytes.len() <= geometry.inline_limit() as usize
 }
 
-// Returns whether an entry takes at most half of what a pair may hold, with any contents that it
-// may get.
+// Returns whether an entry, with the longest inline contents it may ever have, uses at most half of
+// a pair.
 fn charge_fits(geometry: &Geometry, name: &NameOrStruct<'_>, attributes: &[Attribute<'_>]) -> bool
     ensures { (s : ModelSlot) → s.name ≡ name.now.bytes.now → s.attributes ≡ map attribute_view attributes.now → IsTrue result ↔ ChargeFits geometry.now.profile geometry.now.block_size geometry.now.page s }
 {
@@ -125,7 +125,7 @@ fn charge_fits(geometry: &Geometry, name: &NameOrStruct<'_>, attributes: &[Attri
     charge <= u64::from(geometry.entry_size_limit())
 }
 
-// Returns what of the writing profile an entry breaks.
+// Returns the rule of the writing profile that an entry breaks, if any.
 fn breach_of_entry(
     geometry: &Geometry,
     place: SlotPlace,
@@ -146,7 +146,7 @@ fn breach_of_entry(
     None
 }
 
-// Returns what of the writing profile a slot breaks.
+// Returns the rule of the writing profile that a slot breaks, if any.
 fn breach_of_slot(geometry: &Geometry, place: SlotPlace, slot: &Slot<'_>) -> Option<ProfileBreach>
     requires { (s : ModelSlot) × ((complete_slot (slot_view slot.now) ≡ Some s) × HasSuperblockStruct s) }
     ensures { (s : ModelSlot) → complete_slot (slot_view slot.now) ≡ Some s → HasSuperblockStruct s → IsSlotBreach geometry.now.profile geometry.now.block_size geometry.now.page (address_view place.pair) place.slot s result }
@@ -160,7 +160,7 @@ fn breach_of_slot(geometry: &Geometry, place: SlotPlace, slot: &Slot<'_>) -> Opt
     breach_of_entry(geometry, place, &name, &structure, &slot.attributes)
 }
 
-// Returns what of the writing profile the slots of the pair at that address break.
+// Returns the rule of the writing profile that the slots of the pair at the address break, if any.
 fn breach_of_slots(geometry: &Geometry, pair: [u32; 2], slots: &[Slot<'_>]) -> Option<ProfileBreach>
     requires { (all : List ModelSlot) × ((complete_slots (map slot_view slots.now) ≡ Some all) × All HasSuperblockStruct all) }
     ensures { (all : List ModelSlot) → complete_slots (map slot_view slots.now) ≡ Some all → All HasSuperblockStruct all → IsSlotsBreach geometry.now.profile geometry.now.block_size geometry.now.page (address_view pair) all result }
@@ -175,7 +175,7 @@ fn breach_of_slots(geometry: &Geometry, pair: [u32; 2], slots: &[Slot<'_>]) -> O
 
 // ---- pairs
 
-// Returns a breach where a pair has no slot, although a hard tail names it.
+// Returns a breach if a pair behind a hard tail has no slot.
 fn breach_if_empty(pair: [u32; 2], follows: bool, slots: &[Slot<'_>]) -> Option<ProfileBreach>
     ensures { MatchOption result (follows ≡ true → ¬ (length slots.now ≡ 0)) (λ b. (b ≡ EmptyPair pair) × (follows ≡ true) × (length slots.now ≡ 0)) }
 {
@@ -186,7 +186,7 @@ fn breach_if_empty(pair: [u32; 2], follows: bool, slots: &[Slot<'_>]) -> Option<
     }
 }
 
-// Returns a breach where a pair has more than it may hold.
+// Returns a breach if a pair's content is too large.
 fn breach_of_size(
     geometry: &Geometry,
     pair: [u32; 2],
@@ -201,8 +201,8 @@ fn breach_of_size(
     }
 }
 
-// Returns what of the writing profile the pair at that address with that log breaks. A pair that a
-// hard tail names has a slot.
+// Returns the rule of the writing profile that a pair with that log breaks, if any. `follows` says
+// whether it is behind a hard tail, and so must have a slot.
 fn breach_of_log(
     alloc: Global,
     geometry: &Geometry,
@@ -221,7 +221,7 @@ fn breach_of_log(
     Ok(breach_to_tell(breach_to_tell(of_slots, empty), large))
 }
 
-// Returns what of the writing profile the pair at an index breaks.
+// Returns the rule of the writing profile that the pair at an index breaks, if any.
 fn breach_at<D: BlockDevice>(
     alloc: Global,
     thread: &mut Thread<D>,
@@ -243,7 +243,7 @@ fn breach_at<D: BlockDevice>(
 // ---- the image
 
 /// Returns whether a pair continues the directory of the pair before it. The pairs up to the root's
-/// first one, whose number is `root`, don't.
+/// first one, of index `root`, don't.
 pub fn follows_hard_tail<D: BlockDevice>(thread: &Thread<D>, root: usize, index: usize) -> bool
     requires works { thread.now.failed ≡ false }
     requires below { index < length thread.now.kept.pairs }
@@ -252,18 +252,18 @@ pub fn follows_hard_tail<D: BlockDevice>(thread: &Thread<D>, root: usize, index:
     index > root && thread.next(index - 1).is_some()
 }
 
-/// Returns what of the writing profile an image breaks, and where. Returns None exactly where the image
-/// may be changed. Each pair has at most a thousand slots, whose bytes it could hold after a compaction.
-/// Each superblock has the limits of the device's profile. Each entry takes at most half of a pair's
-/// bytes, with any inline contents that it may get. A file's contents are inline up to the device's
-/// limit only. Only the first pair of a directory may have no slots.
+/// Returns a rule of the writing profile that an image breaks, and where. Returns None exactly if
+/// the image may be changed. These are the rules: each pair has at most a thousand slots, which fit
+/// into it after a compaction. Each superblock has the limits of the device's profile. Each entry
+/// uses at most half of a pair, with the longest inline contents it may ever have. Inline contents
+/// are within the device's inline limit. Only the first pair of a directory may have no slots.
 ///
-/// Of several rules another limit is told first, then long inline contents, an empty pair, and what is
-/// too large. Of one rule the first place is told. `root` is the number of the root directory's first
-/// pair.
+/// If the image breaks several rules, another limit is named first, then long inline contents, an
+/// empty pair, and what is too large. The first breach of that rule is named. `root` is the index
+/// of the root directory's first pair.
 ///
-/// Errors: `Io` where a read failed. `NoMemory` where memory for a block and its slots isn't
-/// granted.
+/// Errors: `Io` if a read failed. `NoMemory` if memory for a block and its slots can't be
+/// allocated.
 pub fn find_profile_breach<D: BlockDevice>(
     alloc: Global,
     thread: &mut Thread<D>,

@@ -7,8 +7,7 @@ ghost use Rattle.lfs_lookup.specs.RefusalErrors.{refusal_error, is_refusal, erro
 use lfs_device::Error;
 use std::marker::Model;
 
-/// A refusal: an error that isn't `Io`, `NoMemory` or `Corrupt`, and after which all is as it was.
-/// A contract sees the definition's refusal.
+/// A refusal: an error other than `Io`, `NoMemory` and `Corrupt`, which changes nothing.
 #[derive(Clone, Copy)]
 pub struct Refusal {
     error: Error,
@@ -31,7 +30,7 @@ impl Model for Refusal {
 }
 
 impl Refusal {
-    /// Returns the error that the refusal is.
+    /// Returns the refusal as an error.
     pub fn error(&self) -> Error
         ensures refusal { error_refusal result ≡ self.now }
         ensures is { is_refusal result ≡ true }
@@ -40,7 +39,7 @@ impl Refusal {
     }
 }
 
-/// Returns the refusal that an error is.
+/// Converts an error that is a refusal.
 pub fn to_refusal(error: Error) -> Refusal
     requires { is_refusal error ≡ true }
     ensures { result ≡ error_refusal error }
@@ -48,7 +47,7 @@ pub fn to_refusal(error: Error) -> Refusal
     Refusal { error }
 }
 
-/// Returns that refusal, if a check fails.
+/// Returns the error as a refusal if `is` is true, otherwise None.
 pub fn refuse_if(is: bool, error: Error) -> Option<Refusal>
     requires { is_refusal error ≡ true }
     ensures { result ≡ refuse_if is (error_refusal error) }

@@ -1,4 +1,4 @@
-// Names in directories of several pairs.
+// Searches for names in directories, along their pairs.
 
 ghost use Rattle.std.specs.Prelude.{◌≡◌, ◌<◌, ◌≤◌, ◌+◌, ◌-◌, ◌/◌, ◌∷◌, [], false, length, drop, IfOk, IfSome, IsSome, OnOk};
 ghost use Rattle.lfs_model.specs.session.History.{read_count};
@@ -20,30 +20,30 @@ use lfs_model::NameOrder;
 use lfs_tag::{Log, Lookup, Steps, find, struct_of_slot};
 use lfs_thread::Thread;
 
-/// A slot, or the place of one: a pair's number in the thread and an id in the pair.
+/// The position of a slot: the index of its pair in the thread, and its id in the pair.
 #[derive(Clone, Copy, Debug, PartialEq, Eq, Drop)]
 pub struct SlotPosition {
     pub pair: usize,
     pub id: u16,
 }
 
-// Where a name is in a directory.
+// The result of a search for a name in a directory.
 #[derive(Clone, Copy, Debug, PartialEq, Eq, Drop)]
 pub(crate) enum NamePositionInDirectory {
     // Its slot, and the entry there.
     Found(SlotPosition, FileOrDirectory),
-    // The name isn't there, and belongs before this slot.
+    // The directory doesn't have the name; it belongs before this slot.
     Place(SlotPosition),
 }
 
-// Where a name is in a pair.
+// The result of a search for a name in a pair.
 #[derive(Drop)]
 enum NamePositionInPair {
     Found(u16, FileOrDirectory),
     Place(u16),
 }
 
-// Returns where a name is among the slots of a log, where one slot may be passed over.
+// Finds a name among the slots of a log. Skips the slot with the id `skip`.
 fn find_in_log(
     log: &Log<'_>,
     order: NameOrder,
@@ -62,7 +62,7 @@ fn find_in_log(
     }
 }
 
-// Returns where a name is in one pair, where one slot may be passed over.
+// Finds a name in one pair. Skips the slot with the id `skip`.
 fn find_in_pair<D: BlockDevice>(
     thread: &mut Thread<D>,
     pair: usize,
@@ -82,7 +82,7 @@ fn find_in_pair<D: BlockDevice>(
     Ok(find_in_log(&log, order, name, skip))
 }
 
-// Returns the number behind the last pair of the directory that begins with the pair of number
+// Returns the index after the last pair of the directory that begins with the pair of index
 // `first`. A directory continues along the hard tails (SPEC.md of littlefs, "0x601
 // LFS_TYPE_HARDTAIL").
 fn directory_end<D: BlockDevice>(thread: &Thread<D>, first: usize) -> usize
@@ -100,8 +100,8 @@ fn directory_end<D: BlockDevice>(thread: &Thread<D>, first: usize) -> usize
     if pair < count { pair + 1 } else { count }
 }
 
-// Returns which of the pairs from `low` to before `high` is looked at next: the middle one, or
-// `low` where that one has no slots.
+// Returns which of the pairs from `low` to before `high` is searched next: the middle one, or `low`
+// if that one has no slots.
 fn middle_pair_number<D: BlockDevice>(thread: &Thread<D>, low: usize, high: usize) -> usize
     requires works { thread.now.failed ≡ false }
     requires some { low < high }
@@ -118,8 +118,8 @@ fn middle_pair_number<D: BlockDevice>(thread: &Thread<D>, low: usize, high: usiz
     }
 }
 
-// Returns the pair with which the search of a directory begins: its first one, or the next one where
-// the first has no slots. So a name that comes first isn't written to a pair that was emptied.
+// Returns the pair with which the search of a directory begins: its first one, or the next one if
+// the first has no slots. So a new first name isn't written to a pair that was emptied.
 fn search_start<D: BlockDevice>(thread: &Thread<D>, first: usize) -> usize
     requires can { CanReadPair thread.now first }
     ensures { StartsSearch thread.now.kept first result }
@@ -130,7 +130,7 @@ fn search_start<D: BlockDevice>(thread: &Thread<D>, first: usize) -> usize
     }
 }
 
-// As `find_name`, of the directory's pairs from number `first` on.
+// As `find_name`, among the directory's pairs from index `first` on.
 fn find_from<D: BlockDevice>(
     thread: &mut Thread<D>,
     first: usize,
@@ -150,7 +150,7 @@ fn find_from<D: BlockDevice>(
         let pair = middle_pair_number(thread, low, high);
         let count = thread.slot_count(pair);
         if count == 0 && pair > first {
-            // No name is here, and the names before this pair are less.
+            // This pair has no names, and those before it are less.
             low = pair + 1;
             continue;
         }
@@ -176,14 +176,13 @@ fn find_from<D: BlockDevice>(
     Ok(NamePositionInDirectory::Place(spot))
 }
 
-// Finds where a name is among the entries of the directory that begins with the pair of number
-// `first`, or where it belongs. A set move is ignored here; `find_unhidden` regards it. The entries of
-// a directory are sorted by name along its pairs, so the search goes by halves. The call reads no
-// more pairs than the directory has. Where each pair has a slot these are 1 + log2 n of n pairs at
-// most.
+// Finds a name in the directory that begins with the pair of index `first`, or the slot at which it
+// belongs. Ignores a pending move, unlike `find_unhidden`. The names of a directory rise along its
+// pairs, so this is a binary search: at most one read for each pair of the directory, and at most 1
+// + log2 n if each of its n pairs has a slot.
 //
-// Errors: `Io` where a read failed. `NoMemory` where memory for a block isn't granted. The thread
-// works after either.
+// Errors: `Io` if a read failed. `NoMemory` if memory for a block can't be allocated. The thread
+// doesn't fail.
 pub(crate) fn find_name<D: BlockDevice>(
     thread: &mut Thread<D>,
     first: usize,
@@ -200,8 +199,8 @@ pub(crate) fn find_name<D: BlockDevice>(
     find_from(thread, start, name)
 }
 
-// Finds the entry of a name pair by pair, where the slot `moved` counts as deleted. The other
-// clauses are those of `find_unhidden`.
+// Finds the entry of a name pair by pair. The slot `moved` counts as deleted. The other clauses are
+// those of `find_unhidden`.
 fn find_along_tails<D: BlockDevice>(
     thread: &mut Thread<D>,
     first: usize,
@@ -232,18 +231,17 @@ fn find_along_tails<D: BlockDevice>(
     }
 }
 
-/// Finds the entry of a name in the directory that begins with the pair of number `first`. The slot
-/// `moved` counts as deleted: the one that a set move names (DESIGN.md of littlefs, "The move
-/// problem"). Returns None where no entry has the name. The call reads no more pairs than the
-/// directory has, and none where all these are cached. Where no slot is moved the search is by
-/// halves: at most 1 + log2 n reads of n pairs that have slots. At Ok the pair that has the name is
-/// cached.
+/// Finds the entry of a name in the directory that begins with the pair of index `first`. The slot
+/// `moved`, which a pending move names, counts as deleted (DESIGN.md of littlefs, "The move
+/// problem"). Returns None if no entry has the name. Makes at most one read for each pair of the
+/// directory, and none if all of them are cached. If `moved` is None it is a binary search: at most
+/// 1 + log2 n reads if each of its n pairs has a slot. At Ok the pair that has the name is cached.
 ///
-/// Where no slot is moved, the caller's condition is that the directory's names rise, as in an
-/// accepted image, and that no later pair of the thread has a superblock.
+/// If `moved` is None, the directory's names have to rise, as in an accepted image, and no later
+/// pair of the thread may have a superblock.
 ///
-/// Errors: `Io` where a read failed. `NoMemory` where memory for a block isn't granted. The thread
-/// works after either.
+/// Errors: `Io` if a read failed. `NoMemory` if memory for a block can't be allocated. The thread
+/// doesn't fail.
 pub fn find_unhidden<D: BlockDevice>(
     thread: &mut Thread<D>,
     first: usize,
@@ -266,7 +264,7 @@ pub fn find_unhidden<D: BlockDevice>(
     }
 }
 
-// Returns the id that is passed over in a pair.
+// Returns the id to skip in a pair, if any.
 fn id_to_skip(moved: Option<SlotPosition>, pair: usize) -> Option<u16>
     ensures { result ≡ skipped_id moved pair }
 {

@@ -1,4 +1,4 @@
-// All entries beneath the root.
+// A walk of all entries beneath the root.
 
 ghost use Rattle.std.specs.Prelude.{◌≡◌, ◌++◌, ◌<◌, IfOk, OnOk, false, length, reverse};
 ghost use Rattle.lfs_model.specs.format.Thread.{pairs_gstate};
@@ -16,7 +16,7 @@ use lfs_tag::MoveState;
 use lfs_thread::{PairAddressList, Thread};
 use std::alloc::{AllocError, Global};
 
-/// A file or a directory of the tree.
+/// An entry of the tree, with its path.
 #[derive(Drop)]
 pub struct TreeItem {
     /// Its path from the root: a `/` before each name.
@@ -25,7 +25,7 @@ pub struct TreeItem {
     pub structure: OwnedStruct,
 }
 
-// Returns the tree's entry of an item in the directory at a path.
+// Converts an entry of the directory at a path to one with its own path.
 fn tree_item_beneath(
     alloc: Global,
     path: &[u8],
@@ -42,7 +42,7 @@ fn tree_item_beneath(
     })
 }
 
-// Puts the entries of the directory of a path on top, the first of them topmost.
+// Pushes the entries of the directory at a path, the first of them last.
 fn push_beneath_path(
     alloc: Global,
     pending: &mut Vec<TreeItem>,
@@ -58,8 +58,8 @@ fn push_beneath_path(
     Ok(())
 }
 
-// Puts the entries of the directory that begins with the pair of number `first` on top, in name
-// order.
+// Pushes the entries of the directory that begins with the pair of index `first`, the first name
+// last.
 fn push_directory_items<D: BlockDevice>(
     alloc: Global,
     thread: &mut Thread<D>,
@@ -80,7 +80,7 @@ fn push_directory_items<D: BlockDevice>(
     Ok(())
 }
 
-// Puts the entries of a directory on top; a file has none.
+// Pushes the entries of a directory; none of a file.
 fn push_below_entry<D: BlockDevice>(
     alloc: Global,
     thread: &mut Thread<D>,
@@ -103,11 +103,12 @@ fn push_below_entry<D: BlockDevice>(
     Ok(())
 }
 
-/// Returns all entries beneath the root, depth first and in name order, the shorter names first. A
-/// directory comes before the entries beneath it, and these before the next name.
+/// Returns all entries beneath the root, depth first and in name order, a shorter name before a
+/// longer one that begins with it. A directory is before the entries beneath it, and these are
+/// before the next name.
 ///
-/// Errors: `Io` where a read failed. `NoMemory` where memory for a block, its slots or the entries
-/// isn't granted.
+/// Errors: `Io` if a read failed. `NoMemory` if memory for a block, its slots or the entries can't
+/// be allocated.
 pub fn walk_tree<D: BlockDevice>(
     alloc: Global,
     thread: &mut Thread<D>,
@@ -121,7 +122,7 @@ pub fn walk_tree<D: BlockDevice>(
     let addresses = thread_addresses(alloc, thread)?;
     let mut walked = Vec::new(alloc);
     let mut pending = Vec::new(alloc);
-    // The pairs of the superblock's chain, which may come before the root, have no entries.
+    // The pairs of the superblock's chain, which may be before the root, have no entries.
     push_directory_items(alloc, thread, &state, 0, b"", &mut pending)?;
     while let Some(found) = pending.pop() {
         push_below_entry(alloc, thread, &addresses, &state, &found, &mut pending)?;

@@ -1,4 +1,4 @@
--- Which blocks an operation of several steps changes.
+-- The blocks that an operation of several steps changes.
 use Rattle.std.specs.Prelude.{Contains, ℕ, ◌⊎◌, ◌<◌, List, length}
 use Rattle.std.specs.List.{AllByRecursion}
 use Rattle.lfs_model.specs.layers.BlockSets.{IsFree}
@@ -7,14 +7,14 @@ use Rattle.lfs_thread.specs.ThreadSteps.{ChangesThreadBlocks, thread_pair}
 use Rattle.lfs_operations.specs.Changing.{IsPairTouched}
 use Rattle.lfs_model.specs.format.Thread.{address_blocks}
 
--- the block is one of a pair that doesn't stay with what it held
+-- the block is one of a pair that was changed or dropped
 pub record IsTouchedBlock (old new : KeptThread) (b : ℕ) : Type 0 where
   pub index : ℕ
   pub below : index < length old.pairs
   pub own : Contains (address_blocks (thread_pair old index).at) b
   pub alters : IsPairTouched old index new
 
--- No block changed but these, blocks of pairs that don't stay with what they held, and blocks that were free.
+-- Only the blocks `bs`, blocks of pairs that were changed or dropped, and blocks that were free have changed.
 pub record WritesTouchedFree (old : KeptThread) (bs : List ℕ) (new : KeptThread) : Type 0 where
   pub blocks : List ℕ
   pub each : AllByRecursion (λ b. Contains bs b ⊎ (IsTouchedBlock old new b ⊎ IsFree old.map b)) blocks

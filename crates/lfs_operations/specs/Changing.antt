@@ -1,4 +1,4 @@
--- A pair that is changed, or split where what the changes make doesn't fit.
+-- A change of a pair, which is split if the result doesn't fit.
 use Rattle.std.specs.Prelude.{Contains, ℕ, ◌≡◌, ◌≢◌, ◌⊎◌, ◌<◌, Bool, true, false, List, ◌∷◌, ◌++◌, Some, slice_set, Result, Ok, Err, IfErr, IsErrOf, ◌≤◌, length}
 use Rattle.std.specs.List.{AllByRecursion}
 use Rattle.lfs_device.specs.declared.error.Error.{Error}
@@ -32,16 +32,16 @@ HasTwoFree sets = (fresh : ℕ × ℕ) × AreTwoFree sets fresh
 abbrev pub map_taking_two : BlockStates → ℕ × ℕ → BlockStates
 map_taking_two sets fresh = slice_set (slice_set sets fresh.0 InFlight) fresh.1 InFlight
 
--- ---- what an operation reports
+-- ---- the errors of an operation
 
--- whether the thread has failed after this result, so that it is to be read anew
+-- whether the thread has failed after this result, and has to be mounted again
 abbrev pub has_failed_after : {X : Type 0} → Result X Error → Bool
 has_failed_after (Ok x) = false
 has_failed_after (Err NoSpace) = false
 has_failed_after (Err _) = true
 
--- `Io` comes with a fault of the device, and any other result with none. At `NoMemory` nothing was written. At `NoSpace`, which
--- comes where fewer than two blocks are free, everything is as it was.
+-- The result is `Io` exactly if a device call failed. At `NoMemory` nothing was written. At `NoSpace` fewer than two blocks are
+-- free, and nothing was changed.
 pub record ReportsSpaceErrors {X : Type 0} (old new : KeptThread) (result : Result X Error) : Type 0 where
   pub errors : IfErr result (λ e. (e ≡ Io) ⊎ ((e ≡ NoMemory) ⊎ (e ≡ NoSpace)))
   pub fault : IsErrOf result Io → fault_count old.history < fault_count new.history
@@ -50,41 +50,41 @@ pub record ReportsSpaceErrors {X : Type 0} (old new : KeptThread) (result : Resu
   pub unchanged : result ≡ Err NoSpace → OnlyReadsThread old new
   pub no_space : result ≡ Err NoSpace → HasTwoFree old.map → ⊥
 
--- No block changed but the pair's, and at most two that were free.
+-- Only the pair's blocks, and at most two that were free, have changed.
 pub record WritesPairTwo (old : KeptThread) (index : ℕ) (new : KeptThread) : Type 0 where
   pub fresh : List ℕ
   pub few : length fresh ≤ 2
   pub free : AllByRecursion (IsFree old.map) fresh
   pub writes : ChangesThreadBlocks ((thread_pair old index).at.0 ∷ (thread_pair old index).at.1 ∷ fresh) old new
 
--- No block changed but those of pairs, and at most two that were free.
+-- Only blocks of pairs have changed, and at most two that were free.
 pub record WritesThreadTwo (old new : KeptThread) : Type 0 where
   pub fresh : List ℕ
   pub few : length fresh ≤ 2
   pub free : AllByRecursion (IsFree old.map) fresh
   pub writes : ChangesThreadBlocks (pairs_blocks old.pairs ++ fresh) old new
 
--- No block changed but those of pairs, and at most two that were free. Those two are the only blocks that pairs may have beside
--- their old ones.
+-- Only blocks of pairs have changed, and at most two that were free. Only those two may be new blocks of pairs.
 pub record TakesAtMostTwo (old new : KeptThread) : Type 0 where
   pub written : WritesThreadTwo old new
   pub within : (b : ℕ) → Contains (pairs_blocks new.pairs) b → Contains (pairs_blocks old.pairs ++ written.fresh) b
 
 -- ---- a pair is changed or split
 
--- There is a pair at the index. What the changes make of it can be cut in two, and has a tail that names the same pair as before.
+-- There is a pair at the index. The result of the changes can be split in two, and has a tail that names the same pair as
+-- before.
 pub record CanPut (t : KeptThread) (index : ℕ) (changes : List ContentChange) : Type 0 where
   pub can : CanChangePair t index changes
   pub raw : RawContent
   pub made : changed_pair_content t.disk (thread_pair t index).at changes ≡ Some raw
   pub cut : AreSplittable t.disk.block_size t.disk.page raw.slots
 
--- There is a pair at the index. What the changes make of it fits it, and has a tail that names the same pair as before.
+-- There is a pair at the index. The result of the changes fits it, and has a tail that names the same pair as before.
 pub record CanCommit (t : KeptThread) (index : ℕ) (changes : List ContentChange) : Type 0 where
   pub can : CanChangePair t index changes
   pub fits : (new : KeptThread) → RefusesChanges t index changes new → ⊥
 
--- The pair and a fresh one, in two blocks that were free, have the two parts. Everything else is as it was.
+-- The pair and a fresh one, in two blocks that were free, have the two parts of the result. Everything else is as it was.
 pub record IsSplitInto (old : KeptThread) (index : ℕ) (fresh : ℕ × ℕ) (changes : List ContentChange) (new : KeptThread) : Type 0 where
   pub free : AreTwoFree old.map fresh
   pub content : PairContent
@@ -101,31 +101,31 @@ pub record IsSplitInto (old : KeptThread) (index : ℕ) (fresh : ℕ × ℕ) (ch
 abbrev pub IsPairSplit : KeptThread → ℕ → List ContentChange → KeptThread → Type 0
 IsPairSplit old index changes new = (fresh : ℕ × ℕ) × IsSplitInto old index fresh changes new
 
--- what the changes make doesn't fit the pair
+-- the result of the changes doesn't fit the pair
 abbrev pub OverfillsPair : KeptThread → ℕ → List ContentChange → Type 0
 OverfillsPair t index changes = (content : PairContent) × ((complete_after t index changes ≡ Some content) × (FitsInPair t.disk.block_size t.disk.page content → ⊥))
 
 abbrev pub ArePut : KeptThread → ℕ → List ContentChange → KeptThread → Type 0
 ArePut old index changes new = IsPairCommitted old index changes new ⊎ (OverfillsPair old index changes × IsPairSplit old index changes new)
 
--- what a stop leaves of a split, and of either
+-- what a power loss leaves of a split, and of either
 abbrev pub LeftBySplit : KeptThread → ℕ → List ContentChange → Blocks → Type 0
 LeftBySplit old index changes left = (fresh : ℕ × ℕ) × (AreTwoFree old.map fresh × LossLeavesThreadSplit old index fresh changes left)
 
 abbrev pub LeftByPut : KeptThread → ℕ → List ContentChange → Blocks → Type 0
 LeftByPut old index changes left = LossLeavesPair old index changes left ⊎ (OverfillsPair old index changes × LeftBySplit old index changes left)
 
--- What a step of an operation reports, and whether the thread has failed after it.
+-- The errors of a step of an operation, and whether the thread has failed after it.
 pub record ReportsTakingCommit {X : Type 0} (old new : ThreadView) (result : Result X Error) : Type 0 where
   pub failed : new.failed ≡ has_failed_after result
   pub reports : ReportsSpaceErrors old.kept new.kept result
 
--- The same of a step that splits the pair only if it has to: `NoSpace` comes only where what the changes make doesn't fit the
--- pair.
+-- The same of a step that splits the pair only if it has to: it returns `NoSpace` only if the result of the changes doesn't fit
+-- the pair.
 pub record ReportsPut {X : Type 0} (old new : ThreadView) (index : ℕ) (changes : List ContentChange) (result : Result X Error) : Type 0 where
   pub reports : ReportsTakingCommit old new result
   pub too_large : result ≡ Err NoSpace → OverfillsPair old.kept index changes
 
--- the pair doesn't stay with what it held
+-- the pair was changed or dropped
 abbrev pub IsPairTouched : KeptThread → ℕ → KeptThread → Type 0
 IsPairTouched old index new = Contains new.pairs (thread_pair old index) → ⊥

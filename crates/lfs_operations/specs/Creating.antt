@@ -1,4 +1,4 @@
--- An empty file that is created in a directory.
+-- The creation of an empty file.
 use Rattle.std.specs.Prelude.{ℕ, ◌≡◌, true, List, [], ◌∷◌, ◌++◌}
 use Rattle.lfs_model.specs.session.TreeEdits.{tree_creating}
 use Rattle.lfs_model.specs.layers.Changes.{ContentChange, Create, PutStruct}
@@ -21,7 +21,7 @@ use Rattle.lfs_operations.specs.Ready.{ShowsReadyTree, IsRawFormed, IsReadyImage
 abbrev pub creation_changes : ℕ → Name → List ContentChange
 creation_changes id name = Create id file_name_type name ∷ PutStruct id inline_type [] ∷ []
 
--- The image may be changed. The name belongs at the id of the pair, in the directory at a path, and it may be written.
+-- The image may be changed. The name is a valid new one, and belongs at the id of the pair, in the directory at a path.
 pub record CanCreateIn (t : KeptThread) (pair id : ℕ) (name : Name) : Type 0 where
   pub ready : IsReadyImage t
   pub path : Path
@@ -34,11 +34,11 @@ pub record CanCreateIn (t : KeptThread) (pair id : ℕ) (name : Name) : Type 0 w
   pub fits : IsWritableEntry t.disk.profile t.disk.block_size t.disk.page (file_slot name)
   pub logged : IsRawFormed t.disk (thread_pair t pair).at
 
--- the tree with the file
+-- the tree with the new file
 abbrev pub tree_with_file : KeptThread → Path → Name → Tree
 tree_with_file t path name = tree_creating (path ++ name ∷ []) (FileNode [] []) (disk_tree t.disk t.pairs)
 
--- The tree has the file, and its slot is where the layout wants it. So an open that creates the file is completed.
+-- The tree has the file, and its slot is in the right pair. So an open that creates the file is complete.
 pub record IsFileCreated (old new : KeptThread) (path : Path) (name : Name) : Type 0 where
   pub now : ShowsReadyTree old new (tree_with_file old path name)
   pub completed : (s : Session) (given : List ℕ) (flags : FlagsOfOpen) → s.tree ≡ disk_tree old.disk old.pairs → path_or_root given ≡ path ++ name ∷ []

@@ -1,4 +1,4 @@
--- How the global state changes by the delta of one pair.
+-- Changes of the global state by the delta of one pair.
 use Rattle.std.specs.Prelude.{ℕ, ◌<◌, Bool, List, [], ◌∷◌, length}
 use Rattle.lfs_model.specs.layers.Changes.{ContentChange, PutMove}
 use Rattle.lfs_model.specs.layers.LoggedContent.{MoveStateFits}
@@ -9,14 +9,14 @@ use Rattle.lfs_model.specs.tree.Profile.{IsWritable}
 use Rattle.lfs_thread.specs.Kept.{KeptThread}
 use Rattle.lfs_thread.specs.ThreadSteps.{thread_pair}
 
--- The delta that a pair gets, so that the global state becomes g.
+-- The new delta of a pair by which the global state becomes g.
 abbrev pub delta_reaching_gstate : KeptThread → ℕ → Gstate → Gstate
 delta_reaching_gstate t index g = gstate_xor (gstate_xor g (pairs_gstate t.pairs)) (thread_pair t index).content.move
 
 abbrev pub gstate_changes : KeptThread → ℕ → Gstate → List ContentChange
 gstate_changes t index g = PutMove (delta_reaching_gstate t index g) ∷ []
 
--- what the pair then holds
+-- the content of the pair with that delta
 abbrev pub content_reaching_gstate : KeptThread → ℕ → Gstate → PairContent
 content_reaching_gstate t index g = record { slots = (thread_pair t index).content.slots; tail = (thread_pair t index).content.tail; move = delta_reaching_gstate t index g }
 

@@ -1,4 +1,4 @@
--- Attributes of an entry, set and removed.
+-- Changes of an entry's attributes.
 use Rattle.std.specs.Prelude.{ℕ, ◌≡◌, ◌≤◌, length, List, [], ◌∷◌, ◌++◌, Some}
 use Rattle.lfs_model.specs.session.TreeEdits.{node_attributes_of, tree_with_change, with_attributes}
 use Rattle.lfs_model.specs.format.Content.{attributes_with, attributes_without}
@@ -17,7 +17,7 @@ use Rattle.lfs_thread.specs.Kept.{KeptThread}
 use Rattle.lfs_thread.specs.ThreadSteps.{thread_pair}
 use Rattle.lfs_operations.specs.Ready.{ShowsReadyTree, IsRawFormed, IsReadyImage}
 
--- The image may be changed, and an entry is at the id of the pair: the one of that name in the directory at a path.
+-- The image may be changed, and the pair has an entry with the id: the one of that name in the directory at a path.
 pub record CanEditIn (t : KeptThread) (pair id : ℕ) : Type 0 where
   pub ready : IsReadyImage t
   pub path : Path
@@ -32,18 +32,17 @@ pub record CanEditIn (t : KeptThread) (pair id : ℕ) : Type 0 where
 abbrev pub editable_slot : {t : KeptThread} {pair id : ℕ} → CanEditIn t pair id → Slot
 editable_slot can = can.stands.stands.slot
 
--- the attribute has at most 1,022 bytes, and the entry may have it beside its other ones
+-- the attribute has at most 1,022 bytes, and the entry has room for it besides its other ones
 pub record CanSetAttribute (t : KeptThread) (pair id kind : ℕ) (bytes : List ℕ) : Type 0 where
   pub can : CanEditIn t pair id
   pub short : length bytes ≤ 1022
   pub fits : IsWritableEntry t.disk.profile t.disk.block_size t.disk.page (record (editable_slot can) { attributes = attributes_with kind bytes (editable_slot can).attributes })
 
--- the tree with other attributes there
+-- the tree with changed attributes of the entry
 abbrev pub tree_setting_attributes : KeptThread → Path → Name → (Attributes → Attributes) → Tree
 tree_setting_attributes t path name f = tree_with_change (path ++ name ∷ []) (λ n. with_attributes (f (node_attributes_of (Some n))) n) (disk_tree t.disk t.pairs)
 
--- The tree has the entry with those attributes, and its slot is where the layout wants it. So that operation on its path is
--- completed.
+-- The tree has the entry with those attributes, and its slot is in the right pair. So that operation on its path is complete.
 pub record HasAttributesChanged (old new : KeptThread) (path : Path) (name : Name) (f : Attributes → Attributes) (op : List ℕ → Operation) : Type 0 where
   pub now : ShowsReadyTree old new (tree_setting_attributes old path name f)
   pub completed : (s : Session) (given : List ℕ) → s.tree ≡ disk_tree old.disk old.pairs → path_or_root given ≡ path ++ name ∷ []

@@ -1,4 +1,4 @@
--- How a recovery ends a set move.
+-- The end of a pending move by a recovery.
 use Rattle.std.specs.Prelude.{ℕ, ◌≡◌, ◌<◌, ◌≤◌, ◌-◌, ◌&&◌, ◌==◌, ◌++◌, nat_lt, Bool, true, false, List, ◌∷◌, length}
 use Rattle.lfs_model.specs.layers.BlockSets.{AreUsed}
 use Rattle.lfs_model.specs.format.Disk.{Disk, block_count}
@@ -18,7 +18,7 @@ use Rattle.lfs_operations.specs.Dropping.{SameInFlight}
 use Rattle.lfs_operations.specs.Ready.{KeepsRootNumber}
 use Rattle.lfs_operations.specs.Deltas.{tail_is_hard}
 
--- a move is set, and names a slot of the pair at the index
+-- a move is pending, and names a slot of the pair at the index
 pub record HasMovedSlot (t : KeptThread) (index : ℕ) : Type 0 where
   pub below : index < length t.pairs
   pub kind : (pairs_gstate t.pairs).kind ≡ set_move_kind
@@ -34,19 +34,19 @@ pub record HasMovedSlot (t : KeptThread) (index : ℕ) : Type 0 where
 abbrev pub drops_when_emptied : KeptThread → ℕ → Bool
 drops_when_emptied t index = nat_lt 0 index && (length (thread_pair t index).content.slots == 1 && tail_is_hard t (index - 1))
 
--- The image is accepted and may be written, and the map knows each of its blocks.
+-- The image is accepted and may be written, and the map's used blocks are the image's.
 pub record CanEndMove (t : KeptThread) : Type 0 where
   pub accepted : IsAccepted t.disk t.pairs
   pub writable : IsWritable t.disk t.pairs
   pub used : AreUsed t.map (used_blocks t.disk t.pairs)
   pub size : length t.map ≡ block_count t.disk
 
--- What a recovery may make of the new image's slots, a recovery of the old image may make, too.
+-- Any layout of the slots that a recovery of the new image may leave, a recovery of the old image may leave, too.
 abbrev pub KeepsRecoveryLayouts : KeptThread → KeptThread → Type 0
 KeepsRecoveryLayouts old new = (s : Session) (disk : Disk) (qs : List Pair) → IsLayout new.disk new.pairs s ops.Recover disk qs → IsLayout old.disk old.pairs s ops.Recover disk qs
 
--- No move is set, and the image shows the same tree, so pairs may be dropped now. The root directory begins where it did. The map
--- knows each of the image's blocks, and the image has no new ones.
+-- No move is pending, and the image has the same tree, so pairs may be dropped now. The root directory begins with the same
+-- pair. The map's used blocks are the image's, and it has no new ones.
 pub record HasEndedMove (old new : KeptThread) : Type 0 where
   pub taken : IsWritableChange old.disk old.pairs new.disk new.pairs (λ t. t) (λ d. d)
   pub none : HasNoMove (pairs_gstate new.pairs)

@@ -1,4 +1,4 @@
--- An empty directory that is made in another one.
+-- The making of an empty directory.
 use Rattle.std.specs.Prelude.{ℕ, ◌≡◌, ◌<◌, ◌≤◌, ◌+◌, ◌⊎◌, ◌++◌, true, false, List, [], ◌∷◌, length, Some, Result, is_err, IfErr, IsErrOf}
 use Rattle.std.specs.List.{AllByRecursion}
 use Rattle.lfs_device.specs.declared.error.Error.{Error}
@@ -26,14 +26,14 @@ use Rattle.lfs_operations.specs.Changing.{IsPairTouched}
 use Rattle.lfs_operations.specs.Ready.{ShowsReadyTree, IsReadyImage}
 use Rattle.lfs_model.specs.layers.StepResults.{IsDirectoryEnd}
 
--- ---- what is required
+-- ---- premises
 
 -- at least so many blocks are free
 abbrev pub HasFreeBlocks : ℕ → BlockStates → Type 0
 HasFreeBlocks n sets = used_count sets + in_flight_count sets + n ≤ length sets
 
--- The image may be changed. The name belongs at the id of the pair, in the directory at a path, and it may be written. Four
--- blocks are free: two for the directory, and two for a pair that is split.
+-- The image may be changed. The name is a valid new one, and belongs at the id of the pair, in the directory at a path. Four
+-- blocks are free: two for the directory, and two for a split.
 pub record CanMakeAt (t : KeptThread) (pair id : ℕ) (name : Name) : Type 0 where
   pub ready : IsReadyImage t
   pub path : Path
@@ -48,11 +48,11 @@ pub record CanMakeAt (t : KeptThread) (pair id : ℕ) (name : Name) : Type 0 whe
 
 -- ---- the two steps
 
--- the last pair's tail names the fresh pair, and the sync bit is turned
+-- the last pair's tail names the fresh pair, and the sync bit is flipped
 abbrev pub threading_changes : KeptThread → ℕ → ℕ × ℕ → List ContentChange
 threading_changes t last fresh = PutTail false (Some fresh) ∷ PutMove (with_sync_inverted (thread_pair t last).content.move) ∷ []
 
--- the entry is put in with a struct of these bytes, and the sync bit is turned
+-- the entry is created with a struct of these bytes, and the sync bit is flipped
 abbrev pub entry_changes : KeptThread → ℕ → ℕ → Name → List ℕ → List ContentChange
 entry_changes t pair id name branch =
     Create id directory_name_type name ∷ PutStruct id directory_type branch ∷ PutMove (with_sync_inverted (thread_pair t pair).content.move) ∷ []
@@ -60,45 +60,45 @@ entry_changes t pair id name branch =
 abbrev pub directory_entry_changes : KeptThread → ℕ → ℕ → Name → ℕ × ℕ → List ContentChange
 directory_entry_changes t pair id name to = entry_changes t pair id name (address_bytes to)
 
--- what the first commit makes fits the pair
+-- the result of the first commit fits the pair
 abbrev pub FitsNewTail : KeptThread → ℕ → ℕ × ℕ → Type 0
 FitsNewTail t last fresh = (content : PairContent) → complete_after t last (threading_changes t last fresh) ≡ Some content → FitsInPair t.disk.block_size t.disk.page content
 
--- The fresh pair can come into the thread after the last one, and what that pair then holds fits it.
+-- The fresh pair can be inserted into the thread behind the last one, and the new content of the last one fits it.
 pub record CanLinkPairAfter (t : KeptThread) (last : ℕ) (fresh : ℕ × ℕ) : Type 0 where
   pub can : CanThreadIn t last fresh (threading_changes t last fresh)
   pub fits : FitsNewTail t last fresh
 
--- what the first step reports, and whether the thread has failed after it
+-- the errors of the first step, and whether the thread has failed after it
 pub record ReportsPairLink {X : Type 0} (old new : ThreadView) (fresh : ℕ × ℕ) (result : Result X Error) : Type 0 where
   pub failed : new.failed ≡ is_err result
   pub reported : ThreadReportsKeepingOthers (address_blocks fresh) old.kept new.kept result
 
--- ---- what the operation leaves
+-- ---- results
 
--- the tree with the directory
+-- the tree with the new directory
 abbrev pub tree_with_directory : KeptThread → Path → Name → Tree
 tree_with_directory t path name = tree_creating (path ++ name ∷ []) (DirectoryNode [] []) (disk_tree t.disk t.pairs)
 
--- The tree has the directory, and its slot and its pair are where the layout wants them. So a mkdir of its path is completed.
+-- The tree has the directory, and its slot and its pair are in the right pairs. So a mkdir of its path is complete.
 pub record IsDirectoryMade (old new : KeptThread) (path : Path) (name : Name) : Type 0 where
   pub now : ShowsReadyTree old new (tree_with_directory old path name)
   pub completed : (s : Session) (given : List ℕ) → s.tree ≡ disk_tree old.disk old.pairs → path_or_root given ≡ path ++ name ∷ []
       → CompletesOperation old.disk old.pairs s (ops.Mkdir given) new.disk new.pairs
 
--- Neither the pair nor the directory's last pair stays with what it held.
+-- Both the pair and the directory's last pair were changed or dropped.
 pub record AreBothTouched (old : KeptThread) (pair : ℕ) (new : KeptThread) : Type 0 where
   pub entry : IsPairTouched old pair new
   pub end : (last : ℕ) → IsDirectoryEnd old.pairs pair last → IsPairTouched old last new
 
--- `Io` comes with a fault of the device, and any other result with none. After an error the thread has failed.
+-- The result is `Io` exactly if a device call failed. After an error the thread has failed.
 pub record ReportsMaking {X : Type 0} (old new : ThreadView) (result : Result X Error) : Type 0 where
   pub failed : new.failed ≡ is_err result
   pub errors : IfErr result (λ e. (e ≡ Io) ⊎ (e ≡ NoMemory))
   pub fault : IsErrOf result Io → fault_count old.kept.history < fault_count new.kept.history
   pub no_fault : ¬ IsErrOf result Io → fault_count new.kept.history ≡ fault_count old.kept.history
 
--- No block changed but those of the pair and of the directory's last pair, and at most four that were free.
+-- Only blocks of the pair and of the directory's last pair, and at most four that were free, have changed.
 pub record WritesPairsFour (old : KeptThread) (pair : ℕ) (new : KeptThread) : Type 0 where
   pub last : ℕ
   pub is_last : IsDirectoryEnd old.pairs pair last

@@ -1,4 +1,4 @@
--- A set move ends: the slot that it names is removed from its pair, or dropped with the pair.
+-- The end of a pending move: the slot that it names is deleted from its pair, or dropped with the pair.
 use Rattle.std.specs.Prelude.{ℕ, ◌≡◌, ◌≤◌, ◌<◌, ◌-◌, ◌+◌, if◌then◌else◌, Bool, true, false, List, [], ◌∷◌, length, take}
 use Rattle.std.specs.List.{remove}
 use Rattle.lfs_model.specs.layers.BlockSets.{BlockStates}
@@ -18,19 +18,19 @@ use Rattle.lfs_operations.specs.Ready.{IsRawFormed, KeepsRootNumber}
 use Rattle.lfs_operations.specs.EndingMove.{KeepsRecoveryLayouts}
 use Rattle.lfs_model.specs.layers.StepResults.{gstate_without_move, gstate_without_sync}
 
--- whether a hard tail names the pair, so that it continues a directory
+-- whether the pair is behind a hard tail, and so continues a directory
 abbrev pub continues_directory : List Pair → ℕ → Bool
 continues_directory ps pair = ends_joined false (take (pair - count_before_root ps) (pairs_from_root ps))
 
--- the pair's delta without the move that is set
+-- the pair's delta without the pending move
 abbrev pub delta_without_move : KeptThread → ℕ → Gstate
 delta_without_move t pair = gstate_xor (gstate_without_sync (pairs_gstate t.pairs)) (thread_pair t pair).content.move
 
 abbrev pub ending_changes : KeptThread → ℕ → ℕ → List ContentChange
 ending_changes t pair id = Delete id ∷ PutMove (delta_without_move t pair) ∷ []
 
--- The image is accepted and in the writing profile, and a set move names the slot at the id of the pair. `goes` says whether the
--- pair is dropped with it: it has no other slot, and a hard tail names it. The sync bit may be set.
+-- The image is accepted and in the writing profile, and a pending move names the slot with the id of the pair. `goes` says
+-- whether the pair is dropped with it: it has no other slot, and is behind a hard tail. The sync bit may be set.
 pub record CanEndMoveAt (t : KeptThread) (pair id : ℕ) (goes : Bool) : Type 0 where
   pub accepted : IsAccepted t.disk t.pairs
   pub writable : IsWritable t.disk t.pairs
@@ -45,7 +45,7 @@ pub record CanEndMoveAt (t : KeptThread) (pair id : ℕ) (goes : Bool) : Type 0 
   pub stays : goes ≡ false → continues_directory t.pairs pair ≡ true → 1 < length (thread_pair t pair).content.slots
   pub alone : goes ≡ true → (continues_directory t.pairs pair ≡ true) × (length (thread_pair t pair).content.slots ≡ 1)
 
--- what the pair then holds, if it stays
+-- the content of the pair afterwards, if it isn't dropped
 abbrev pub content_move_ended : KeptThread → ℕ → ℕ → PairContent
 content_move_ended t pair id = record {
   slots = remove (thread_pair t pair).content.slots id;
@@ -53,7 +53,7 @@ content_move_ended t pair id = record {
   move = delta_without_move t pair;
 }
 
--- the pair that is written: the slot's, or the one before it where that is dropped
+-- the pair that is written: the slot's, or the one before it if that is dropped
 abbrev pub ending_written_pair : ℕ → Bool → ℕ
 ending_written_pair pair goes = if goes then pair - 1 else pair
 
@@ -66,8 +66,8 @@ ending_dropped_blocks t pair goes = if goes then address_blocks (thread_pair t p
 abbrev pub map_move_ended : KeptThread → ℕ → Bool → BlockStates
 map_move_ended t pair goes = if goes then map_freeing t.map (thread_pair t pair).at else t.map
 
--- The slot is removed, or the pair is dropped with it, and no move is set. The tree, the sync bit, the used blocks but the
--- pair's, and the slots of every other pair are as they were. The image is accepted and in the writing profile.
+-- The slot is deleted, or the pair is dropped with it, and no move is pending. The tree, the sync bit, the used blocks except
+-- the pair's, and the slots of every other pair are as they were. The image is accepted and in the writing profile.
 pub record HasEndedMoveAt (old : KeptThread) (pair id : ℕ) (goes : Bool) (new : KeptThread) : Type 0 where
   pub taken : IsWritableChange old.disk old.pairs new.disk new.pairs (λ t. t) (λ d. d)
   pub state : pairs_gstate new.pairs ≡ gstate_without_move (pairs_gstate old.pairs)
@@ -75,7 +75,8 @@ pub record HasEndedMoveAt (old : KeptThread) (pair id : ℕ) (goes : Bool) (new 
   pub map : new.map ≡ map_move_ended old pair goes
   pub blocks : (b : ℕ) → number_occurrences b (used_blocks new.disk new.pairs) + number_occurrences b (ending_dropped_blocks old pair goes) ≡ number_occurrences b (used_blocks old.disk old.pairs)
   pub shape : SameGeometryAs old.disk new.disk
-  -- The directories begin where they did. A pair without slots that ends its directory stays as it is. A recovery may go on.
+  -- The directories begin with the same pairs. A pair without slots that ends its directory stays as it is. A recovery may go
+  -- on.
   pub begins : directory_addresses (all_directories new.pairs) ≡ directory_addresses (all_directories old.pairs)
   pub root : KeepsRootNumber old new
   pub leads_on : KeepsRecoveryLayouts old new

@@ -1,4 +1,4 @@
--- A rename from one pair into another, to a name that is new there or onto an entry.
+-- A rename from one pair into another, to a new name or over an entry.
 use Rattle.std.specs.Prelude.{ℕ, ◌≡◌, ◌≢◌, ◌++◌, ◌≤◌, ◌<◌, ◌+◌, None, Bool, true, false, if◌then◌else◌, List, [], ◌∷◌, length}
 use Rattle.lfs_model.specs.tree.Tree.{Path, Tree}
 use Rattle.lfs_model.specs.session.TreeEdits.{tree_renaming, without_prefix}
@@ -26,7 +26,7 @@ use Rattle.lfs_operations.specs.RenamingSlots.{IsTargetPlace, nameless_at}
 use Rattle.lfs_model.specs.layers.SlotChanges.{slot_changes}
 use Rattle.lfs_model.specs.layers.StepResults.{gstate_naming}
 
--- the slot at the id goes first, if one is replaced
+-- the slot with the id is deleted first, if it is replaced
 abbrev pub removal_changes : Bool → ℕ → List ContentChange
 removal_changes replaces id = if replaces then Delete id ∷ [] else []
 
@@ -35,8 +35,8 @@ abbrev pub moving_changes : (replaces sync : Bool) → KeptThread → Route → 
 moving_changes replaces sync t route name =
     PutMove (gstate_xor (gstate_naming sync (thread_pair t route.old_pair).at route.old_id) (thread_pair t route.new_pair).content.move) ∷ (removal_changes replaces route.new_id ++ slot_changes route.new_id name (nameless_at t route.old_pair route.old_id))
 
--- The image may be changed. The route leads from an entry to where the name goes, in the directory at a path that isn't beneath
--- the entry. The entry may be written under the name.
+-- The image may be changed. The route leads from an entry to the slot at which the name belongs, in the directory at a path
+-- that isn't beneath the entry. The entry may have the name.
 pub record CanMoveAcross (replaces sync : Bool) (t : KeptThread) (route : Route) (name : Name) : Type 0 where
   pub old : CanEditIn t route.old_pair route.old_id
   pub begins_old : old.first ≡ route.first
@@ -52,17 +52,17 @@ pub record CanMoveAcross (replaces sync : Bool) (t : KeptThread) (route : Route)
   pub not_beneath : without_prefix (old.path ++ old.name ∷ []) (path ++ name ∷ []) ≡ None
   pub fits : IsWritableEntry t.disk.profile t.disk.block_size t.disk.page (record (editable_slot old) { name = name })
 
--- A copy of the slot was put in, and then the move ended.
+-- A copy of the slot was created, and then the move was ended.
 pub record IsMovedAcross (replaces sync : Bool) (old : KeptThread) (route : Route) (name : Name) (new : KeptThread) : Type 0 where
   pub address : AreWords (thread_pair old route.old_pair).at
   pub done : ArePutAndEnded old route.old_pair route.old_id (drops_emptied_pair old route.old_pair route.first) route.new_pair (moving_changes replaces sync old route name) new
 
--- the tree in which what was at the one path is at the other
+-- the tree in which the entry of the one path is at the other
 abbrev pub tree_moved : KeptThread → Path → Name → Path → Name → Tree
 tree_moved t from from_name to to_name = tree_renaming (from ++ from_name ∷ []) (to ++ to_name ∷ []) (disk_tree t.disk t.pairs)
 
--- The tree has the entry at the other path, and its slot is where the layout wants it. So a rename of its path is completed. The
--- blocks of a replaced file's list are `gone`, each once, and none of them is the image's.
+-- The tree has the entry at the other path, and its slot is in the right pair. So a rename of its path is complete. The blocks
+-- of a replaced file's list are `gone`, each once, and none of them is the image's.
 pub record IsRenamedAcross (old new : KeptThread) (from : Path) (from_name : Name) (to : Path) (to_name : Name) (gone : List ℕ) : Type 0 where
   pub now : ShowsDroppedTree old new (tree_moved old from from_name to to_name) gone
   pub once : (b : ℕ) → number_occurrences b (used_blocks new.disk new.pairs) + number_occurrences b gone ≤ 1
@@ -74,7 +74,7 @@ abbrev pub route_blocks : (replaces : Bool) → KeptThread → Route → List �
 route_blocks false t route = address_blocks (thread_pair t route.old_pair).at
 route_blocks true t route = addresses_blocks (thread_pair t route.old_pair).at (thread_pair t route.new_pair).at
 
--- The entry that is replaced is a directory. The pair of number `gone` is its only one, and has no slots.
+-- The entry that is replaced is a directory. The pair of index `gone` is its only one, and has no slots.
 pub record CanReplaceDirectoryAcross (t : KeptThread) (route : Route) (name : Name) (gone : ℕ) : Type 0 where
   pub onto : CanMoveAcross true true t route name
   pub to : ℕ × ℕ

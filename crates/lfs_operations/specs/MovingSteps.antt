@@ -1,5 +1,5 @@
--- A slot that moves to another pair in two steps. First its copy is put there, and a set move names the old slot. Then the old
--- slot is removed, and the move ends.
+-- A slot that moves to another pair in two steps. First its copy is created there, and a move is set that names the old slot.
+-- Then the old slot is deleted, and the move ends.
 use Rattle.std.specs.Prelude.{Contains, ℕ, ◌≡◌, ◌≢◌, ◌⊎◌, Result, Err, IfErr, IsErrOf, ◌≤◌, ◌<◌, ◌-◌, ◌+◌, nat_lt, if◌then◌else◌, Bool, false, List, ◌∷◌, length}
 use Rattle.std.specs.List.{AllByRecursion}
 use Rattle.lfs_device.specs.declared.error.Error.{Error}
@@ -18,7 +18,7 @@ use Rattle.lfs_operations.specs.Changing.{CanPut, HasTwoFree, LeftByPut, ArePut,
 use Rattle.lfs_operations.specs.Removing.{drops_emptied_pair}
 use Rattle.lfs_operations.specs.MoveEnds.{CanEndMoveAt, ending_written_pair, HasEndedMoveAt}
 
--- the number of a pair after so many were put in after another one
+-- the index of a pair after so many were inserted behind another one
 abbrev pub number_after_insertion : ℕ → ℕ → ℕ → ℕ
 number_after_insertion pair other fresh = if nat_lt pair other then pair else pair + fresh
 
@@ -29,32 +29,32 @@ pub record CanEndAfterPut (old : KeptThread) (old_pair old_id : ℕ) (goes : Boo
   pub can : CanEndMoveAt mid (number_after_insertion old_pair new_pair (length mid.pairs - length old.pairs)) old_id goes
   pub at : (thread_pair mid (number_after_insertion old_pair new_pair (length mid.pairs - length old.pairs))).at ≡ (thread_pair old old_pair).at
 
--- The changes can be put into the new pair, and then the move can end at the old one.
+-- The changes can be committed to the new pair, and then the move can end at the old one.
 pub record CanPutAndEnd (t : KeptThread) (old_pair old_id : ℕ) (goes : Bool) (new_pair : ℕ) (changes : List ContentChange) : Type 0 where
   pub turns : CanPut t new_pair changes
   pub ends : (mid : KeptThread) → ArePut t new_pair changes mid → CanEndAfterPut t old_pair old_id goes new_pair mid
 
--- The changes were put into the new pair, and then the move ended. Pairs have no new blocks but at most two that were free.
+-- The changes were committed to the new pair, and then the move was ended. Pairs have at most two new blocks, which were free.
 pub record ArePutAndEnded (old : KeptThread) (old_pair old_id : ℕ) (goes : Bool) (new_pair : ℕ) (changes : List ContentChange) (new : KeptThread) : Type 0 where
   pub mid : KeptThread
   pub put : ArePut old new_pair changes mid
   pub ended : HasEndedMoveAt mid (number_after_insertion old_pair new_pair (length mid.pairs - length old.pairs)) old_id goes new
   pub blocks : TakesAtMostTwo old new
 
--- the pair that the second step writes: the old one, or the one before it where that is dropped with its slot
+-- the pair that the second step writes: the old one, or the one before it if that is dropped with its slot
 abbrev pub second_step_pair : KeptThread → ℕ → ℕ → ℕ
 second_step_pair t pair first = ending_written_pair pair (drops_emptied_pair t pair first)
 
--- If a stop in the first step leaves a disk with one of two trees, and the first step leads to the second tree, then a stop in
--- either step leaves one of them.
+-- If a power loss in the first step leaves a disk with one of two trees, and the first step leads to the second tree, then a
+-- power loss in either step leaves one of them.
 abbrev pub SurvivesCommits : KeptThread → ℕ → List ContentChange → KeptThread → Type 0
 SurvivesCommits old new_pair changes new = (before after : Tree)
     → ((calls : List CallEvent) → CleanLossLeaves old.history calls (LeftByPut old new_pair changes) → SurvivesLossSince old.disk old.history calls before after)
     → ((mid : KeptThread) → ArePut old new_pair changes mid → disk_tree mid.disk mid.pairs ≡ after) → SurvivesLossSince old.disk old.history new.history before after
 
--- What an operation of several steps reports. `Io` comes with a fault of the device, and any other result with none. At `NoSpace`
--- everything is as it was; it comes only where what the changes make doesn't fit the pair and fewer than two blocks are free. At
--- any other error the thread has failed, unless it was only read by then.
+-- The errors of an operation of several steps. The result is `Io` exactly if a device call failed. At `NoSpace` nothing was
+-- changed, the result of the changes doesn't fit the pair, and fewer than two blocks are free. At any other error the thread
+-- has failed, unless it was only read by then.
 pub record ReportsTakingCommits {X : Type 0} (old new : ThreadView) (index : ℕ) (changes : List ContentChange) (result : Result X Error) : Type 0 where
   pub failed : (new.failed ≡ has_failed_after result) ⊎ ((new.failed ≡ false) × OnlyReadsThread old.kept new.kept)
   pub errors : IfErr result (λ e. (e ≡ Io) ⊎ ((e ≡ NoMemory) ⊎ (e ≡ NoSpace)))
@@ -64,14 +64,14 @@ pub record ReportsTakingCommits {X : Type 0} (old new : ThreadView) (index : ℕ
   pub no_space : result ≡ Err NoSpace → HasTwoFree old.kept.map → ⊥
   pub too_large : result ≡ Err NoSpace → OverfillsPair old.kept index changes
 
--- No block changed but those of the two pairs, and at most two that were free.
+-- Only blocks of the two pairs, and at most two that were free, have changed.
 pub record WritesPairsTwo (old : KeptThread) (one other : ℕ) (new : KeptThread) : Type 0 where
   pub fresh : List ℕ
   pub few : length fresh ≤ 2
   pub free : AllByRecursion (IsFree old.map) fresh
   pub writes : ChangesThreadBlocks ((thread_pair old other).at.0 ∷ (thread_pair old other).at.1 ∷ (thread_pair old one).at.0 ∷ (thread_pair old one).at.1 ∷ fresh) old new
 
--- No block changed but those of pairs, and blocks that were free.
+-- Only blocks of pairs have changed, and blocks that were free.
 pub record WritesThreadFree (old new : KeptThread) : Type 0 where
   pub blocks : List ℕ
   pub each : AllByRecursion (λ b. Contains (pairs_blocks old.pairs) b ⊎ IsFree old.map b) blocks

@@ -1,4 +1,4 @@
--- An image that an operation may change.
+-- Images that an operation may change.
 use Rattle.std.specs.Prelude.{ℕ, ◌≡◌, ◌≤◌, ◌+◌, List, length, slice_get, Some}
 use Rattle.lfs_model.specs.layers.BlockSets.{AreUsed, BlockStates, IsFree, IsInFlight}
 use Rattle.lfs_model.specs.format.Content.{RawContent, raw_content}
@@ -13,8 +13,8 @@ use Rattle.lfs_model.specs.tree.Tree.{Tree}
 use Rattle.lfs_model.specs.layers.Steps.{number_occurrences}
 use Rattle.lfs_thread.specs.Kept.{KeptThread}
 
--- The image is accepted and in the writing profile. No move is set, nor the sync bit. The map knows each of the image's blocks. A
--- block has at least 1,024 bytes, as in each geometry.
+-- The image is accepted and in the writing profile. No move is pending, and the sync bit isn't set. The map's used blocks are
+-- the image's. A block has at least 1,024 bytes, as in each geometry.
 pub record IsReadyImage (t : KeptThread) : Type 0 where
   pub accepted : IsAccepted t.disk t.pairs
   pub writable : IsWritable t.disk t.pairs
@@ -23,24 +23,24 @@ pub record IsReadyImage (t : KeptThread) : Type 0 where
   pub size : length t.map ≡ block_count t.disk
   pub large : 1024 ≤ t.disk.block_size
 
--- a block that wasn't free is what it was
+-- a block that wasn't free has the same state
 abbrev pub KeepsTakenStates : BlockStates → BlockStates → Type 0
 KeepsTakenStates old new = (b : ℕ) → (IsFree old b → ⊥) → slice_get new b ≡ slice_get old b
 
--- a block that is in flight was so before
+-- a block that is in flight was in flight before
 abbrev pub AddsNoneInFlight : BlockStates → BlockStates → Type 0
 AddsNoneInFlight old new = (b : ℕ) → IsInFlight new b → IsInFlight old b
 
--- as many pairs as before come before the root directory's first one
+-- the root directory's first pair has the same index
 abbrev pub KeepsRootNumber : KeptThread → KeptThread → Type 0
 KeepsRootNumber old new = count_before_root new.pairs ≡ count_before_root old.pairs
 
--- what the log of a pair comes to is something that a log can come to, as where its bytes are below 256
+-- the content of a pair's log is one that a log can have, since its bytes are below 256
 abbrev pub IsRawFormed : Disk → ℕ × ℕ → Type 0
 IsRawFormed disk at = (raw : RawContent) → raw_content disk at ≡ Some raw → IsWellFormed raw
 
--- The image shows that tree and may be changed again. The root directory begins where it did. The map has lost nothing, and no
--- further block is in flight.
+-- The image has that tree and may be changed again. The root directory begins with the same pair. No block that wasn't free has
+-- changed its state in the map, and no further block is in flight.
 pub record ShowsReadyTree (old new : KeptThread) (tree : Tree) : Type 0 where
   pub ready : IsReadyImage new
   pub shows : disk_tree new.disk new.pairs ≡ tree

@@ -1,4 +1,4 @@
--- How a recovery drops the pairs that no path leads to.
+-- The drop of orphans, the pairs that no path leads to, by a recovery.
 use Rattle.std.specs.Prelude.{ℕ, ◌≡◌, ◌⊎◌, ◌<◌, ◌≤◌, ◌+◌, if◌then◌else◌, Bool, List, [], length, slice_index_or, Result, IfErr, IsErrOf, is_err, All}
 use Rattle.std.specs.List.{flat_map}
 use Rattle.lfs_device.specs.declared.error.Error.{Error}
@@ -22,8 +22,8 @@ use Rattle.lfs_thread.specs.ThreadSteps.{empty_anchor}
 use Rattle.lfs_operations.specs.Dropping.{SameInFlight}
 use Rattle.lfs_operations.specs.Ready.{IsReadyUnsettled, KeepsRootNumber}
 
--- The image is accepted and may be written, and no move is set. The map knows each of its blocks. The numbers are those of the
--- pairs that no path leads to. A block has at least 1,024 bytes, as in each geometry.
+-- The image is accepted and may be written, and no move is pending. The map's used blocks are the image's. The pair indices
+-- `numbers` are those of all orphans. A block has at least 1,024 bytes, as in each geometry.
 pub record CanDropPairs (t : KeptThread) (numbers : List ℕ) : Type 0 where
   pub accepted : IsAccepted t.disk t.pairs
   pub writable : IsWritable t.disk t.pairs
@@ -33,14 +33,14 @@ pub record CanDropPairs (t : KeptThread) (numbers : List ℕ) : Type 0 where
   pub none : HasNoMove (pairs_gstate t.pairs)
   pub reported : AreUnreachedNumbers t.pairs numbers
 
--- no move is set, and a path leads to each directory
+-- no move is pending, and a path leads to each directory
 pub record CanClearSync (t : KeptThread) : Type 0 where
   pub accepted : IsAccepted t.disk t.pairs
   pub writable : IsWritable t.disk t.pairs
   pub none : HasNoMove (pairs_gstate t.pairs)
   pub reached : AllReached t.pairs
 
--- `Io` comes with a fault of the device, and any other result with none. After an error the thread has failed.
+-- The result is `Io` exactly if a device call failed. After an error the thread has failed.
 pub record ReportsRecovery {X : Type 0} (old new : ThreadView) (result : Result X Error) : Type 0 where
   pub failed : new.failed ≡ is_err result
   pub errors : IfErr result (λ e. (e ≡ Io) ⊎ (e ≡ NoMemory))
@@ -55,7 +55,7 @@ pub record IsSyncCleared (old new : KeptThread) : Type 0 where
   pub map : new.map ≡ old.map
   pub files : All (λ s. SameFileBlocks old.disk new.disk s.struct) (all_unmoved_slots old.pairs)
 
--- the slots of the pairs of these numbers, in turn
+-- the slots of the pairs of these indices, in turn
 abbrev pub numbered_slots : List Pair → List ℕ → List Slot
 numbered_slots ps numbers = flat_map (λ n. (slice_index_or ps n empty_anchor).content.slots) numbers
 
@@ -63,9 +63,9 @@ numbered_slots ps numbers = flat_map (λ n. (slice_index_or ps n empty_anchor).c
 abbrev pub numbered_list_blocks : KeptThread → List ℕ → List ℕ
 numbered_list_blocks t numbers = file_blocks t.disk (numbered_slots t.pairs numbers)
 
--- Nothing is left to recover, the tree is as it was, and the slots are where the layout wants them. So a recovery is completed.
--- The root directory begins where it did. The pairs of these numbers are dropped, their blocks are free, and no pair is new. The
--- lists of their slots are unchanged, and have blocks that no other list has. These are still used.
+-- Nothing is left to recover, the tree is as it was, and the slots are in the right pairs. So a recovery is complete. The root
+-- directory begins with the same pair. The pairs of these indices are dropped, their blocks are free, and no pair is new. The
+-- lists of their slots are unchanged, and share no block with other lists. Their blocks are still used in the map.
 pub record HasDroppedRecovered (old : KeptThread) (numbers : List ℕ) (new : KeptThread) : Type 0 where
   pub ready : IsReadyUnsettled new (numbered_list_blocks old numbers) []
   pub stand : All (λ s. SameFileBlocks old.disk new.disk s.struct) (numbered_slots old.pairs numbers)
@@ -77,6 +77,6 @@ pub record HasDroppedRecovered (old : KeptThread) (numbers : List ℕ) (new : Ke
   pub shows : disk_tree new.disk new.pairs ≡ disk_tree old.disk old.pairs
   pub completed : (s : Session) → s.tree ≡ disk_tree old.disk old.pairs → CompletesOperation old.disk old.pairs s ops.Recover new.disk new.pairs
 
--- the global state that is wanted after a pair is dropped: zero after the last one
+-- the global state after an orphan is dropped: zero after the last one
 abbrev pub gstate_while_dropping : KeptThread → Bool → Gstate
 gstate_while_dropping t is_last = if is_last then zero_gstate else pairs_gstate t.pairs

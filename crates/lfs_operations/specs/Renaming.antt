@@ -1,4 +1,4 @@
--- An entry that gets another name in its directory and stays in its pair.
+-- A rename within a pair.
 use Rattle.std.specs.Prelude.{ℕ, ◌≡◌, ◌≢◌, ◌⊎◌, ◌≤◌, ◌+◌, ◌-◌, true, false, nat_lt, if◌then◌else◌, List, [], ◌∷◌, ◌++◌, Result, Err, Bool}
 use Rattle.lfs_device.specs.declared.error.Error.{Error}
 use Rattle.lfs_device.specs.declared.error.Error.TheVariants.{NoSpace}
@@ -21,16 +21,16 @@ use Rattle.lfs_operations.specs.RenamingSlots.{IsTargetPlace, nameless_at}
 use Rattle.lfs_model.specs.layers.SlotChanges.{slot_changes}
 use Rattle.lfs_operations.specs.MovingAcross.{removal_changes}
 
--- a place among slots after the slot at an id was removed
+-- an id after the slot with another id was deleted
 abbrev pub id_after_removal : ℕ → ℕ → ℕ
 id_after_removal id place = if nat_lt id place then place - 1 else place
 
--- the slot is removed, and so is the one at the place, if it is replaced; then the slot is put in there under the name
+-- the slot is deleted, and so is the one that it replaces, if any; then the slot is created at the new id under the name
 abbrev pub renaming_changes : (replaces : Bool) → KeptThread → ℕ → ℕ → ℕ → Name → List ContentChange
 renaming_changes replaces t pair id place name = Delete id ∷ (removal_changes replaces (id_after_removal id place) ++ slot_changes (id_after_removal id place) name (nameless_at t pair id))
 
--- The image may be changed. An entry is at the id of the pair. Another name goes to a place of the same pair and directory: it is
--- new, or with `replaces` a file's. The entry may be written under it.
+-- The image may be changed. The pair has an entry with the id. Another name belongs at another id of the same pair and
+-- directory: it is new, or with `replaces` a file's. The entry may have that name.
 pub record CanRenameInPair (replaces : Bool) (t : KeptThread) (pair id place : ℕ) (name : Name) : Type 0 where
   pub can : CanEditIn t pair id
   pub gone : List ℕ
@@ -38,7 +38,7 @@ pub record CanRenameInPair (replaces : Bool) (t : KeptThread) (pair id place : �
   pub differs : replaces ≡ true → name ≢ can.name
   pub fits : IsWritableEntry t.disk.profile t.disk.block_size t.disk.page (record (editable_slot can) { name = name })
 
--- the tree in which what was at the one name is at the other
+-- the tree in which the entry of the one name has the other
 abbrev pub tree_renamed : KeptThread → Path → Name → Name → Tree
 tree_renamed t path from to = tree_renaming (path ++ from ∷ []) (path ++ to ∷ []) (disk_tree t.disk t.pairs)
 
@@ -46,15 +46,15 @@ abbrev pub CompletesRename : KeptThread → KeptThread → Path → Name → Nam
 CompletesRename old new path from to = (s : Session) (given to_given : List ℕ) → s.tree ≡ disk_tree old.disk old.pairs → path_or_root given ≡ path ++ from ∷ [] → path_or_root to_given ≡ path ++ to ∷ []
     → CompletesOperation old.disk old.pairs s (ops.Rename given to_given) new.disk new.pairs
 
--- The tree has the entry under the other name, and its slot is where the layout wants it. So a rename of its path is completed.
--- The blocks of a replaced file's list are `gone`, each once, and none of them is the image's.
+-- The tree has the entry under the other name, and its slot is in the right pair. So a rename of its path is complete. The
+-- blocks of a replaced file's list are `gone`, each once, and none of them is the image's.
 pub record IsRenamedInPair (old new : KeptThread) (path : Path) (from to : Name) (gone : List ℕ) : Type 0 where
   pub now : ShowsUnsettledTree old new (tree_renamed old path from to) gone []
   pub once : (b : ℕ) → number_occurrences b (used_blocks new.disk new.pairs) + number_occurrences b gone ≤ 1
   pub completed : CompletesRename old new path from to
 
--- What an operation reports that reads a slot before it changes or splits the pair: as `ReportsPut`, except that the thread works
--- on and is as it was where the slot couldn't be read.
+-- The errors of an operation that reads a slot before it changes or splits the pair: as `ReportsPut`, except that the thread
+-- hasn't failed and is as it was if the slot couldn't be read.
 pub record ReportsReadPut {X : Type 0} (old new : ThreadView) (index : ℕ) (changes : List ContentChange) (result : Result X Error) : Type 0 where
   pub failed : (new.failed ≡ has_failed_after result) ⊎ ((new.failed ≡ false) × OnlyReadsThread old.kept new.kept)
   pub reports : ReportsSpaceErrors old.kept new.kept result

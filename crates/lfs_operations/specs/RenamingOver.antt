@@ -1,4 +1,4 @@
--- An entry that replaces a directory, while the sync bit turns: no path leads to the directory's pair then.
+-- A rename over a directory. It flips the sync bit, since the directory's pair is then an orphan.
 use Rattle.std.specs.Prelude.{ℕ, ◌≡◌, ◌≢◌, ◌⊎◌, ◌<◌, true, false, List, [], ◌∷◌, ◌++◌, length, Result, is_err, IfErr, IsErrOf}
 use Rattle.lfs_device.specs.declared.error.Error.{Error}
 use Rattle.lfs_device.specs.declared.error.Error.TheVariants.{Io, NoMemory}
@@ -20,12 +20,12 @@ use Rattle.lfs_operations.specs.Dropping.{ShowsDroppedTree}
 use Rattle.lfs_operations.specs.Editing.{CanEditIn, editable_slot}
 use Rattle.lfs_operations.specs.Renaming.{CompletesRename, tree_renamed, renaming_changes}
 
--- the pair's delta turns the sync bit, both slots are removed, and the entry's is put in at the other's place
+-- the pair's delta flips the sync bit, both slots are deleted, and the entry's is created at the directory's id
 abbrev pub replace_directory_changes : KeptThread → ℕ → ℕ → ℕ → Name → List ContentChange
 replace_directory_changes t pair id place name = PutMove (gstate_xor (thread_pair t pair).content.move sync_bit_delta) ∷ renaming_changes true t pair id place name
 
--- The image may be changed. An entry is at the id of the pair, and a directory of another name at a place of the same pair and
--- directory. The entry may be written under that name.
+-- The image may be changed. The pair has an entry with the id, and a directory of another name at another id of the same pair
+-- and directory. The entry may have that name.
 pub record CanReplaceDirectory (t : KeptThread) (pair id place : ℕ) (name : Name) : Type 0 where
   pub can : CanEditIn t pair id
   pub target : IsPlaceOf t.pairs can.first name pair place
@@ -34,8 +34,8 @@ pub record CanReplaceDirectory (t : KeptThread) (pair id place : ℕ) (name : Na
   pub differs : name ≢ can.name
   pub fits : IsWritableEntry t.disk.profile t.disk.block_size t.disk.page (record (editable_slot can) { name = name })
 
--- The tree has the entry in the directory's place. The image is accepted and in the writing profile, and the sync bit is set.
--- Only one pair holds something else than before.
+-- The tree has the entry under the directory's name. The image is accepted and in the writing profile, and the sync bit is set.
+-- Only one pair's content has changed.
 pub record IsDirectoryReplaced (old new : KeptThread) (pair id place : ℕ) (path : Path) (from to : Name) : Type 0 where
   pub changed : IsPairCommitted old pair (replace_directory_changes old pair id place to) new
   pub content : PairContent
@@ -46,15 +46,16 @@ pub record IsDirectoryReplaced (old new : KeptThread) (pair id place : ℕ) (pat
   pub gstate : pairs_gstate new.pairs ≡ sync_bit_delta
   pub taken : IsWritableChange old.disk old.pairs new.disk new.pairs (tree_renaming (path ++ from ∷ []) (path ++ to ∷ [])) (renamed_addresses (path ++ from ∷ []) (path ++ to ∷ []))
 
--- What a step reports that reads a slot first and takes no block: after an error the thread has failed, except that it works on
--- and is as it was where the slot couldn't be read.
+-- The errors of a step that reads a slot first and allocates no block: after an error the thread has failed, except that it
+-- hasn't failed and is as it was if the slot couldn't be read.
 pub record ReportsReadCommit {X : Type 0} (old new : ThreadView) (result : Result X Error) : Type 0 where
   pub failed : (new.failed ≡ is_err result) ⊎ ((new.failed ≡ false) × OnlyReadsThread old.kept new.kept)
   pub reported : ThreadReportsErrors old.kept new.kept result
 
 -- ---- the operation
 
--- The premises of CanReplaceDirectory. The pair of number `gone` is the only one of the directory that is replaced, and has no slots.
+-- The premises of CanReplaceDirectory. The pair of index `gone` is the only one of the directory that is replaced, and has no
+-- slots.
 pub record CanRenameOver (t : KeptThread) (pair id place : ℕ) (name : Name) (gone : ℕ) : Type 0 where
   pub over : CanReplaceDirectory t pair id place name
   pub below : gone < length t.pairs
@@ -62,14 +63,14 @@ pub record CanRenameOver (t : KeptThread) (pair id place : ℕ) (name : Name) (g
   pub empty : (thread_pair t gone).content.slots ≡ []
   pub alone : is_hard_tail (thread_pair t gone).content.tail ≡ false
 
--- The tree has the entry in the directory's place, and the directory's pair is dropped. So a rename of its path onto the
--- directory's is completed.
+-- The tree has the entry under the directory's name, and the directory's pair is dropped. So a rename of its path onto the
+-- directory's is complete.
 pub record IsRenamedOver (old new : KeptThread) (path : Path) (from to : Name) : Type 0 where
   pub now : ShowsDroppedTree old new (tree_renamed old path from to) []
   pub completed : CompletesRename old new path from to
 
--- What several steps report that take no block, where the first one reads a slot. `Io` comes with a fault of the device, and any
--- other result with none. After an error the thread has failed, except that it works on and is as it was where the slot couldn't
+-- The errors of several steps that allocate no block, and of which the first one reads a slot. The result is `Io` exactly if a
+-- device call failed. After an error the thread has failed, except that it hasn't failed and is as it was if the slot couldn't
 -- be read.
 pub record ReportsReadCommits {X : Type 0} (old new : ThreadView) (result : Result X Error) : Type 0 where
   pub failed : (new.failed ≡ is_err result) ⊎ ((new.failed ≡ false) × OnlyReadsThread old.kept new.kept)

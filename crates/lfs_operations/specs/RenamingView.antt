@@ -1,4 +1,4 @@
--- A copied slot of the code as the definitions have it.
+-- A copied slot in contracts.
 use Rattle.std.specs.Prelude.{ℕ, List, map}
 use Rattle.lfs_model.specs.layers.SlotChanges.{NamelessSlot}
 use Rattle.lfs_operations.specs.declared.slot_copies.StructCopy.{StructCopy}

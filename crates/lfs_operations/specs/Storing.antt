@@ -1,4 +1,4 @@
--- A file whose struct is set.
+-- The commit of a file's new struct.
 use Rattle.std.specs.Prelude.{ℕ, ◌≡◌, ◌⊎◌, ◌≤◌, ◌+◌, true, nat_eq, List, [], ◌∷◌, ◌++◌, Some, None, Contains}
 use Rattle.std.specs.List.{AllByRecursion, IsDistinct}
 use Rattle.lfs_model.specs.session.TreeEdits.{tree_with_change}
@@ -19,8 +19,8 @@ use Rattle.lfs_thread.specs.Kept.{KeptThread}
 use Rattle.lfs_operations.specs.Editing.{CanEditIn, editable_slot}
 use Rattle.lfs_operations.specs.Ready.{ShowsUnsettledTree}
 
--- A file is at the id of the pair, and the struct says these bytes: inline, or as a list that is on the disk. `come` are the
--- list's blocks that the old list hasn't; they are in flight. `gone` are those that only the old list has.
+-- The pair has a file with the id, and the struct names its new contents: inline bytes, or a list that is on the disk. `come`
+-- are the new list's blocks that the old one doesn't share; they are in flight. `gone` are those that only the old list has.
 pub record CanSetStruct (t : KeptThread) (pair id kind : ℕ) (bytes : List ℕ) : Type 0 where
   pub can : CanEditIn t pair id
   pub file : branch_address (editable_slot can).struct ≡ None
@@ -34,16 +34,16 @@ pub record CanSetStruct (t : KeptThread) (pair id kind : ℕ) (bytes : List ℕ)
   pub apart : IsDistinct nat_eq come
   pub blocks : (b : ℕ) → number_occurrences b (struct_blocks t.disk (decoded_struct kind bytes)) + number_occurrences b gone ≡ number_occurrences b come + number_occurrences b (struct_blocks t.disk (editable_slot can).struct)
 
--- the tree with other contents there
+-- the tree with the file's new contents
 abbrev pub tree_with_contents : KeptThread → Path → Name → List ℕ → Tree
 tree_with_contents t path name contents = tree_with_change (path ++ name ∷ []) (node_with_bytes contents) (disk_tree t.disk t.pairs)
 
 abbrev pub IsDirtyWriter : Session → ℕ → Path → List ℕ → FileWriter → Type 0
 IsDirtyWriter s fd path contents writer = (file_numbered s.files fd ≡ Some (Writing writer)) × ((writer.dirty ≡ true) × ((writer.path ≡ path) × (writer.contents ≡ contents)))
 
--- The tree has the file with those contents, and its slot is where the layout wants it. So a sync or a close of a file that was
--- written is completed. The blocks `gone` are distinct, and none of them is the image's. A block of the pairs was one before, or
--- was free.
+-- The tree has the file with those contents, and its slot is in the right pair. So a sync or a close of a writer with changes
+-- is complete. The blocks `gone` are distinct, and none of them is the image's. A block of the pairs was one before, or was
+-- free.
 pub record HasStoredContents (old new : KeptThread) (path : Path) (name : Name) (contents gone come : List ℕ) : Type 0 where
   pub now : ShowsUnsettledTree old new (tree_with_contents old path name contents) gone come
   pub synced : (s : Session) (fd : ℕ) (writer : FileWriter) → s.tree ≡ disk_tree old.disk old.pairs → IsDirtyWriter s fd (path ++ name ∷ []) contents writer

@@ -1,4 +1,4 @@
--- An empty directory that is removed: its entry with the sync bit set, and then its pair, with the sync bit cleared.
+-- The removal of an empty directory: first its entry, which sets the sync bit, and then its pair, which clears it.
 use Rattle.std.specs.Prelude.{ℕ, ◌≡◌, ◌⊎◌, ◌<◌, true, false, List, [], ◌∷◌, ◌++◌, length, ◌-◌, Result, is_err, IfErr, IsErrOf, if◌then◌else◌}
 use Rattle.lfs_device.specs.declared.error.Error.{Error}
 use Rattle.lfs_device.specs.declared.error.Error.TheVariants.{Io, NoMemory}
@@ -24,28 +24,28 @@ use Rattle.lfs_model.specs.format.Blocks.{Blocks}
 
 -- ---- the entry is removed
 
--- the entry goes, and the pair's delta turns the sync bit
+-- the entry is deleted, and the pair's delta flips the sync bit
 abbrev pub unlink_changes : KeptThread → ℕ → ℕ → List ContentChange
 unlink_changes t pair id = Delete id ∷ PutMove (gstate_xor (thread_pair t pair).content.move sync_bit_delta) ∷ []
 
--- The image may be changed, and an entry is at the id of the pair, in the directory that begins with the pair of number `first`.
+-- The image may be changed, and the pair has an entry with the id, in the directory that begins with the pair of index `first`.
 pub record CanUnlink (t : KeptThread) (pair id first : ℕ) : Type 0 where
   pub can : CanEditIn t pair id
   pub begins : can.first ≡ first
 
--- so the pair has these changes, or is dropped with the entry
+-- the pair has these changes, or is dropped with the entry
 pub record IsEntryUnlinked (old : KeptThread) (pair id first : ℕ) (new : KeptThread) : Type 0 where
   pub stays : drops_emptied_pair old pair first ≡ false → IsPairCommitted old pair (unlink_changes old pair id) new
   pub goes : drops_emptied_pair old pair first ≡ true → IsPairDropped old (pair - 1) sync_bit_delta new
 
--- what a stop leaves of it
+-- what a power loss leaves of that step
 pub record LeftByUnlink (old : KeptThread) (pair id first : ℕ) (left : Blocks) : Type 0 where
   pub stays : drops_emptied_pair old pair first ≡ false → LossLeavesPair old pair (unlink_changes old pair id) left
   pub goes : drops_emptied_pair old pair first ≡ true → LeftByDrop old (pair - 1) sync_bit_delta left
 
 -- ---- the operation
 
--- A directory's entry is at the id of the pair, in the directory that begins with the pair of number `first`. The pair of number
+-- The pair has a directory's entry with the id, in the directory that begins with the pair of index `first`. The pair of index
 -- `gone` is the only one of the directory that is removed, and has no slots.
 pub record CanRemoveDirectory (t : KeptThread) (pair id first gone : ℕ) : Type 0 where
   pub can : CanEditIn t pair id
@@ -57,25 +57,25 @@ pub record CanRemoveDirectory (t : KeptThread) (pair id first gone : ℕ) : Type
   pub empty : (thread_pair t gone).content.slots ≡ []
   pub alone : is_hard_tail (thread_pair t gone).content.tail ≡ false
 
--- its number once the entry is gone
+-- the index of the directory's own pair after the entry was deleted
 abbrev pub number_after_unlink : KeptThread → ℕ → ℕ → ℕ → ℕ
 number_after_unlink t pair first gone = if drops_emptied_pair t pair first then number_after_drop pair gone else gone
 
--- The tree has no such directory, the other slots are where the layout wants them, and its pair is dropped. So a remove of its
--- path is completed.
+-- The tree no longer has the directory, the other slots are in the right pairs, and its pair is dropped. So a remove of its
+-- path is complete.
 pub record IsDirectoryRemoved (old new : KeptThread) (path : Path) (name : Name) : Type 0 where
   pub now : ShowsDroppedTree old new (tree_without_entry old path name) []
   pub completed : (s : Session) (given : List ℕ) → s.tree ≡ disk_tree old.disk old.pairs → path_or_root given ≡ path ++ name ∷ []
       → CompletesOperation old.disk old.pairs s (ops.Remove given) new.disk new.pairs
 
--- The pair before the directory's own one doesn't stay with what it held. Nor does the one before the entry's pair, where that is
--- dropped too.
+-- The pair before the directory's own one was changed or dropped, and so was the one before the entry's pair if that was
+-- dropped, too.
 pub record ArePairsBeforeTouched (old : KeptThread) (pair first gone : ℕ) (new : KeptThread) : Type 0 where
   pub front : IsPairTouched old (gone - 1) new
   pub entry : drops_emptied_pair old pair first ≡ true → IsPairTouched old (pair - 1) new
 
--- What several steps report that take no block: `Io` comes with a fault of the device, and any other result with none. After an
--- error the thread has failed.
+-- The errors of several steps that allocate no block: The result is `Io` exactly if a device call failed. After an error the
+-- thread has failed.
 pub record ReportsCommits {X : Type 0} (old new : ThreadView) (result : Result X Error) : Type 0 where
   pub failed : new.failed ≡ is_err result
   pub errors : IfErr result (λ e. (e ≡ Io) ⊎ (e ≡ NoMemory))

@@ -1,4 +1,4 @@
--- Worn pairs that move, in an image that may be written.
+-- Wear leveling: the relocation of worn pairs, in an image that may be written.
 use Rattle.std.specs.Prelude.{ℕ, ◌≡◌, ◌≢◌, ◌≤◌, ◌<◌, ◌+◌, ◌-◌, ◌*◌, ◌%◌, ◌^◌, ◌⊎◌, true, false, List, ◌∷◌, ◌++◌, Some, option_map, length, All, Any, Contains}
 use Rattle.std.specs.List.{AllByRecursion}
 use Rattle.lfs_model.specs.format.Disk.{Disk, block_count}
@@ -19,7 +19,7 @@ use Rattle.lfs_operations.specs.Dropping.{SameInFlight}
 use Rattle.lfs_operations.specs.Ready.{IsReadyImage, KeepsRootNumber}
 use Rattle.lfs_operations.specs.declared.wear.MovePlan.{MovePlan}
 
--- The image may be changed again, and shows the same tree. Each file has the struct that it had, and the blocks of its list are
+-- The image may be changed again, and has the same tree. Each file has the same struct, and the blocks of its list are
 -- unchanged. The same blocks are in flight.
 pub record ShowsSameFiles (old new : KeptThread) : Type 0 where
   pub ready : IsReadyImage new
@@ -28,13 +28,13 @@ pub record ShowsSameFiles (old new : KeptThread) : Type 0 where
   pub lists : All (λ s. SameFileBlocks old.disk new.disk s.struct) (all_unmoved_slots old.pairs)
   pub flying : SameInFlight old.map new.map
 
--- ---- a pair moves whole
+-- ---- a pair is relocated
 
--- the pair at the new address goes on with the next revision
+-- the pair at the new address has the next revision
 abbrev pub ContinuesRevision : Disk → ℕ × ℕ → Disk → ℕ × ℕ → Type 0
 ContinuesRevision old from new to = pair_revision new to ≡ option_map (λ r. (r + 1) % 2 ^ 32) (pair_revision old from)
 
--- The image may be changed. The pair is worn, and follows a hard tail. The two blocks are free.
+-- The image may be changed. The pair is worn, and behind a hard tail. The two blocks are free.
 pub record CanMovePair (t : KeptThread) (index : ℕ) (fresh : ℕ × ℕ) : Type 0 where
   pub ready : IsReadyImage t
   pub above : 0 < index
@@ -43,8 +43,8 @@ pub record CanMovePair (t : KeptThread) (index : ℕ) (fresh : ℕ × ℕ) : Typ
   pub worn : is_worn t.disk (thread_pair t index) ≡ true
   pub free : AreTwoFree t.map fresh
 
--- The pair of that number is at these two blocks. No other block changed but those of the pair before it. As many blocks are used
--- as before.
+-- The pair of that index is now in the two blocks `fresh`. Only these and the blocks of the pair before it have changed. As
+-- many blocks are used as before.
 pub record IsWornMoved (old : KeptThread) (index : ℕ) (fresh : ℕ × ℕ) (new : KeptThread) : Type 0 where
   pub moved : IsPairMoved old.disk old.pairs new.pairs
   pub to : moved.to ≡ fresh
@@ -55,20 +55,20 @@ pub record IsWornMoved (old : KeptThread) (index : ℕ) (fresh : ℕ × ℕ) (ne
   pub as_many : length (used_blocks new.disk new.pairs) ≡ length (used_blocks old.disk old.pairs)
   pub root : KeepsRootNumber old new
 
--- ---- a pair gives its slots away
+-- ---- a pair's slots move to a new pair
 
--- Two more blocks may be used. When they are, an eighth of the blocks isn't.
+-- Two more blocks may be used, and an eighth of the blocks is still free then.
 pub record HasUnloadRoom (t : KeptThread) (limit : ℕ) : Type 0 where
   pub within : used_count t.map + 2 ≤ limit
   pub eighth : 8 * (used_count t.map + 2) ≤ 7 * block_count t.disk
 
--- the pair has slots, and is the first of a directory behind the root
+-- the pair has slots, and is the first of a directory other than the root
 pub record BeginsBehindRoot (t : KeptThread) (root index : ℕ) : Type 0 where
   pub behind : root < index
   pub first : is_hard_tail (thread_pair t (index - 1)).content.tail ≡ false
   pub some : has_slots (thread_pair t index).content.slots ≡ true
 
--- The image may be changed. The pair is worn, and begins a directory behind the root. The two blocks are free.
+-- The image may be changed. The pair is worn, and begins a directory other than the root. The two blocks are free.
 pub record CanUnloadPair (t : KeptThread) (index : ℕ) (fresh : ℕ × ℕ) : Type 0 where
   pub ready : IsReadyImage t
   pub below : index < length t.pairs
@@ -77,8 +77,8 @@ pub record CanUnloadPair (t : KeptThread) (index : ℕ) (fresh : ℕ × ℕ) : T
   pub eighth : 8 * (used_count t.map + 2) ≤ 7 * block_count t.disk
   pub free : AreTwoFree t.map fresh
 
--- The slots of the pair of that number are in a pair behind it, at these two blocks. No other block changed but the pair's own. Two
--- more blocks are used.
+-- The slots of the pair of that index are now in a pair behind it, in the two blocks `fresh`. Only these and the pair's own
+-- blocks have changed. Two more blocks are used.
 pub record IsWornUnloaded (old : KeptThread) (index : ℕ) (fresh : ℕ × ℕ) (new : KeptThread) : Type 0 where
   pub unloaded : IsPairUnloaded old.disk old.pairs new.disk new.pairs
   pub to : unloaded.to ≡ fresh
@@ -97,8 +97,8 @@ pub record CanExpandRoot (t : KeptThread) (fresh : ℕ × ℕ) : Type 0 where
   pub eighth : 8 * (used_count t.map + 2) ≤ 7 * block_count t.disk
   pub free : AreTwoFree t.map fresh
 
--- The root directory begins with the second pair, at these two blocks. No other block changed but those of the first pair. Two more
--- blocks are used.
+-- The root directory now begins with the second pair, in the two blocks `fresh`. Only these and the blocks of the first pair
+-- have changed. Two more blocks are used.
 pub record IsRootExpanded (old : KeptThread) (fresh : ℕ × ℕ) (new : KeptThread) : Type 0 where
   pub unloaded : IsRootUnloaded old.disk old.pairs new.disk new.pairs
   pub to : unloaded.to ≡ fresh
@@ -108,15 +108,15 @@ pub record IsRootExpanded (old : KeptThread) (fresh : ℕ × ℕ) (new : KeptThr
   pub two_more : length (used_blocks new.disk new.pairs) ≡ length (used_blocks old.disk old.pairs) + 2
   pub root : count_before_root new.pairs ≡ 1
 
--- ---- at most one pair moves
+-- ---- at most one pair is relocated
 
--- Before an operation that takes at most so many blocks: the two blocks are free, and a pair has the other two.
+-- A plan before an operation that allocates at most `room` blocks: its fresh blocks are free, and its other two are a pair's.
 pub record IsPlanFor (t : KeptThread) (room : ℕ) (plan : MovePlan) : Type 0 where
   pub free : AreTwoFree t.map (address_view plan.fresh)
   pub there : Any (λ p. p.at ≡ address_view plan.at) t.pairs
   pub limit : plan.limit ≤ used_count t.map + room
 
--- the map has the plan's two fresh blocks
+-- the plan's two fresh blocks are different blocks of the device
 pub record HasPlanBlocks (sets : BlockStates) (plan : MovePlan) : Type 0 where
   pub apart : (address_view plan.fresh).0 ≢ (address_view plan.fresh).1
   pub first : (address_view plan.fresh).0 < length sets
@@ -129,8 +129,8 @@ pub record CanRelocate (t : ThreadView) (root : ℕ) (plan : MovePlan) : Type 0 
   pub root_is : root ≡ count_before_root t.kept.pairs
   pub blocks : HasPlanBlocks t.kept.map plan
 
--- The pair of the plan's blocks was written, and names a pair in the plan's fresh blocks. No other block changed, and all other
--- pairs are as they were.
+-- The pair in the plan's blocks was written, and its tail names a pair in the plan's fresh blocks. No other block has changed,
+-- and all other pairs are as they were.
 pub record MovesByPlan (old : KeptThread) (plan : MovePlan) (new : KeptThread) : Type 0 where
   pub front : List Pair
   pub written : Pair
@@ -144,8 +144,8 @@ pub record MovesByPlan (old : KeptThread) (plan : MovePlan) (new : KeptThread) :
   pub to : fresh.at ≡ address_view plan.fresh
   pub others : KeepsOutsideBoth written.at fresh.at old.disk.blocks new.disk.blocks
 
--- Nothing changed, or a worn pair moved by the plan. The image shows the same files. No more blocks are used than before, or than
--- the plan's limit. The root directory begins with that pair.
+-- Nothing changed, or a worn pair was relocated by the plan. The image has the same files. No more blocks are used than before,
+-- or than the plan's limit. The root directory begins with the pair of index `root`.
 pub record HasRelocated (old : KeptThread) (plan : MovePlan) (new : KeptThread) (root : ℕ) : Type 0 where
   pub moved : (new ≡ old) ⊎ (IsMoved old.disk old.pairs new.disk new.pairs × MovesByPlan old plan new)
   pub files : ShowsSameFiles old new

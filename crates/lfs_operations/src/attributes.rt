@@ -1,4 +1,4 @@
-// Attributes of entries, set and removed.
+// Sets and removes attributes of entries.
 
 ghost use Rattle.std.specs.Prelude.{◌≡◌, ◌∷◌, [], false, OnOk};
 ghost use Rattle.lfs_model.specs.layers.Changes.{PutAttribute};
@@ -17,10 +17,10 @@ use lfs_pair::Change;
 use lfs_thread::Thread;
 use std::alloc::Global;
 
-/// Sets an attribute of the entry at the id of a pair, in place of the attribute of the same type,
-/// if it has one (SPEC.md of littlefs, "0x3xx LFS_TYPE_USERATTR"). A pair without room for it is
-/// split into itself and two free blocks. The caller's condition: the attribute has at most 1,022
-/// bytes, and the entry with it takes at most half of what a pair holds.
+/// Sets an attribute of the entry with the id of a pair, and replaces the one of that type, if
+/// there is one (SPEC.md of littlefs, "0x3xx LFS_TYPE_USERATTR"). If the pair has no room for it,
+/// it is split, and two free blocks are allocated. The attribute must have at most 1,022 bytes, and
+/// the entry with it must use at most half of a pair.
 ///
 /// Errors are those of [`create_file`](crate::create_file).
 pub fn set_attribute<D: BlockDevice>(
@@ -47,7 +47,7 @@ pub fn set_attribute<D: BlockDevice>(
     change_or_split(alloc, thread, pair, &changes)
 }
 
-/// Removes the attribute of that type from the entry at the id of a pair, if it has it.
+/// Removes the attribute of that type, if there is one, from the entry with the id of a pair.
 ///
 /// Errors are those of [`remove_file`](crate::remove_file).
 pub fn remove_attribute<D: BlockDevice>(
@@ -65,6 +65,6 @@ pub fn remove_attribute<D: BlockDevice>(
     ensures survives { (can : CanEditIn thread.old.kept pair id) → SurvivesLossSince thread.old.kept.disk thread.old.kept.history thread.new.kept.history
         (disk_tree thread.old.kept.disk thread.old.kept.pairs) (tree_setting_attributes thread.old.kept can.path can.name (attributes_without kind)) }
 {
-    // What is left fits, so the commit is never refused.
+    // What is left fits, so the commit never needs a split.
     commit_fitting(alloc, thread, pair, &[Change::NoAttr { id, attr: kind }])
 }

@@ -1,4 +1,4 @@
-// Empty directories that are removed.
+// Removes empty directories.
 
 ghost use Rattle.std.specs.Prelude.{◌≡◌, ◌<◌, ◌-◌, length, false, OnOk};
 ghost use Rattle.lfs_model.specs.crash.PowerLoss.{SurvivesLossSince};
@@ -20,7 +20,7 @@ use lfs_tag::MoveState;
 use lfs_thread::{Thread, gstate_xor_delta};
 use std::alloc::Global;
 
-// Returns the delta that turns the sync bit.
+// Returns the delta that flips the sync bit.
 pub(crate) fn delta_turning_sync() -> MoveState
     ensures { move_view result ≡ sync_bit_delta }
 {
@@ -32,9 +32,9 @@ pub(crate) fn delta_turning_sync() -> MoveState
     }
 }
 
-// Removes the entry at the id of a pair, and turns the sync bit with it. Afterwards no directory
-// may lead to a pair of the thread (DESIGN.md of littlefs, "The move problem"). A pair that has no
-// other slot, and isn't the first of its directory, is dropped.
+// Removes the entry with the id of a pair, and flips the sync bit in the same commit, since its
+// directory's pair is then an orphan (DESIGN.md of littlefs, "The move problem"). If the pair has
+// no other slot, and isn't the first of its directory, it is dropped.
 fn unlink_directory_entry<D: BlockDevice>(
     alloc: Global,
     thread: &mut Thread<D>,
@@ -55,12 +55,12 @@ fn unlink_directory_entry<D: BlockDevice>(
     } else {
         let state = gstate_xor_delta(&thread.delta(pair), &turn);
         let changes = [Change::Delete { id }, Change::Move { state }];
-        // What is left fits, so the commit is never refused.
+        // What is left fits, so the commit never needs a split.
         commit_fitting(alloc, thread, pair, &changes)
     }
 }
 
-// Returns the number of the pair `gone` once the entry in another pair is unlinked.
+// Returns the index of the pair `gone` after the entry in another pair was removed.
 fn number_after_unlinking<D: BlockDevice>(
     thread: &Thread<D>,
     pair: usize,
@@ -78,15 +78,15 @@ fn number_after_unlinking<D: BlockDevice>(
     }
 }
 
-/// Removes the empty directory at the id of a pair from its directory, which begins with the pair
-/// of number `first`. Its own pair has number `gone` in the thread. The first commit removes the
-/// entry and sets the sync bit, since no path leads to the own pair then. The second drops that
-/// pair and clears the bit (DESIGN.md of littlefs, "The move problem"). An entry's pair that has no
-/// other slot, and isn't the first of its directory, is dropped with the entry.
+/// Removes the empty directory with the id of a pair from its parent, which begins with the pair of
+/// index `first`. The directory's own pair has index `gone`. The first commit removes the entry and
+/// sets the sync bit, since the directory's own pair is then an orphan. The second drops that pair
+/// and clears the bit (DESIGN.md of littlefs, "The move problem"). If the entry's pair has no other
+/// slot, and isn't the first of the parent, it is dropped with the entry.
 ///
-/// Errors: `Io` where a call of the device failed, and `NoMemory` where memory for a pair's slots
-/// and its block isn't granted. The thread has failed then. The entry may be removed by then, and
-/// the directory with it.
+/// Errors: `Io` if a device call failed, and `NoMemory` if memory for a pair's slots and its block
+/// isn't granted. The thread has then failed. The entry, and so the directory, may be removed by
+/// then.
 pub fn remove_directory<D: BlockDevice>(
     alloc: Global,
     thread: &mut Thread<D>,

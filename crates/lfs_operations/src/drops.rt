@@ -1,4 +1,4 @@
-// Pairs that are dropped from the thread.
+// Drops pairs from the thread.
 
 ghost use Rattle.std.specs.Prelude.{◌≡◌, ◌<◌, ◌-◌, Some, length, false, OnOk};
 ghost use Rattle.std.specs.Option.{option_map};
@@ -18,7 +18,8 @@ use lfs_tag::{MoveState, Tail, has_hard_tail};
 use lfs_thread::{Thread, gstate_xor_delta};
 use std::alloc::Global;
 
-// Returns the change that gives a pair with the tail `front` the tail of a dropped pair, `gone`.
+// Returns the change that sets a pair's tail, `front`, to that of the dropped pair behind it,
+// `gone`.
 fn tail_past_dropped(front: Option<Tail>, gone: Option<Tail>) -> Change<'static>
     ensures { change_view result ≡ tail_change (tail_past_drop (option_map tail_view front) (option_map tail_view gone)) }
 {
@@ -34,7 +35,7 @@ fn tail_past_dropped(front: Option<Tail>, gone: Option<Tail>) -> Change<'static>
     }
 }
 
-// Returns the delta that the pair before the dropped one gets, so that the global state then is
+// Returns the new delta of the pair before the dropped one, by which the global state becomes
 // `state`.
 fn delta_before_dropped<D: BlockDevice>(
     thread: &Thread<D>,
@@ -51,7 +52,7 @@ fn delta_before_dropped<D: BlockDevice>(
     gstate_xor_delta(&both, &turned)
 }
 
-// Returns the changes by which the pair before the dropped one takes over its tail and its delta.
+// Returns the changes by which the pair before the dropped one gets its tail and its delta.
 fn changes_for_drop<D: BlockDevice>(
     thread: &Thread<D>,
     index: usize,
@@ -62,7 +63,7 @@ fn changes_for_drop<D: BlockDevice>(
     ensures are { changes_view result ≡ dropping_changes thread.now.kept (index - 1) (move_view state.now) }
     ensures made { complete_after thread.now.kept (index - 1) (changes_view result) ≡ Some (content_after_drop thread.now.kept (index - 1) (move_view state.now)) }
 {
-    // A device holds bytes, so what its logs say can be written again.
+    // A proof needs that a device's blocks hold bytes, so the tail of a log can be written again.
     let _device = thread.device();
     [
         tail_past_dropped(thread.tail_of_pair(index - 1), thread.tail_of_pair(index)),
@@ -72,12 +73,12 @@ fn changes_for_drop<D: BlockDevice>(
     ]
 }
 
-// Drops a pair from the thread in one commit, to the pair before it. That pair takes over the
-// dropped pair's tail and its delta of the global state, which is `state` then (DESIGN.md of
-// littlefs, "The move problem"). The dropped pair's blocks are free afterwards.
+// Drops a pair from the thread by one commit to the pair before it. That pair gets the dropped
+// pair's tail, and the delta by which the global state becomes `state` (DESIGN.md of littlefs, "The
+// move problem"). Frees the dropped pair's blocks.
 //
-// Errors: `Io` where a call of the device failed. `NoMemory` where memory for the pair's slots and
-// its block isn't granted; nothing was written then. After either the thread has failed.
+// Errors: `Io` if a device call failed. `NoMemory` if memory for the pair's slots and its block
+// isn't granted; nothing was written then. The thread has failed after either.
 pub(crate) fn drop_pair_at<D: BlockDevice>(
     alloc: Global,
     thread: &mut Thread<D>,
@@ -92,8 +93,8 @@ pub(crate) fn drop_pair_at<D: BlockDevice>(
     ensures stops { CleanLossLeaves thread.old.kept.history thread.new.kept.history (LeftByDrop thread.old.kept (index - 1) (move_view state.now)) }
 {
     let changes = changes_for_drop(thread, index, state);
-    // The slots stay, and a pair has room of its own for tail and delta. So the commit is never
-    // refused.
+    // The slots stay, and a pair reserves room for tail and delta, so the commit never needs a
+    // split.
     thread.drop_next(alloc, index - 1, &changes)?;
     Ok(())
 }

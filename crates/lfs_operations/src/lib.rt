@@ -1,6 +1,5 @@
 // SPDX-License-Identifier: BSD-3-Clause
-//! Changes of the tree of an accepted image, in steps each of which is atomic under a loss of
-//! power.
+//! Changes of the tree of an accepted image, by steps that are atomic under power loss.
 #![tactic(auto)]
 
 mod attributes;

@@ -1,4 +1,4 @@
-// Slots that move from one pair into another.
+// Renames across pairs, and the ends of moves.
 
 ghost use Rattle.std.specs.Prelude.{◌≡◌, ◌<◌, ◌-◌, ◌^◌, [], ◌∷◌, ◌++◌, true, false, length, IfOk, OnOk};
 ghost use Rattle.lfs_model.specs.layers.Changes.{PutMove};
@@ -31,22 +31,22 @@ use lfs_tag::kinds::DELETE;
 use lfs_thread::{Thread, gstate_xor_delta, number_at_address};
 use std::alloc::{AllocError, Global};
 
-/// Which way an entry goes from one pair into another.
+/// Which entry moves from one pair into another, and where to.
 #[derive(Clone, Copy)]
 pub struct Route {
-    /// The number of the entry's pair in the thread.
+    /// The index of the entry's pair in the thread.
     pub old_pair: usize,
     /// The entry's id in that pair.
     pub old_id: u16,
-    /// The number of the first pair of the entry's directory.
+    /// The index of the first pair of the entry's directory.
     pub first: usize,
-    /// The number of the pair into which the entry goes.
+    /// The index of the pair into which the entry moves.
     pub new_pair: usize,
-    /// The id at which it is put there.
+    /// Its id in that pair.
     pub new_id: u16,
 }
 
-// Returns a pair's delta of the global state, changed so that no move is set.
+// Returns the delta of a pair by which no move is pending any more.
 fn delta_without_move<D: BlockDevice>(thread: &Thread<D>, pair: usize) -> MoveState
     requires works { thread.now.failed ≡ false }
     requires below { pair < length thread.now.kept.pairs }
@@ -59,7 +59,7 @@ fn delta_without_move<D: BlockDevice>(thread: &Thread<D>, pair: usize) -> MoveSt
     gstate_xor_delta(&state, &delta)
 }
 
-// Removes the slot that a set move names from its pair, which stays, and ends the move.
+// Deletes the slot that a pending move names from its pair, which isn't dropped, and ends the move.
 fn end_move_committing<D: BlockDevice>(
     alloc: Global,
     thread: &mut Thread<D>,
@@ -75,12 +75,12 @@ fn end_move_committing<D: BlockDevice>(
         (disk_tree thread.old.kept.disk thread.old.kept.pairs) (disk_tree thread.old.kept.disk thread.old.kept.pairs) }
 {
     let state = delta_without_move(thread, pair);
-    // What is left fits, so the commit is never refused.
+    // What is left fits, so the commit never needs a split.
     let changes = [Change::Delete { id }, Change::Move { state }];
     commit_fitting(alloc, thread, pair, &changes)
 }
 
-// Returns the global state without the move that is set.
+// Returns the global state without its pending move.
 fn moveless_gstate<D: BlockDevice>(thread: &Thread<D>) -> MoveState
     requires { thread.now.failed ≡ false }
     ensures { move_view result ≡ gstate_without_move (pairs_gstate thread.now.kept.pairs) }
@@ -90,7 +90,7 @@ fn moveless_gstate<D: BlockDevice>(thread: &Thread<D>) -> MoveState
     state
 }
 
-// Drops a pair whose only slot a set move names, and ends the move.
+// Drops a pair whose only slot is named by a pending move, and ends the move.
 fn end_move_dropping<D: BlockDevice>(
     alloc: Global,
     thread: &mut Thread<D>,
@@ -109,8 +109,9 @@ fn end_move_dropping<D: BlockDevice>(
     drop_pair_at(alloc, thread, pair, &state)
 }
 
-// Removes the slot that a set move names, and ends the move. Where the pair has no other slot and
-// may be dropped, it is dropped with the slot. This is the second step of a rename across pairs.
+// Deletes the slot that a pending move names, and ends the move. With `goes` its pair, which has no
+// other slot and may be dropped, is dropped with it. This is the second step of a rename across
+// pairs.
 pub(crate) fn end_move<D: BlockDevice>(
     alloc: Global,
     thread: &mut Thread<D>,
@@ -133,7 +134,7 @@ pub(crate) fn end_move<D: BlockDevice>(
     }
 }
 
-// Returns the number of a pair after `fresh` pairs were put in after the pair `other`.
+// Returns the index of a pair after `fresh` pairs were inserted behind the pair `other`.
 fn number_after_inserted(pair: usize, other: usize, fresh: usize) -> usize
     requires { number_after_insertion pair other fresh < 2 ^ 64 }
     ensures { result ≡ number_after_insertion pair other fresh }
@@ -141,8 +142,8 @@ fn number_after_inserted(pair: usize, other: usize, fresh: usize) -> usize
     if pair < other { pair } else { pair + fresh }
 }
 
-// Puts changes that set a move into a pair. Then it ends the move in another pair, which has the
-// slot that the move names.
+// Commits changes that set a move to one pair, and then ends the move in another pair, which has
+// the slot that the move names.
 fn put_and_end<D: BlockDevice>(
     alloc: Global,
     thread: &mut Thread<D>,
@@ -164,8 +165,8 @@ fn put_and_end<D: BlockDevice>(
     end_move(alloc, thread, pair, route.old_id, goes)
 }
 
-// Returns the delta of a pair that sets a move, which names a slot of another pair. With `sync` it
-// sets the sync bit, too. No move is set before.
+// Returns the delta of the new pair that sets a move of the old slot. With `sync` it sets the sync
+// bit, too. No move is pending before.
 fn move_setting_delta<D: BlockDevice>(thread: &Thread<D>, route: Route, sync: bool) -> MoveState
     requires works { thread.now.failed ≡ false }
     requires old_below { route.old_pair < length thread.now.kept.pairs }
@@ -184,7 +185,7 @@ fn move_setting_delta<D: BlockDevice>(thread: &Thread<D>, route: Route, sync: bo
     gstate_xor_delta(&state, &delta)
 }
 
-// Adds the change that removes the slot at an id, if that slot is replaced.
+// Appends the change that deletes the slot with an id, if it is replaced.
 pub(crate) fn push_slot_removal<'a>(
     changes: &mut Vec<Change<'a>>,
     replaces: bool,
@@ -198,8 +199,8 @@ pub(crate) fn push_slot_removal<'a>(
     Ok(())
 }
 
-// Returns the changes that set a delta of the global state, and put in a copied slot at an id. With
-// `replaces` the slot that is there goes first.
+// Returns the changes that set a delta of the global state, and create a copied slot at an id. With
+// `replaces` the slot with that id is deleted first.
 fn moving_changes<'a>(
     alloc: Global,
     state: MoveState,
@@ -217,9 +218,9 @@ fn moving_changes<'a>(
     Ok(changes)
 }
 
-// Puts a copy of an entry into another pair, and sets a move that names the old slot. Then it
-// removes the old slot, and ends the move. With `replaces` the slot that is at the place goes
-// first, and with `sync` the sync bit is set with the move.
+// Copies an entry into another pair, and sets a move that names the old slot. Then deletes the old
+// slot, and ends the move. With `replaces` the slot with the new id is deleted first. With `sync`
+// the sync bit is set with the move.
 fn move_across<D: BlockDevice>(
     alloc: Global,
     thread: &mut Thread<D>,
@@ -244,20 +245,20 @@ fn move_across<D: BlockDevice>(
 }
 
 /// Renames an entry of one pair to a name that belongs at an id of another pair, or with `replaces`
-/// onto the file that is there. The pairs are of one directory or of two. The entry keeps its
-/// struct and its attributes (DESIGN.md of littlefs, "The move problem"). That takes two commits.
-/// The first puts a copy of the entry under its new name, and sets a move that names the old slot.
-/// From then on the old slot counts as gone. The second removes the old slot and ends the move. The
-/// blocks of the file's list stay used in the map; the caller frees them.
+/// over the file with that id. The pairs are of one directory or of two. The entry keeps its struct
+/// and its attributes (DESIGN.md of littlefs, "The move problem"). The first commit copies the
+/// entry under its new name, and sets a move that names the old slot. From then on the old slot
+/// counts as deleted. The second commit deletes the old slot and ends the move. The blocks of a
+/// replaced file's list stay used in the map; the caller frees them.
 ///
-/// An old pair that has no other slot, and isn't the first pair of its directory, is dropped with
-/// the slot. A new pair without room is split into itself and two free blocks.
+/// If the old pair has no other slot, and isn't the first of its directory, it is dropped with the
+/// slot. If the new pair has no room, it is split, and two free blocks are allocated.
 ///
-/// Errors: `NoSpace` where the new pair has no room and fewer than two blocks are free; everything
-/// is as it was then. `Io` where a call of the device failed. `NoMemory` where memory for the
-/// pairs' slots, a copy of the entry and the pairs' blocks isn't granted. After `Io` and `NoMemory`
-/// the thread works on where the entry couldn't be read. Else it has failed, and the device may be
-/// between the two commits, where it shows the new tree.
+/// Errors: `NoSpace` if the new pair has no room and fewer than two blocks are free; nothing was
+/// changed then. `Io` if a device call failed. `NoMemory` if memory for the pairs' slots, a copy of
+/// the entry and the pairs' blocks isn't granted. After `Io` and `NoMemory` the thread hasn't
+/// failed if the entry couldn't be read. Otherwise it has failed, and the device may be between the
+/// two commits, with the new tree.
 pub fn rename_across<D: BlockDevice>(
     alloc: Global,
     thread: &mut Thread<D>,
@@ -278,11 +279,10 @@ pub fn rename_across<D: BlockDevice>(
     move_across(alloc, thread, route, replaces, false, name)
 }
 
-/// Renames an entry of one pair onto an empty directory at an id of another pair, in the same
-/// directory or another one. The directory's own pair has number `gone` in the thread. The call
-/// works as [`rename_across`] onto a file, with two differences. The sync bit is set with the move.
-/// And a third commit drops the directory's own pair, to which no path leads any more, and clears
-/// the bit.
+/// Renames an entry of one pair over an empty directory with an id of another pair, in the same
+/// directory or another one. The replaced directory's own pair has index `gone`. Works as
+/// [`rename_across`] over a file, with two differences: the first commit also sets the sync bit,
+/// and a third one drops the replaced directory's own pair, now an orphan, and clears the bit.
 ///
 /// Errors are those of [`rename_across`].
 pub fn replace_directory_across<D: BlockDevice>(
@@ -304,7 +304,7 @@ pub fn replace_directory_across<D: BlockDevice>(
 {
     let at = thread.blocks_of_pair(gone);
     move_across(alloc, thread, route, true, true, name)?;
-    // Other pairs may have been put in or dropped before it in the thread.
+    // Its index may have changed: other pairs may have been inserted or dropped before it.
     match number_at_address(thread, at) {
         Some(index) => drop_pair_at(alloc, thread, index, &MoveState::none()),
         None => Ok(()),

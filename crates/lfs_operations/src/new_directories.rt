@@ -1,4 +1,4 @@
-// Empty directories that are made.
+// Makes empty directories.
 
 ghost use Rattle.std.specs.Prelude.{◌≡◌, ◌<◌, ◌^◌, ℕ, false, length, Err, OnOk};
 ghost use Rattle.lfs_device.specs.Bytes.{AreByteBlocks};
@@ -23,8 +23,7 @@ use lfs_tag::{MoveState, pair_bytes};
 use lfs_thread::Thread;
 use std::alloc::Global;
 
-// What is known of any device, for the proof: its blocks hold bytes, and a block's number has 32
-// bits.
+// Gives proofs two facts of any device: its blocks hold bytes, and a block's address has 32 bits.
 pub(crate) fn lemma_device_facts<D: BlockDevice>(thread: &Thread<D>)
     ensures count { block_count thread.now.kept.disk < 2 ^ 32 }
     ensures bytes { AreByteBlocks thread.now.kept.disk.blocks }
@@ -32,8 +31,8 @@ pub(crate) fn lemma_device_facts<D: BlockDevice>(thread: &Thread<D>)
     let _count = thread.device().geometry().block_count;
 }
 
-// Returns the number of a directory's last pair: the last one that hard tails lead to from the pair
-// at the index.
+// Returns the index of a directory's last pair: the last one along hard tails from the pair at
+// `index`.
 fn last_directory_pair<D: BlockDevice>(thread: &Thread<D>, index: usize) -> usize
     requires works { thread.now.failed ≡ false }
     requires below { index < length thread.now.kept.pairs }
@@ -46,7 +45,7 @@ fn last_directory_pair<D: BlockDevice>(thread: &Thread<D>, index: usize) -> usiz
     last
 }
 
-// Returns a delta with its sync bit turned. Set in its pair, it turns the sync bit of the global
+// Returns a delta with its sync bit flipped. In its pair, it flips the sync bit of the global
 // state.
 fn turned_sync_delta(delta: &MoveState) -> MoveState
     ensures { move_view result ≡ with_sync_inverted (move_view delta.now) }
@@ -59,8 +58,8 @@ fn turned_sync_delta(delta: &MoveState) -> MoveState
     }
 }
 
-// Puts a fresh pair without slots into the thread, after the last pair of a directory. No entry
-// names it yet, so the sync bit is set.
+// Inserts a fresh pair without slots into the thread, behind the last pair of a directory. Sets the
+// sync bit, since no entry names the pair yet.
 fn link_pair_after<D: BlockDevice>(
     alloc: Global,
     thread: &mut Thread<D>,
@@ -83,12 +82,12 @@ fn link_pair_after<D: BlockDevice>(
             state: turned_sync_delta(&thread.delta(last)),
         },
     ];
-    // The pair has room of its own for tail and delta, so the commit is never refused.
+    // The pair reserves room for tail and delta, so the commit never needs a split.
     thread.thread_in(alloc, last, fresh, &changes)?;
     Ok(())
 }
 
-// Puts an entry with a directory's struct into a pair, and turns the sync bit.
+// Creates an entry with a directory's struct in a pair, and flips the sync bit.
 fn put_directory_entry<'a, D: BlockDevice>(
     alloc: Global,
     thread: &mut Thread<D>,
@@ -122,7 +121,7 @@ fn put_directory_entry<'a, D: BlockDevice>(
     change_or_split(alloc, thread, pair, &changes)
 }
 
-// Puts the entry of the directory that begins at an address into a pair, and clears the sync bit.
+// Creates the entry of the directory that begins at an address in a pair, and clears the sync bit.
 fn put_branch_entry<D: BlockDevice>(
     alloc: Global,
     thread: &mut Thread<D>,
@@ -142,15 +141,15 @@ fn put_branch_entry<D: BlockDevice>(
     put_directory_entry(alloc, thread, pair, id, name, &branch)
 }
 
-/// Makes an empty directory, whose entry is put in at the id of the pair where its name belongs
-/// (DESIGN.md of littlefs, "The metadata tree"). That takes two commits. The first puts the
-/// directory's own pair into the thread, after the parent's last pair, and sets the sync bit. The
-/// second puts in the entry, and clears the bit. A pair without room for the entry is split. The
-/// caller's condition: four blocks are free, two for the directory and two for a split.
+/// Makes an empty directory. Its name must belong at the id of the pair (DESIGN.md of littlefs,
+/// "The metadata tree"). The first commit inserts the directory's own pair into the thread, behind
+/// the parent's last pair, and sets the sync bit. The second creates the entry, and clears the bit.
+/// If the pair has no room for the entry, it is split. Four blocks must be free: two for the
+/// directory, and two for a split.
 ///
-/// Errors: `Io` where a call of the device failed, and `NoMemory` where memory for a pair's slots
-/// and its block isn't granted. The thread has failed then. The new pair may be in the thread
-/// without an entry that names it. Then a recovery drops it.
+/// Errors: `Io` if a device call failed, and `NoMemory` if memory for a pair's slots and its block
+/// isn't granted. The thread has then failed. The new pair may be left in the thread as an orphan,
+/// which a recovery drops.
 pub fn make_directory<D: BlockDevice>(
     alloc: Global,
     thread: &mut Thread<D>,

@@ -1,4 +1,4 @@
-// Empty files that are created.
+// Creates empty files.
 
 ghost use Rattle.std.specs.Prelude.{◌≡◌, ◌≤◌, ◌+◌, false, OnOk};
 ghost use Rattle.lfs_model.specs.session.History.{read_count};
@@ -14,14 +14,13 @@ use lfs_tag::kinds::{FILE_NAME, INLINE_STRUCT};
 use lfs_thread::Thread;
 use std::alloc::Global;
 
-/// Creates an empty file: a slot with an inline struct of no bytes, at the id of the pair where its
-/// name belongs. A pair without room for the slot is split into itself and two free blocks
-/// (DESIGN.md of littlefs, "Metadata pairs"). The call takes at most six reads.
+/// Creates an empty file, a slot with an inline struct of no bytes. Its name must belong at the id
+/// of the pair. If the pair has no room for the slot, it is split, and two free blocks are
+/// allocated (DESIGN.md of littlefs, "Metadata pairs"). Makes at most six reads.
 ///
-/// Errors: `NoSpace` where the pair has no room and fewer than two blocks are free; everything is
-/// as it was then. `Io` where a call of the device failed. `NoMemory` where memory for the pair's
-/// slots and its block isn't granted; nothing was written then. After `Io` and `NoMemory` the
-/// thread has failed.
+/// Errors: `NoSpace` if the pair has no room and fewer than two blocks are free; nothing was
+/// changed then. `Io` if a device call failed. `NoMemory` if memory for the pair's slots and its
+/// block isn't granted; nothing was written then. After `Io` and `NoMemory` the thread has failed.
 pub fn create_file<D: BlockDevice>(
     alloc: Global,
     thread: &mut Thread<D>,

@@ -1,4 +1,4 @@
-// The recovery: what a loss of power left half done is ended.
+// The recovery: completes what a power loss left half done.
 
 ghost use Rattle.std.specs.Prelude.{◌≡◌, ◌<◌, ◌+◌, ◌-◌, ◌&&◌, false, OnOk, length, if◌then◌else◌, IfNone, IfSome, Option, Some};
 ghost use Rattle.lfs_model.specs.crash.PowerLoss.{SurvivesLossSince};
@@ -27,7 +27,7 @@ use lfs_tag::kinds::DELETE;
 use lfs_thread::{Thread, gstate_xor_delta, number_at_address};
 use std::alloc::Global;
 
-// Returns the delta that a pair gets, so that the global state becomes `wanted`.
+// Returns the new delta of a pair by which the global state becomes `wanted`.
 fn delta_for_gstate<D: BlockDevice>(
     thread: &Thread<D>,
     index: usize,
@@ -67,11 +67,12 @@ fn set_gstate_in<D: BlockDevice>(
 {
     lemma_device_facts(thread);
     let state = delta_for_gstate(thread, index, wanted);
-    // The pair has the slots that it had, so the commit is never refused.
+    // The pair keeps its slots, so the commit never needs a split.
     commit_fitting(alloc, thread, index, &[Change::Move { state }])
 }
 
-// Returns the global state that is wanted after a pair is dropped: zero after the last one.
+// Returns the global state after an orphan is dropped: zero after the last one, otherwise as
+// before.
 fn lemma_gstate_zero<D: BlockDevice>(thread: &Thread<D>, is_last: bool) -> MoveState
     requires { thread.now.failed ≡ false }
     ensures { move_view result ≡ gstate_while_dropping thread.now.kept is_last }
@@ -83,7 +84,7 @@ fn lemma_gstate_zero<D: BlockDevice>(thread: &Thread<D>, is_last: bool) -> MoveS
     }
 }
 
-// Clears the sync bit, if it is set. A path leads to each directory then.
+// Clears the sync bit, if it is set. There must be no orphans.
 fn clear_sync_bit<D: BlockDevice>(alloc: Global, thread: &mut Thread<D>) -> Result<(), Error>
     requires works { thread.old.failed ≡ false }
     requires can { CanClearSync thread.old.kept }
@@ -102,17 +103,17 @@ fn clear_sync_bit<D: BlockDevice>(alloc: Global, thread: &mut Thread<D>) -> Resu
     }
 }
 
-/// Drops the pairs of directories that no path leads to, in one commit each, to the pair before it
-/// (DESIGN.md of littlefs, "The move problem"). The last of these commits also clears the sync bit.
-/// Where there is no such pair, a commit of its own clears the bit, if it is set. Nothing is
-/// written where there is nothing to recover.
+/// Drops all orphans, the pairs of directories that no path leads to, each by one commit to the
+/// pair before it (DESIGN.md of littlefs, "The move problem"). The last commit also clears the sync
+/// bit. If there is no orphan, one commit clears the bit, if it is set. Writes nothing if nothing
+/// is to recover.
 ///
-/// The caller's conditions: no move is set, and `unreached` has the numbers of these pairs in the
-/// thread, in rising order. The blocks of the lists that the pairs' slots name stay used; the
-/// caller frees them.
+/// No move may be pending, and `unreached` must have the indices of all orphans in rising order.
+/// The blocks of the lists that the orphans' slots name stay used in the map; the caller frees
+/// them.
 ///
-/// Errors: `Io` where a call of the device failed, and `NoMemory` where memory for a pair's slots
-/// and its block isn't granted. The thread has failed then.
+/// Errors: `Io` if a device call failed, and `NoMemory` if memory for a pair's slots and its block
+/// isn't granted. The thread has then failed.
 pub fn drop_unreached_pairs<D: BlockDevice>(
     alloc: Global,
     thread: &mut Thread<D>,
@@ -135,7 +136,8 @@ pub fn drop_unreached_pairs<D: BlockDevice>(
     clear_sync_bit(alloc, thread)
 }
 
-// Returns the number of the pair whose slot a set move names. Returns None where no move is set.
+// Returns the index of the pair whose slot a pending move names. Returns None if no move is
+// pending.
 fn moved_slot_pair<D: BlockDevice>(thread: &Thread<D>, state: &MoveState) -> Option<usize>
     requires accepted { IsAccepted thread.now.kept.disk thread.now.kept.pairs }
     requires state { move_view state.now ≡ pairs_gstate thread.now.kept.pairs }
@@ -148,7 +150,7 @@ fn moved_slot_pair<D: BlockDevice>(thread: &Thread<D>, state: &MoveState) -> Opt
     number_at_address(thread, state.pair)
 }
 
-// Returns whether a pair has one slot, and a hard tail names the pair.
+// Returns whether a pair has only one slot, and is behind a hard tail.
 fn drops_if_emptied<D: BlockDevice>(thread: &Thread<D>, index: usize) -> bool
     requires works { thread.now.failed ≡ false }
     requires below { index < length thread.now.kept.pairs }
@@ -157,12 +159,12 @@ fn drops_if_emptied<D: BlockDevice>(thread: &Thread<D>, index: usize) -> bool
     index > 0 && thread.slot_count(index) == 1 && is_tail_hard(thread, index - 1)
 }
 
-/// Ends a set move in one commit: the slot that the move names is removed (DESIGN.md of littlefs,
-/// "The move problem"). Where it is the only slot of a pair that isn't the first of its directory,
-/// the pair is dropped. Nothing is written where no move is set.
+/// Ends a pending move by one commit, which deletes the slot that the move names (DESIGN.md of
+/// littlefs, "The move problem"). If it is the only slot of a pair that isn't the first of its
+/// directory, the pair is dropped. Writes nothing if no move is pending.
 ///
-/// Errors: `Io` where a call of the device failed, and `NoMemory` where memory for a pair's slots
-/// and its block isn't granted. The thread has failed then.
+/// Errors: `Io` if a device call failed, and `NoMemory` if memory for a pair's slots and its block
+/// isn't granted. The thread has then failed.
 pub fn end_move<D: BlockDevice>(alloc: Global, thread: &mut Thread<D>) -> Result<(), Error>
     requires works { thread.old.failed ≡ false }
     requires can { CanEndMove thread.old.kept }

@@ -1,4 +1,4 @@
-// Entries that get another name and stay in their pair.
+// Renames within a pair.
 
 ghost use Rattle.std.specs.Prelude.{◌≡◌, ◌∷◌, ◌++◌, IfOk, OnOk, false};
 ghost use Rattle.lfs_model.specs.layers.Changes.{Delete};
@@ -19,14 +19,14 @@ use lfs_pair::Change;
 use lfs_thread::Thread;
 use std::alloc::{AllocError, Global};
 
-// Returns a place among slots after the slot at an id was removed.
+// Returns the id `place` after the slot with another id was deleted.
 pub(crate) fn id_after_removed(id: u16, place: u16) -> u16
     ensures { result ≡ id_after_removal id place }
 {
     if id < place { place - 1 } else { place }
 }
 
-// Returns the changes that remove the slot at an id, and put in its copy at a place.
+// Returns the changes that delete the slot with an id, and create its copy at another id.
 fn renaming_changes<'a>(
     alloc: Global,
     id: u16,
@@ -44,26 +44,26 @@ fn renaming_changes<'a>(
     Ok(changes)
 }
 
-/// A place among the slots of a pair.
+/// Where an entry moves to in its pair.
 #[derive(Clone, Copy)]
 pub struct PairPlace {
-    /// The id at which a slot is put in, while the old one is still there.
+    /// The new id, counted while the old slot is still there.
     pub id: u16,
-    /// Whether the slot that is there is replaced.
+    /// Whether it replaces the slot with that id.
     pub replaces: bool,
 }
 
-/// Renames the entry at the id of a pair to a name that belongs at a place of the same pair, or onto
-/// the file there. The entry keeps its struct and its attributes. One commit removes its slot, and
-/// the file's, and puts in its copy under the new name (DESIGN.md of littlefs, "The move problem").
-/// A pair without room is split into itself and two free blocks. The blocks of the file's list stay
-/// used in the map; the caller frees them.
+/// Renames the entry with the id of a pair to a name that belongs at another id of the same pair,
+/// or over the file with that id. The entry keeps its struct and its attributes. One commit deletes
+/// its slot, and the file's, and creates its copy under the new name (DESIGN.md of littlefs, "The
+/// move problem"). If the pair has no room, it is split, and two free blocks are allocated. The
+/// blocks of a replaced file's list stay used in the map; the caller frees them.
 ///
-/// Errors: `NoSpace` where the pair has no room and fewer than two blocks are free; everything is
-/// as it was then. `Io` where a call of the device failed. `NoMemory` where memory for the pair's
-/// slots, a copy of the entry and the pair's block isn't granted; nothing was written then. After
-/// `Io` and `NoMemory` the thread has failed, unless the entry couldn't be read and copied. Then
-/// the thread is as it was.
+/// Errors: `NoSpace` if the pair has no room and fewer than two blocks are free; nothing was
+/// changed then. `Io` if a device call failed. `NoMemory` if memory for the pair's slots, a copy of
+/// the entry and the pair's block isn't granted; nothing was written then. After `Io` and
+/// `NoMemory` the thread has failed, unless the entry couldn't be read and copied; then the thread
+/// is as it was.
 pub fn rename<D: BlockDevice>(
     alloc: Global,
     thread: &mut Thread<D>,

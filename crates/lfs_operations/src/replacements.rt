@@ -1,4 +1,4 @@
-// Entries that replace a directory of their pair.
+// Renames over a directory of the same pair.
 
 ghost use Rattle.std.specs.Prelude.{◌≡◌, ◌-◌, ◌∷◌, IfOk, OnOk, false};
 ghost use Rattle.lfs_model.specs.layers.Changes.{Delete, PutMove};
@@ -25,8 +25,8 @@ use lfs_tag::MoveState;
 use lfs_thread::{Thread, gstate_xor_delta};
 use std::alloc::{AllocError, Global};
 
-// Returns the changes that set a delta, remove the slots at an id and a place, and put in a copy of
-// the first at the place.
+// Returns the changes that set a delta, delete the slots with the ids `id` and `place`, and create
+// a copy of the first one at `place`.
 fn changes_replacing_directory<'a>(
     alloc: Global,
     state: MoveState,
@@ -46,13 +46,13 @@ fn changes_replacing_directory<'a>(
     Ok(changes)
 }
 
-// Renames the entry at the id of a pair onto a directory of the same pair and directory. The
-// directory's own pair stays in the thread. No path leads to it then, so the sync bit is set with
-// the commit (DESIGN.md of littlefs, "The move problem"). `place` is the directory's id.
+// Renames the entry with the id of a pair over a directory of the same pair and parent. `place` is
+// that directory's id. Its own pair stays in the thread as an orphan, so the commit sets the sync
+// bit (DESIGN.md of littlefs, "The move problem").
 //
-// Errors: `Io` where a call of the device failed. `NoMemory` where memory for the pair's slots, a
-// copy of the entry and the pair's block isn't granted; nothing was written then. The thread has
-// failed after either, unless the entry couldn't be read and copied. Then the thread is as it was.
+// Errors: `Io` if a device call failed. `NoMemory` if memory for the pair's slots, a copy of the
+// entry and the pair's block isn't granted; nothing was written then. The thread has failed after
+// either, unless the entry couldn't be read and copied; then the thread is as it was.
 pub(crate) fn rename_over_directory<D: BlockDevice>(
     alloc: Global,
     thread: &mut Thread<D>,
@@ -72,8 +72,8 @@ pub(crate) fn rename_over_directory<D: BlockDevice>(
     let copy = copy_pair_slot(alloc, thread, pair, id)?;
     let state = gstate_xor_delta(&thread.delta(pair), &delta_turning_sync());
     let changes = changes_replacing_directory(alloc, state, id, place, name, &copy)?;
-    // Two slots are replaced by one, with the name of the one and the rest of the other. So the
-    // commit is never refused.
+    // Two slots are replaced by one, with the name of the one and the rest of the other, so the
+    // commit never needs a split.
     commit_fitting(alloc, thread, pair, &changes)
 }
 
@@ -82,19 +82,19 @@ pub(crate) fn rename_over_directory<D: BlockDevice>(
 pub struct EmptyDirectory {
     /// The id of its entry.
     pub id: u16,
-    /// The number of its own pair in the thread.
+    /// The index of its own pair in the thread.
     pub own_pair: usize,
 }
 
-/// Renames the entry at the id of a pair onto an empty directory of the same pair and directory.
-/// The entry gets the directory's name, and keeps its own struct and attributes. The first commit
-/// sets the sync bit. The second drops the directory's own pair, to which no path leads any more,
-/// and clears the bit (DESIGN.md of littlefs, "The move problem").
+/// Renames the entry with the id of a pair over an empty directory of the same pair and parent. The
+/// entry gets that directory's name, and keeps its own struct and attributes. The first commit also
+/// sets the sync bit. The second drops the replaced directory's own pair, now an orphan, and clears
+/// the bit (DESIGN.md of littlefs, "The move problem").
 ///
-/// Errors: `Io` where a call of the device failed, and `NoMemory` where memory for a pair's slots,
-/// a copy of the entry and a pair's block isn't granted. The thread has failed then, unless the
-/// entry couldn't be read and copied. Then the thread is as it was. After an error the device may
-/// be between the two commits, where it shows the new tree.
+/// Errors: `Io` if a device call failed, and `NoMemory` if memory for a pair's slots, a copy of the
+/// entry and a pair's block isn't granted. The thread has then failed, unless the entry couldn't be
+/// read and copied; then the thread is as it was. After an error the device may be between the two
+/// commits, with the new tree.
 pub fn rename_onto_directory<D: BlockDevice>(
     alloc: Global,
     thread: &mut Thread<D>,

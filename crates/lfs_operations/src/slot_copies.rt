@@ -1,4 +1,4 @@
-// Copies of slots, which are written elsewhere.
+// Copies of slots, to be written to another id or pair.
 
 ghost use Rattle.std.specs.Prelude.{◌≡◌, ◌<◌, ◌++◌, Some, IfErr, IfOk, IsSome, OnOk, false, length, map};
 ghost use Rattle.lfs_model.specs.format.Content.{RawContent, content_after, empty_raw_content, slot_of_id};
@@ -18,14 +18,14 @@ use lfs_tag::{Attribute, Content, Log, NameOrStruct, Slot};
 use lfs_thread::Thread;
 use std::alloc::{AllocError, Global};
 
-// The type and the bytes of a struct.
+// A copy of a struct: its type and its bytes.
 #[derive(Drop)]
 pub(crate) struct StructCopy {
     kind: u16,
     bytes: Vec<u8>,
 }
 
-// The type and the bytes of an attribute.
+// A copy of an attribute: its type and its bytes.
 #[derive(Drop)]
 pub(crate) struct AttributeCopy {
     kind: u8,
@@ -89,7 +89,7 @@ fn copy_slot(alloc: Global, slot: &Slot<'_>) -> Result<SlotCopy, AllocError>
     })
 }
 
-// Copies the slot at an id of a log.
+// Copies the slot with an id of a log, without its name.
 fn copy_log_slot(alloc: Global, log: &Log<'_>, id: u16) -> Result<SlotCopy, Error>
     requires { (content : ModelContent) × (IsContentLog log.now content × (id < length content.slots)) }
     ensures copied { (raw : RawContent) → content_after empty_raw_content (block_entries log.now) ≡ Some raw → IfOk result (λ copy. slot_copy_view copy ≡ nameless_of (slot_of_id raw.slots id)) }
@@ -100,7 +100,8 @@ fn copy_log_slot(alloc: Global, log: &Log<'_>, id: u16) -> Result<SlotCopy, Erro
     Ok(copy)
 }
 
-// Copies the slot at an id of a pair. After an error the thread works on, too.
+// Copies the slot with an id of a pair, without its name. The thread doesn't fail, even after an
+// error.
 pub(crate) fn copy_pair_slot<D: BlockDevice>(
     alloc: Global,
     thread: &mut Thread<D>,
@@ -119,7 +120,7 @@ pub(crate) fn copy_pair_slot<D: BlockDevice>(
     Ok(copy)
 }
 
-// Adds the changes that put in a copied slot at an id, under that name.
+// Appends the changes that create a copied slot at an id, under a new name.
 pub(crate) fn push_slot_changes<'a>(
     changes: &mut Vec<Change<'a>>,
     id: u16,

@@ -1,4 +1,4 @@
-// Structs of files, which are set.
+// Sets structs of files.
 
 ghost use Rattle.std.specs.Prelude.{◌≡◌, ◌∷◌, [], false, OnOk};
 ghost use Rattle.lfs_model.specs.layers.Changes.{PutStruct};
@@ -13,11 +13,11 @@ use lfs_pair::Change;
 use lfs_thread::Thread;
 use std::alloc::Global;
 
-/// Sets the struct of the file at the id of a pair: its bytes themselves, or the head and the size
-/// of a list that is on the device (SPEC.md of littlefs, "0x2xx LFS_TYPE_STRUCT"). A pair without
-/// room for it is split into itself and two free blocks.
+/// Sets the struct of the file with the id of a pair: its inline bytes, or the head and the size of
+/// a CTZ skip list that is on the device (SPEC.md of littlefs, "0x2xx LFS_TYPE_STRUCT"). If the
+/// pair has no room for it, it is split, and two free blocks are allocated.
 ///
-/// The map isn't changed for the lists: the new list's blocks that were in flight stay so, and
+/// Doesn't settle the lists in the map: the new list's blocks that were in flight stay so, and the
 /// blocks that only the old list has stay used. The caller settles them.
 ///
 /// Errors are those of [`create_file`](crate::create_file).

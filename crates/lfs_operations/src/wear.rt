@@ -1,4 +1,4 @@
-// Worn pairs that move to other blocks.
+// Wear leveling: relocates worn pairs.
 
 ghost use Rattle.std.specs.Prelude.{◌≡◌, ◌<◌, ◌-◌, Any, false, length, IfOk, IfSome, OnOk};
 ghost use Rattle.std.specs.Bool.{OnTrue};
@@ -16,19 +16,19 @@ use lfs_device::{BlockDevice, Error};
 use lfs_thread::{Thread, number_at_address};
 use std::alloc::Global;
 
-/// What is noted before an operation, so that a worn pair may move after it.
+/// A plan to relocate a worn pair after an operation, made before it.
 #[derive(Clone, Copy, Drop)]
 pub struct MovePlan {
-    /// Two free blocks, where the pair goes.
+    /// Two free blocks for the pair.
     pub fresh: [u32; 2],
-    /// The blocks of the pair that the move commits to.
+    /// The blocks of the pair to which the relocation commits.
     pub at: [u32; 2],
-    /// How many blocks may be used afterwards, where the move takes more.
+    /// How many blocks may be used afterwards, if the relocation uses more than before.
     pub limit: u32,
 }
 
-// Returns whether the revision of the pair's log is a multiple of the profile's `pair_cycles`.
-// Where these are 0, no pair is worn.
+// Returns whether a pair is worn: the revision of its log is a multiple of the profile's
+// `pair_cycles`. If that is 0, no pair is worn.
 fn is_worn_pair<D: BlockDevice>(thread: &Thread<D>, index: usize) -> bool
     requires works { thread.now.failed ≡ false }
     requires below { index < length thread.now.kept.pairs }
@@ -38,7 +38,7 @@ fn is_worn_pair<D: BlockDevice>(thread: &Thread<D>, index: usize) -> bool
     cycles != 0 && thread.revision(index) % cycles == 0
 }
 
-// Returns whether the pair is worn, or with `soon` is so after one more erase.
+// Returns whether the pair is worn, or with `soon` would be after one more erase.
 fn is_due<D: BlockDevice>(thread: &Thread<D>, index: usize, soon: bool) -> bool
     requires works { thread.now.failed ≡ false }
     requires below { index < length thread.now.kept.pairs }
@@ -48,7 +48,7 @@ fn is_due<D: BlockDevice>(thread: &Thread<D>, index: usize, soon: bool) -> bool
     cycles != 0 && revision % cycles as u64 == 0
 }
 
-// Returns whether two more blocks may be used, so that an eighth of the blocks still isn't.
+// Returns whether an eighth of the blocks stays free if two more are used.
 fn has_unload_room<D: BlockDevice>(thread: &Thread<D>, limit: u32) -> bool
     ensures { OnTrue result (HasUnloadRoom thread.now.kept limit) }
 {
@@ -56,7 +56,7 @@ fn has_unload_room<D: BlockDevice>(thread: &Thread<D>, limit: u32) -> bool
     used <= limit as u64 && 8 * used <= 7 * thread.geometry().block_count as u64
 }
 
-// Returns whether the pair has slots, and begins a directory behind the root.
+// Returns whether the pair has slots, and begins a directory other than the root.
 fn begins_behind_root<D: BlockDevice>(thread: &Thread<D>, root: usize, index: usize) -> bool
     requires works { thread.now.failed ≡ false }
     requires below { index < length thread.now.kept.pairs }
@@ -65,8 +65,8 @@ fn begins_behind_root<D: BlockDevice>(thread: &Thread<D>, root: usize, index: us
     index > root && thread.next(index - 1).is_none() && thread.slot_count(index) > 0
 }
 
-// Returns the number of the pair that would be committed to, so that the pair of a number moves.
-// Returns None where that can't move.
+// Returns the index of the pair to which the relocation of the pair at `index` commits. Returns
+// None if that pair can't be relocated.
 fn committed_by_move<D: BlockDevice>(thread: &Thread<D>, root: usize, index: usize) -> Option<usize>
     requires works { thread.now.failed ≡ false }
     requires below { index < length thread.now.kept.pairs }
@@ -83,8 +83,8 @@ fn committed_by_move<D: BlockDevice>(thread: &Thread<D>, root: usize, index: usi
     }
 }
 
-// Returns the blocks of the pair that the move of a due pair commits to. The search begins with the
-// pair of number `start`, modulo their number.
+// Returns the blocks of the pair to which the relocation of a due pair commits. The search begins
+// with the pair of index `start`, modulo the number of pairs.
 fn find_due<D: BlockDevice>(
     thread: &Thread<D>,
     root: usize,
@@ -106,7 +106,7 @@ fn find_due<D: BlockDevice>(
     None
 }
 
-// Returns a number that each compaction of a pair changes.
+// Returns a number that changes with each compaction of a pair.
 fn revisions_sum<D: BlockDevice>(thread: &Thread<D>) -> usize
     requires { thread.now.failed ≡ false }
 {
@@ -117,8 +117,9 @@ fn revisions_sum<D: BlockDevice>(thread: &Thread<D>) -> usize
     sum as usize
 }
 
-// Returns the blocks of the pair that a move commits to. A worn pair comes first. Those that wear
-// soon come by turns, so that one which isn't written keeps no other from moving.
+// Returns the blocks of the pair to which a relocation commits. Prefers a worn pair. Takes turns
+// among those that would be worn after one more erase, so that one which is never written doesn't
+// keep the others from being relocated.
 fn find_wearing<D: BlockDevice>(thread: &Thread<D>, root: usize) -> Option<[u32; 2]>
     requires { thread.now.failed ≡ false }
     ensures { IfSome result (λ at. Any (λ p. p.at ≡ address_view at) thread.now.kept.pairs) }
@@ -132,7 +133,7 @@ fn find_wearing<D: BlockDevice>(thread: &Thread<D>, root: usize) -> Option<[u32;
     }
 }
 
-// Finds two free blocks, which stay free. Returns None where fewer than two are free.
+// Finds two free blocks, without allocating them. Returns None if fewer than two are free.
 fn find_two_free<D: BlockDevice>(thread: &mut Thread<D>) -> Option<[u32; 2]>
     ensures free { IfSome result (λ fresh. AreTwoFree thread.old.kept.map (address_view fresh)) }
     ensures same { thread.new ≡ thread.old }
@@ -145,12 +146,12 @@ fn find_two_free<D: BlockDevice>(thread: &mut Thread<D>) -> Option<[u32; 2]>
     Some(fresh)
 }
 
-/// Plans the move of a worn pair, before an operation that takes at most `room` blocks. Returns None
-/// where no pair is worn, or is so after one more erase. So it does where such a pair can't move, and
-/// where fewer than two blocks are free. The device isn't called.
+/// Plans the relocation of a worn pair, before an operation that allocates at most `room` blocks.
+/// Returns None if no pair that can be relocated is worn, or would be after one more erase, or if
+/// fewer than two blocks are free. Does not access the device.
 ///
-/// A pair is worn where the revision of its log is a multiple of the profile's `pair_cycles`
-/// (`block_cycles` of littlefs). Where these are 0, none is.
+/// A pair is worn if the revision of its log is a multiple of the profile's `pair_cycles`
+/// (`block_cycles` of littlefs). If that is 0, none is.
 pub fn plan_move<D: BlockDevice>(thread: &mut Thread<D>, root: usize, room: u32) -> Option<MovePlan>
     requires works { thread.old.failed ≡ false }
     ensures plan { IfSome result (IsPlanFor thread.old.kept room) }
@@ -166,9 +167,9 @@ pub fn plan_move<D: BlockDevice>(thread: &mut Thread<D>, root: usize, room: u32)
     Some(MovePlan { fresh, at, limit })
 }
 
-// Moves a worn pair, whole, to two free blocks. The pair follows a hard tail, which then names its
-// new place. So it isn't the first pair of its directory, or it is the root's behind the
-// superblock's pairs. Its old blocks are free afterwards, and its revision goes on.
+// Relocates a worn pair to two free blocks. The pair must be behind a hard tail, which then names
+// the new blocks: it isn't the first pair of its directory, or it is the root's, behind the
+// superblock's pairs. Frees its old blocks, and continues its revision.
 fn move_pair<D: BlockDevice>(
     alloc: Global,
     thread: &mut Thread<D>,
@@ -188,9 +189,9 @@ fn move_pair<D: BlockDevice>(
     Ok(())
 }
 
-// Gives all slots of a worn pair to a pair behind it, in two free blocks. The worn pair is the
-// first one of a directory that isn't the root, and stays without slots. The pair behind it can
-// then move.
+// Moves all slots of a worn pair to a new pair behind it, in two free blocks. The worn pair must be
+// the first one of a directory other than the root, and stays, without slots. The new pair can be
+// relocated later.
 fn unload_pair<D: BlockDevice>(
     alloc: Global,
     thread: &mut Thread<D>,
@@ -210,9 +211,9 @@ fn unload_pair<D: BlockDevice>(
     Ok(())
 }
 
-// Lets the root directory begin behind the thread's first pair, which is worn, in two free blocks.
-// All slots go there, with a copy of the superblock. The first pair keeps the superblock alone.
-// The root's first pair can then move.
+// Extends the superblock chain if the thread's first pair is worn: all slots move to a new pair
+// behind it, in two free blocks, with a copy of the superblock. There the root directory begins
+// then. The first pair keeps only the superblock. The root's new first pair can be relocated later.
 fn expand_root<D: BlockDevice>(
     alloc: Global,
     thread: &mut Thread<D>,
@@ -231,15 +232,15 @@ fn expand_root<D: BlockDevice>(
     Ok(())
 }
 
-/// Moves at most one worn pair, after an operation before which the move was planned (DESIGN.md of
-/// littlefs, "Wear leveling"). Returns the number of the root directory's first pair, which is one
-/// more where the root directory begins behind the thread's first pair now.
+/// Relocates at most one worn pair, after an operation before which that was planned (DESIGN.md of
+/// littlefs, "Wear leveling"). Returns the index of the root directory's first pair, which is one
+/// more than before if the superblock chain was extended.
 ///
-/// A pair behind a hard tail goes to the two blocks whole. The first pair of a directory, and that of
-/// the thread, give their slots to a pair there, where an eighth of the blocks stays free.
+/// A pair behind a hard tail is relocated to the two blocks. The slots of a directory's first pair,
+/// and of the thread's, move to a new pair there, if an eighth of the blocks stays free.
 ///
-/// Errors: `Io` where a call of the device failed, and `NoMemory` where memory for a pair's block
-/// isn't granted. The thread has failed then, and the image shows the same tree.
+/// Errors: `Io` if a device call failed, and `NoMemory` if memory for a pair's block isn't granted.
+/// The thread has then failed, and the image has the same tree.
 pub fn relocate<D: BlockDevice>(
     alloc: Global,
     thread: &mut Thread<D>,

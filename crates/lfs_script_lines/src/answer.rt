@@ -3,7 +3,7 @@
 use lfs_device::Error;
 use lfs_fs::Reply;
 
-/// How many calls a device had, with those that failed.
+/// How many calls a device had, and how many of them failed.
 #[derive(Clone, Copy)]
 pub struct DeviceCallCounts {
     pub reads: u64,
@@ -13,10 +13,10 @@ pub struct DeviceCallCounts {
     pub faults: u64,
 }
 
-/// A difference of two sessions. Paths are bytes.
+/// A difference between two sessions. Paths are bytes.
 #[derive(Drop)]
 pub enum SessionDifference {
-    /// The entry at a path: nothing, a file of a size, or a directory.
+    /// The entry at a path: its kind, a file's size, or whether there is one.
     Entry(Vec<u8>),
     /// The bytes of the file at a path.
     Bytes(Vec<u8>),
@@ -33,7 +33,7 @@ pub enum SessionDifference {
 /// The answer to a command of a script.
 #[derive(Drop)]
 pub enum Answer {
-    /// A session's reply. It is `Done`, too, after a command that isn't an operation.
+    /// A session's reply; `Done` also after a command that isn't an operation.
     Reply(Reply),
     /// The file system failed.
     Error(Error),
@@ -44,8 +44,8 @@ pub enum Answer {
     /// A file could not be written.
     Output,
     Calls(DeviceCallCounts),
-    /// Nothing differs.
+    /// The sessions don't differ.
     Same,
-    /// What differs first.
+    /// The first difference.
     Differs(SessionDifference),
 }

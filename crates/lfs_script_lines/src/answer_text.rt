@@ -7,7 +7,7 @@ use lfs_fs::{Gstate, Item, Kind, Reply};
 use std::io;
 use std::io::Write;
 
-// Adds a word, and an error's name and number.
+// Appends a word, and an error's name and number.
 fn push_error(text: &mut Vec<u8>, word: &str, error: Error) -> io::Result<()> {
     write!(text, "{} {} {}", word, error.name(), error.number())
 }
@@ -80,10 +80,10 @@ fn push_session_difference(text: &mut Vec<u8>, difference: &SessionDifference) -
     }
 }
 
-/// Adds the line that shows an answer, without its end.
+/// Appends the line that prints an answer, without its newline.
 ///
 /// # Errors
-/// - `OutOfMemory` where there is no memory for the line.
+/// - `OutOfMemory` if memory for the line can't be allocated.
 pub fn push_answer(text: &mut Vec<u8>, answer: &Answer) -> io::Result<()> {
     match answer {
         Answer::Reply(reply) => push_reply(text, reply),

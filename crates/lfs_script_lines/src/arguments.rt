@@ -1,4 +1,4 @@
-// The words behind a command's name. A word that isn't there is read as an empty one.
+// Parses the words behind a command's name. A missing word is read as an empty one.
 
 ghost use Rattle.std.specs.Prelude.{◌≤◌};
 
@@ -10,7 +10,7 @@ use lfs_fs::OpenFlags;
 use std::alloc::Global;
 use std::str;
 
-// Returns the word at a place.
+// Returns the word at an index.
 pub(crate) fn word_at<'a>(words: &[&'a [u8]], place: usize) -> &'a [u8] {
     match words.get(place) {
         Some(word) => word,
@@ -18,7 +18,7 @@ pub(crate) fn word_at<'a>(words: &[&'a [u8]], place: usize) -> &'a [u8] {
     }
 }
 
-// Returns the number below 2^32 of a word in a base. No sign is before its digits.
+// Parses a number below 2^32 in a base, without a sign.
 pub(crate) fn read_number(word: &[u8], base: u32) -> Option<u32>
     requires low { 2 ≤ base }
     requires high { base ≤ 36 }
@@ -32,12 +32,13 @@ pub(crate) fn read_number(word: &[u8], base: u32) -> Option<u32>
     }
 }
 
-// Returns the refusal of a word that isn't what stands at its place.
+// Returns the refusal of the word at an index, which isn't of the kind that the command needs
+// there.
 fn no_such_word(place: usize, kind: &'static str) -> LineError {
     LineError::Refused(LineObjection::Word(place, kind))
 }
 
-// Returns the decimal number at a place.
+// Parses the word at an index as a decimal number.
 pub(crate) fn number_at(words: &[&[u8]], place: usize) -> Result<u32, LineError> {
     match read_number(word_at(words, place), 10) {
         Some(number) => Ok(number),
@@ -45,7 +46,7 @@ pub(crate) fn number_at(words: &[&[u8]], place: usize) -> Result<u32, LineError>
     }
 }
 
-// Returns the flags at a place, in hexadecimal.
+// Parses the word at an index as flags in hexadecimal.
 pub(crate) fn flags_at(words: &[&[u8]], place: usize) -> Result<OpenFlags, LineError> {
     match read_number(word_at(words, place), 16) {
         Some(bits) => Ok(OpenFlags::from_bits_retain(bits)),
@@ -53,7 +54,7 @@ pub(crate) fn flags_at(words: &[&[u8]], place: usize) -> Result<OpenFlags, LineE
     }
 }
 
-// Returns the byte at a place, in hexadecimal.
+// Parses the word at an index as a byte in hexadecimal.
 pub(crate) fn byte_at(words: &[&[u8]], place: usize) -> Result<u8, LineError> {
     match read_number(word_at(words, place), 16) {
         Some(number) if number < 256 => Ok(number as u8),
@@ -61,7 +62,7 @@ pub(crate) fn byte_at(words: &[&[u8]], place: usize) -> Result<u8, LineError> {
     }
 }
 
-// Returns the bytes of the word at a place.
+// Parses the word at an index as bytes.
 pub(crate) fn bytes_at(alloc: Global, words: &[&[u8]], place: usize) -> Result<Vec<u8>, LineError> {
     match read_word(alloc, word_at(words, place))? {
         Some(bytes) => Ok(bytes),

@@ -4,77 +4,77 @@ use lfs_device::{Erased, PlannedFault};
 use lfs_fs::OpenFlags;
 use lfs_model::{NameOrder, Profile};
 
-/// How much of two sessions is compared.
+/// How much of two sessions a comparison covers.
 #[derive(Clone, Copy)]
 pub enum ComparisonScope {
-    /// All that they reply.
+    /// Everything.
     Whole,
-    /// All but the attributes of other types than this one.
+    /// Everything except the attributes of other types than this one.
     Kind(u8),
-    /// All but attributes and the bytes of files.
+    /// Everything except attributes and the bytes of files.
     Entries,
 }
 
-/// The command of a line of a script. Sizes are in bytes, and nothing is checked against a device
-/// yet.
+/// A command of a script. Sizes are in bytes. Nothing is checked against a device yet.
 #[derive(Drop)]
 pub enum Command {
-    /// A blank device, made an empty file system.
+    /// Formats a new, blank device.
     Fresh {
         block_size: u32,
         page: u32,
         block_count: u32,
-        /// Which of two names comes first where one is the beginning of the other.
+        /// Whether a name that is a prefix of another one comes before or after it.
         order: NameOrder,
-        /// What its erases leave.
+        /// What the device's erases leave.
         erased: Erased,
     },
-    /// A device with the bytes of a file, mounted.
+    /// Mounts a new device with the bytes of a file.
     Image {
         block_size: u32,
         page: u32,
         /// The file's path.
         file: Vec<u8>,
-        /// What its erases leave.
+        /// What the device's erases leave.
         erased: Erased,
     },
-    /// What is accepted of the devices that are made from now on, and how these are written.
+    /// Sets the profile of the devices that are made from now on.
     Profile(Profile),
-    /// The devices that are made from now on say which bytes are blank.
+    /// Lets the devices that are made from now on say which bytes are blank.
     BlankChecks,
-    /// The end of the session.
+    /// Ends the session.
     Unmount,
-    /// A session over the device in hand, one of whose calls will fail.
+    /// Mounts the script's device again. One of its calls will fail.
     Mount(PlannedFault),
-    /// The device in hand, made an empty file system. One of its calls will fail.
+    /// Formats the script's device. One of its calls will fail.
     Format(PlannedFault),
-    /// These bytes over those of the device in hand, from a byte of a block on.
+    /// Overwrites bytes of the script's device, from an offset in a block on.
     Put {
         block: u32,
         offset: u32,
         bytes: Vec<u8>,
-        /// What its erases leave.
+        /// What the device's erases leave.
         erased: Erased,
     },
-    /// So many bytes of the device in hand, from a byte of a block on.
+    /// Prints bytes of the script's device, from an offset in a block on.
     Bytes {
         block: u32,
         offset: u32,
         count: u32,
     },
-    /// The device's bytes, into the file at a path.
+    /// Writes the device's bytes to the file at a path.
     Save(Vec<u8>),
-    /// How many calls the device had.
+    /// Prints how many calls the device had.
     Calls,
-    /// The first difference between the session and one on a copy of its device.
+    /// Prints the first difference between the session and one on a copy of its device.
     Compare(ComparisonScope),
-    /// The first difference between the session and one on a device with the bytes of a file.
+    /// Prints the first difference between the session and one on a device with the bytes of a
+    /// file.
     CompareWith(Vec<u8>),
-    /// An operation of the session.
+    /// Performs an operation of the session.
     Perform(Operation),
 }
 
-/// An operation of a session, as a script gives it. Paths, contents and names are bytes.
+/// An operation of a session, as parsed. Paths, contents and names are bytes.
 #[derive(Drop)]
 pub enum Operation {
     Open(Vec<u8>, OpenFlags),

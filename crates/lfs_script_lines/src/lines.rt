@@ -1,4 +1,4 @@
-// Lines that are commands.
+// Parses lines into commands.
 
 use crate::arguments::{bytes_at, number_at, word_at};
 use crate::command::Command;
@@ -10,12 +10,12 @@ use crate::options::{
 use crate::refusal::LineObjection;
 use std::alloc::{AllocError, AllocFailed, Global};
 
-/// The cause for which there is no command of a line.
+/// Why a line couldn't be parsed.
 #[derive(Clone, Copy)]
 pub enum LineError {
-    /// The line is no command, for this reason.
+    /// The line isn't a command, for this reason.
     Refused(LineObjection),
-    /// A growth was refused.
+    /// An allocation failed.
     NoMemory,
 }
 
@@ -31,7 +31,7 @@ impl<T: Drop> From<AllocFailed<T>> for LineError {
     }
 }
 
-// Returns a blank device.
+// Parses the words of `fresh`.
 fn fresh_command(words: &[&[u8]]) -> Result<Command, LineError> {
     let block_size = number_at(words, 1)?;
     let page = number_at(words, 2)?;
@@ -46,7 +46,7 @@ fn fresh_command(words: &[&[u8]]) -> Result<Command, LineError> {
     })
 }
 
-// Returns a device with the bytes of a file.
+// Parses the words of `image`.
 fn image_command(alloc: Global, words: &[&[u8]]) -> Result<Command, LineError> {
     let block_size = number_at(words, 1)?;
     let page = number_at(words, 2)?;
@@ -60,7 +60,7 @@ fn image_command(alloc: Global, words: &[&[u8]]) -> Result<Command, LineError> {
     })
 }
 
-// Returns bytes over those of a device.
+// Parses the words of `put`.
 fn put_command(alloc: Global, words: &[&[u8]]) -> Result<Command, LineError> {
     let block = number_at(words, 1)?;
     let offset = number_at(words, 2)?;
@@ -74,7 +74,7 @@ fn put_command(alloc: Global, words: &[&[u8]]) -> Result<Command, LineError> {
     })
 }
 
-// Returns which bytes of a device are shown.
+// Parses the words of `bytes`.
 fn bytes_command(words: &[&[u8]]) -> Result<Command, LineError> {
     let block = number_at(words, 1)?;
     let offset = number_at(words, 2)?;
@@ -86,7 +86,7 @@ fn bytes_command(words: &[&[u8]]) -> Result<Command, LineError> {
     })
 }
 
-// Returns the command of that name.
+// Parses the words of the command of that name.
 fn command_of_words(
     alloc: Global,
     name: CommandName,
@@ -110,8 +110,7 @@ fn command_of_words(
     }
 }
 
-// Returns the name of a line's command, where no two spaces stand side by side and it has as many words
-// as the command takes.
+// Parses the name of a line's command. Refuses two adjacent spaces, and too few or too many words.
 fn name_of_words(words: &[&[u8]]) -> Result<CommandName, LineError> {
     if words.iter().any(|word| word.is_empty()) {
         return Err(LineError::Refused(LineObjection::Line("two spaces stand side by side")));
@@ -158,14 +157,14 @@ fn trimmed_line(line: &[u8]) -> &[u8] {
     without_spaces_around(without_trailing_byte(without_trailing_byte(line, b'\n'), b'\r'))
 }
 
-/// Returns the command of a line. Returns None where the line is empty or begins with `#`.
+/// Parses the command of a line. Returns None if the line is empty or begins with `#`.
 ///
-/// The line may be given with its newline, and with a CR before it. These and the spaces at both
-/// its ends don't count.
+/// The line may end in a newline, and in a CR before it. These and the spaces at both ends are
+/// ignored.
 ///
 /// # Errors
-/// - `Refused` where the line is no command of a script, with the reason.
-/// - `NoMemory` where its words or their bytes find no memory.
+/// - `Refused` if the line isn't a command of a script, with the reason.
+/// - `NoMemory` if memory for its words can't be allocated.
 pub fn read_line(alloc: Global, line: &[u8]) -> Result<Option<Command>, LineError> {
     let text = trimmed_line(line);
     if text.is_empty() || text.starts_with(b"#") {

@@ -75,7 +75,7 @@ const NAMES: [CommandName; 33] = [
 ];
 
 impl CommandName {
-    /// Returns the words of a command: its name, and what stands behind it.
+    /// Returns the usage of a command: its name and its arguments.
     pub(crate) fn usage(self) -> &'static str {
         match self {
             CommandName::Fresh => "fresh B P N [longer-first | shorter-first] [fill XX | keep]",
@@ -116,7 +116,7 @@ impl CommandName {
         }
     }
 
-    /// Returns the fewest and the most words that a command takes behind its name.
+    /// Returns the smallest and the largest number of words behind a command's name.
     pub(crate) fn argument_counts(self) -> (usize, usize) {
         match self {
             CommandName::Fresh => (3, 6),
@@ -146,7 +146,7 @@ impl CommandName {
     }
 }
 
-// Returns whether a command that is written so has this name.
+// Returns whether a command with this usage has this name.
 fn is_named(usage: &str, word: &[u8]) -> bool {
     match usage.as_bytes().strip_prefix(word) {
         Some(rest) => rest.is_empty() || rest.starts_with(b" "),
@@ -154,7 +154,7 @@ fn is_named(usage: &str, word: &[u8]) -> bool {
     }
 }
 
-/// Returns the command that a word names.
+/// Returns the command of a name.
 pub(crate) fn command_of_word(word: &[u8]) -> Option<CommandName> {
     for name in NAMES {
         if is_named(name.usage(), word) {

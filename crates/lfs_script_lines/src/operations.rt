@@ -1,4 +1,4 @@
-// The operations of lines.
+// Parses the operations of lines.
 
 use crate::arguments::{byte_at, bytes_at, flags_at, number_at};
 use crate::command::Operation;
@@ -6,7 +6,7 @@ use crate::lines::LineError;
 use crate::names::CommandName;
 use std::alloc::Global;
 
-// Returns the operation of a line on an open file, or one of the whole session.
+// Parses an operation on an open file, or on the whole session.
 fn any_operation(
     alloc: Global,
     name: CommandName,
@@ -28,7 +28,7 @@ fn any_operation(
     Ok(operation)
 }
 
-// Returns the operation that sets an attribute.
+// Parses an operation that sets an attribute.
 fn set_attr_operation(alloc: Global, words: &[&[u8]]) -> Result<Operation, LineError> {
     let path = bytes_at(alloc, words, 1)?;
     let kind = byte_at(words, 2)?;
@@ -36,14 +36,14 @@ fn set_attr_operation(alloc: Global, words: &[&[u8]]) -> Result<Operation, LineE
     Ok(Operation::SetAttr(path, kind, value))
 }
 
-// Returns the operation that renames.
+// Parses a rename.
 fn rename_operation(alloc: Global, words: &[&[u8]]) -> Result<Operation, LineError> {
     let old = bytes_at(alloc, words, 1)?;
     let new = bytes_at(alloc, words, 2)?;
     Ok(Operation::Rename(old, new))
 }
 
-// Returns the operation on a path, and on what a number beside it means.
+// Parses an operation on a path, with flags or a type behind it, if it has any.
 fn path_operation(
     alloc: Global,
     name: CommandName,
@@ -61,7 +61,7 @@ fn path_operation(
     }
 }
 
-// Returns the operation of a line.
+// Parses the operation of a line.
 pub(crate) fn operation_of_words(
     alloc: Global,
     name: CommandName,

@@ -1,4 +1,4 @@
-// The options behind commands' names.
+// Parses the options behind commands' names.
 
 use crate::arguments::{byte_at, number_at, word_at};
 use crate::command::ComparisonScope;
@@ -15,7 +15,7 @@ fn is_keyword(word: &[u8], keyword: &[u8]) -> bool {
     word == keyword
 }
 
-// Returns how much of two sessions is compared.
+// Parses how much of two sessions is compared.
 pub(crate) fn scope_of_words(words: &[&[u8]]) -> Result<ComparisonScope, LineError> {
     if words.len() < 2 {
         Ok(ComparisonScope::Whole)
@@ -26,7 +26,7 @@ pub(crate) fn scope_of_words(words: &[&[u8]]) -> Result<ComparisonScope, LineErr
     }
 }
 
-// Returns what erases leave, by the words from a place on.
+// Parses what erases leave, from the word at an index on.
 pub(crate) fn erased_at(words: &[&[u8]], place: usize) -> Result<Erased, LineError> {
     let word = word_at(words, place);
     match words.len().saturating_sub(place) {
@@ -40,8 +40,8 @@ pub(crate) fn erased_at(words: &[&[u8]], place: usize) -> Result<Erased, LineErr
     }
 }
 
-// Returns the order of names and what erases leave, by the words from place 4 on. Without a word for
-// the order the longer names come first.
+// Parses the order of names and what erases leave, from word 4 on. Without a word for the order it
+// is `LongerFirst`.
 pub(crate) fn order_and_erased(words: &[&[u8]]) -> Result<(NameOrder, Erased), LineError> {
     let word = word_at(words, 4);
     let is_shorter_first = is_keyword(word, b"shorter-first");
@@ -59,7 +59,7 @@ pub(crate) fn order_and_erased(words: &[&[u8]]) -> Result<(NameOrder, Erased), L
     Ok((order, erased))
 }
 
-// Returns what a failing call leaves, by the words from a place on.
+// Parses what a failing call leaves, from the word at an index on.
 fn extent_at(words: &[&[u8]], place: usize) -> Result<FaultExtent, LineError> {
     let word = word_at(words, place);
     match words.len().saturating_sub(place) {
@@ -77,7 +77,7 @@ fn extent_at(words: &[&[u8]], place: usize) -> Result<FaultExtent, LineError> {
     }
 }
 
-// Returns the kind of calls that a word names, if it names one.
+// Parses a kind of device calls. Returns None for any other word.
 fn kind_of_word(word: &[u8]) -> Option<CountedCalls> {
     if is_keyword(word, b"any") {
         Some(CountedCalls::Any)
@@ -92,7 +92,7 @@ fn kind_of_word(word: &[u8]) -> Option<CountedCalls> {
     }
 }
 
-// Returns at which call a device fails, by at least two words behind the command's name.
+// Parses which device call fails, from at least two words behind the command's name.
 fn given_fault(words: &[&[u8]]) -> Result<PlannedFault, LineError> {
     let Some(which) = kind_of_word(word_at(words, 1)) else {
         return Err(no_options(1));
@@ -109,7 +109,7 @@ fn given_fault(words: &[&[u8]]) -> Result<PlannedFault, LineError> {
     })
 }
 
-// Returns at which call a device fails, if it does.
+// Parses which device call fails, if any.
 pub(crate) fn fault_of_words(words: &[&[u8]]) -> Result<PlannedFault, LineError> {
     match words.len() {
         0 | 1 => Ok(PlannedFault {
@@ -124,7 +124,7 @@ pub(crate) fn fault_of_words(words: &[&[u8]]) -> Result<PlannedFault, LineError>
     }
 }
 
-// Returns the profile with another number, if the word names one.
+// Returns the profile with a changed limit. Returns None if the word isn't a limit's name.
 fn with_limit(profile: Profile, name: &[u8], number: u32) -> Option<Profile> {
     let mut profile = profile;
     if is_keyword(name, b"name-max") {
@@ -143,7 +143,7 @@ fn with_limit(profile: Profile, name: &[u8], number: u32) -> Option<Profile> {
     Some(profile)
 }
 
-// Returns the profile that the words behind the command's name give.
+// Parses a profile from the words behind the command's name.
 pub(crate) fn profile_of_words(words: &[&[u8]]) -> Result<Profile, LineError> {
     let mut profile = Profile::new();
     let mut is_number = false;

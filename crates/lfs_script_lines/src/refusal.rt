@@ -1,17 +1,17 @@
-// The reasons for which lines are refused.
+// Why lines are refused.
 
 use std::fmt;
 
-/// The reason for which a line is no command. A place is that of a word: the command's name has 0.
+/// Why a line isn't a command. An index is that of a word, 0 for the command's name.
 #[derive(Clone, Copy)]
 pub enum LineObjection {
     /// What is wrong with the line.
     Line(&'static str),
-    /// It has too few words or too many, and how the command is written.
+    /// Too few or too many words, and the usage of the command.
     Words(&'static str, &'static str),
-    /// The word at this place is no such thing.
+    /// The word at this index isn't of this kind.
     Word(usize, &'static str),
-    /// From this place on the words aren't options of the command.
+    /// The words from this index on aren't options of the command.
     Options(usize),
 }
 

@@ -1,21 +1,21 @@
-// Words that are bytes, read and written.
+// Escapes bytes as words, and unescapes words.
 
 ghost use Rattle.std.specs.Prelude.{◌<◌};
 
 use crate::arguments::read_number;
 use std::alloc::{AllocError, Global};
 
-// The part of a word before its next byte.
+// The part of an escape that was read so far.
 #[derive(Clone, Copy)]
 enum EscapePart {
     Text,
     Backslash,
     Mark,
-    // The value of the first digit.
+    // Its first digit, with this value.
     Digit(u8),
 }
 
-// The result of a byte of a word.
+// The result of one more byte of a word.
 #[derive(Clone, Copy)]
 enum EscapeOutcome {
     To(EscapePart),
@@ -23,7 +23,7 @@ enum EscapeOutcome {
     Never,
 }
 
-// Returns whether a byte is written as itself in a word.
+// Returns whether a byte needs no escape in a word.
 fn is_unescaped_byte(byte: u8) -> bool {
     (0x21..=0x7e).contains(&byte) && byte != b'\\'
 }
@@ -37,7 +37,7 @@ fn hex_value(digit: u8) -> Option<u8> {
     }
 }
 
-// Returns the result of a byte after such a part.
+// Returns the result of one more byte after a part of an escape.
 fn next_escape_outcome(part: EscapePart, byte: u8) -> EscapeOutcome {
     match part {
         EscapePart::Text if byte == b'\\' => EscapeOutcome::To(EscapePart::Backslash),
@@ -55,7 +55,7 @@ fn next_escape_outcome(part: EscapePart, byte: u8) -> EscapeOutcome {
     }
 }
 
-// Returns the bytes of a text with `\xNN` for some of its bytes.
+// Unescapes a text with `\xNN` for some of its bytes.
 fn read_escaped_text(alloc: Global, word: &[u8]) -> Result<Option<Vec<u8>>, AllocError> {
     let mut bytes = Vec::new(alloc);
     let mut part = EscapePart::Text;
@@ -75,7 +75,7 @@ fn read_escaped_text(alloc: Global, word: &[u8]) -> Result<Option<Vec<u8>>, Allo
     }
 }
 
-// Returns how many times the remaining text of a word is taken, and that text. The count saturates.
+// Returns how often a word repeats its text, and that text. The count saturates.
 fn repetition(word: &[u8]) -> Option<(u64, &[u8])> {
     let mut count = 1u64;
     let mut rest = word;
@@ -90,10 +90,10 @@ fn repetition(word: &[u8]) -> Option<(u64, &[u8])> {
     Some((count, rest))
 }
 
-/// Returns the bytes of a word, if it has any meaning.
+/// Unescapes a word. Returns None if it isn't well formed.
 ///
 /// In a word `\xNN` is any byte, and the bytes from 0x21 to 0x7e other than `\` are themselves.
-/// `\e` is no byte at all, and `*COUNT:WORD` is the word's bytes so many times.
+/// `\e` is the empty text, and `*COUNT:WORD` repeats the word's bytes COUNT times.
 pub(crate) fn read_word(alloc: Global, word: &[u8]) -> Result<Option<Vec<u8>>, AllocError> {
     let Some((count, rest)) = repetition(word) else {
         return Ok(None);
@@ -117,7 +117,7 @@ fn hex_digit(value: u8) -> u8
     }
 }
 
-/// Adds the word for bytes, from which `read_word` reads them again.
+/// Appends the word for bytes, which `read_word` unescapes again.
 pub(crate) fn push_word(text: &mut Vec<u8>, bytes: &[u8]) -> Result<(), AllocError> {
     if bytes.is_empty() {
         text.extend_from_slice(b"\\e")?;

@@ -1,4 +1,4 @@
-// Comparisons of a session with another one on bytes like those of its device.
+// Compares a session with another one, mounted from given bytes.
 
 use crate::script_device::{Device, device_without_fault};
 use lfs_device::{BlockDevice, Error, Geometry, RamDevice};
@@ -6,7 +6,7 @@ use lfs_fs::{Item, Kind, OpenFlags, Reply, Session, mount};
 use lfs_script_lines::{Answer, ComparisonScope, SessionDifference};
 use std::alloc::{AllocError, Global};
 
-// A session, the one that it is compared with, and what is compared.
+// A session, the one that it is compared with, and the scope of the comparison.
 #[derive(Drop)]
 struct Comparison<'a> {
     alloc: Global,
@@ -34,7 +34,7 @@ fn is_same_item(item: &Item, other: &Item) -> bool {
         && item.size == other.size
 }
 
-// Returns the first index at which two listings differ.
+// Returns the least index at which two listings differ.
 fn first_different_index(items: &[Item], others: &[Item]) -> Option<usize> {
     for (index, (item, other)) in items.iter().zip(others).enumerate() {
         if !is_same_item(item, other) {
@@ -68,7 +68,7 @@ fn join_path(alloc: Global, directory: &[u8], name: &[u8]) -> Result<Vec<u8>, Al
     Ok(path)
 }
 
-// Reads a file. Returns None if the session can't open it beside the files that are open.
+// Reads a file. Returns None if the session can't open it, because of the files that are open.
 fn read_file(
     alloc: Global,
     session: &mut Session<Device>,
@@ -154,7 +154,7 @@ impl Comparison<'_> {
         Ok(None)
     }
 
-    // Returns what differs of an entry that both list as of this kind.
+    // Returns the first difference of an entry that both list as of this kind.
     fn compare_entry(
         &mut self,
         path: &[u8],
@@ -174,7 +174,7 @@ impl Comparison<'_> {
         Ok(None)
     }
 
-    // Returns what differs first of a directory's entries. Adds its directories to those that wait.
+    // Returns the first difference of a directory's entries. Adds its subdirectories to `waiting`.
     fn compare_directory(
         &mut self,
         directory: &[u8],
@@ -198,7 +198,7 @@ impl Comparison<'_> {
         Ok(None)
     }
 
-    // Returns what differs first of all entries.
+    // Returns the first difference of all entries.
     fn compare_trees(&mut self) -> Result<Option<SessionDifference>, Error> {
         let mut waiting = Vec::new(self.alloc);
         waiting.push(Vec::from_slice(self.alloc, b"/")?)?;
@@ -214,7 +214,7 @@ impl Comparison<'_> {
         Ok(None)
     }
 
-    // Returns what differs first.
+    // Returns the first difference.
     fn compare(&mut self) -> Result<Option<SessionDifference>, Error> {
         if self.session.gstate()? != self.other.gstate()? {
             return Ok(Some(SessionDifference::Gstate));
@@ -228,7 +228,7 @@ impl Comparison<'_> {
     }
 }
 
-// Returns what differs first from a session on these bytes.
+// Returns the first difference from a session on these bytes.
 fn compare_with_bytes(
     alloc: Global,
     session: &mut Session<Device>,
@@ -246,10 +246,10 @@ fn compare_with_bytes(
     .compare()
 }
 
-/// Compares a session with one on a device with these bytes. The session is only queried.
+/// Compares a session with one on a device with these bytes. Only queries the session.
 ///
-/// Answers the session's refusal if the session has failed before. Answers an error if the bytes
-/// are no device's or don't mount, or if one of the sessions fails.
+/// The answer is the session's refusal if the session had failed before, or an error if the bytes
+/// aren't those of a device or can't be mounted, or if one of the sessions fails.
 pub fn compare_with_image(
     alloc: Global,
     session: &mut Session<Device>,

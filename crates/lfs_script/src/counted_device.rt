@@ -1,8 +1,8 @@
-// A device that counts the calls that fail.
+// A device that counts its failed calls.
 
 use lfs_device::{BlockDevice, Error, Geometry};
 
-/// A device with the count of its calls that failed. The count saturates.
+/// A device that counts its failed calls. The count saturates.
 #[derive(Drop)]
 pub struct CountedDevice<D: BlockDevice> {
     inner: D,
@@ -23,7 +23,7 @@ impl<D: BlockDevice> CountedDevice<D> {
         self.inner
     }
 
-    /// Returns how many of the calls failed.
+    /// Returns how many calls have failed.
     pub fn failed_calls(&self) -> u64 {
         self.failed
     }

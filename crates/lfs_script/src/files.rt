@@ -1,9 +1,9 @@
-// Files with the bytes of devices.
+// Reads and writes files with the bytes of devices.
 
 use std::rt::Files;
 use std::{fs, str};
 
-/// Returns the bytes of a file. Returns None where the file can't be read.
+/// Returns the bytes of a file, or None if the file can't be read.
 pub fn read_file<R: Files + AllocGlobal>(rt: &R, path: &[u8]) -> Option<Vec<u8>> {
     match str::from_utf8(path) {
         Ok(path) => fs::read(rt, path).ok(),
@@ -11,7 +11,7 @@ pub fn read_file<R: Files + AllocGlobal>(rt: &R, path: &[u8]) -> Option<Vec<u8>>
     }
 }
 
-/// Writes bytes to a file. Returns whether this succeeded.
+/// Writes bytes to a file, and returns whether that succeeded.
 pub fn write_file<R: Files>(rt: &R, path: &[u8], bytes: &[u8]) -> bool {
     match str::from_utf8(path) {
         Ok(path) => fs::write(rt, path, bytes).is_ok(),

@@ -1,6 +1,6 @@
 // SPDX-License-Identifier: BSD-3-Clause
-//! lfs_script: performs the operations of standard input, one a line, on a littlefs file system in
-//! memory, and prints the answer to each.
+//! lfs_script: performs the operations of standard input, one per line, on a littlefs file system
+//! in memory, and prints the answer to each.
 #![tactic(auto)]
 
 mod comparison;
@@ -18,7 +18,8 @@ use std::io::{BufReader, ErrorKind};
 use std::process::ExitCode;
 use std::{env, io};
 
-// Shows why a script ended before its last line, and returns the status. A failed write is ignored.
+// Prints why a script ended before its last line, and returns the exit status. Ignores a failed
+// write.
 fn report_end(rt: &HostRuntime, end: ScriptEnd) -> ExitCode {
     let (shown, status) = match end {
         ScriptEnd::Done => return ExitCode::SUCCESS,
@@ -31,17 +32,17 @@ fn report_end(rt: &HostRuntime, end: ScriptEnd) -> ExitCode {
     ExitCode::from(status)
 }
 
-/// The request of a command line.
+/// What a command line requests.
 #[derive(Clone, Copy, PartialEq, Eq)]
 enum Request {
     /// Perform the lines of standard input.
     Script,
     Help,
-    /// The command line has other words.
+    /// The command line has unknown words.
     Unknown,
 }
 
-// Returns the request of the words of a command line, the program's name first.
+// Parses the words of a command line, the program's name first.
 fn parse_request(words: &[String]) -> Request {
     match words {
         [] | [_] => Request::Script,
@@ -55,7 +56,7 @@ fn read_words(rt: &HostRuntime) -> io::Result<Vec<String>> {
     Ok(words)
 }
 
-// Shows the help, and returns the status.
+// Prints the help, and returns the exit status.
 fn show_help(rt: &HostRuntime) -> ExitCode {
     match print!(rt; "{HELP}") {
         Ok(()) => ExitCode::SUCCESS,
@@ -63,13 +64,13 @@ fn show_help(rt: &HostRuntime) -> ExitCode {
     }
 }
 
-// Says that there are no such words, and returns the status. A failed write is ignored.
+// Prints that the words are unknown, and returns the exit status. Ignores a failed write.
 fn refuse_words(rt: &HostRuntime) -> ExitCode {
     let _ = eprintln!(rt; "error: a script is read from standard input (--help says more)");
     ExitCode::from(2)
 }
 
-// Performs the lines of standard input, and returns the status.
+// Performs the lines of standard input, and returns the exit status.
 fn run_script(rt: &HostRuntime) -> ExitCode {
     let Ok(mut input) = BufReader::new(rt.alloc(), rt.stdin()) else {
         return report_end(rt, ScriptEnd::NoMemory);

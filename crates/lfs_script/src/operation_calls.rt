@@ -1,11 +1,11 @@
-// The answers of a session to a script's operations.
+// Performs a script's operations on a session.
 
 use lfs_device::BlockDevice;
 use lfs_fs::{Op, Session};
 use lfs_script_lines::{Answer, Operation};
 use std::alloc::Global;
 
-// Returns the session's operation.
+// Converts an operation of a script to one of a session.
 fn session_op(operation: &Operation) -> Op<'_> {
     match operation {
         Operation::Open(path, flags) => Op::Open(path, *flags),
@@ -33,7 +33,8 @@ fn session_op(operation: &Operation) -> Op<'_> {
 
 /// Performs an operation.
 ///
-/// The answer is the session's reply, a refusal among them, or the error by which the session failed.
+/// The answer is the session's reply, which may be a refusal, or the error by which the session
+/// failed.
 pub fn perform_operation<D: BlockDevice>(
     alloc: Global,
     session: &mut Session<D>,

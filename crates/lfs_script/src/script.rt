@@ -38,12 +38,12 @@ fn block_range(block_size: u32, block: u32, offset: u32, count: usize) -> (usize
     (start, start.saturating_add(count))
 }
 
-/// The state of a script.
+/// A script that is being performed: its device, and the profile of devices to come.
 #[derive(Drop)]
 pub struct Script<'a, R: Files> {
     rt: &'a R,
     device: ScriptDevice,
-    // the profile of the devices that the script makes
+    // The profile of the devices that the script makes.
     profile: Profile,
     // whether the devices that the script makes say which bytes are blank
     checks_blanks: bool,
@@ -70,7 +70,7 @@ impl<'a, R: Files + AllocGlobal> Script<'a, R> {
         }
     }
 
-    // Keeps the session that was started, or the device that an error gives back.
+    // Stores the new session, or the device that an error returns.
     fn keep_start(&mut self, begun: Result<Session<Device>, (Device, Error)>) -> Answer {
         match begun {
             Ok(session) => {
@@ -102,7 +102,7 @@ impl<'a, R: Files + AllocGlobal> Script<'a, R> {
         self.keep_start(begun)
     }
 
-    // Ends the session, and takes its device.
+    // Ends the session, and moves its device out.
     fn take_device(&mut self) -> Option<RamDevice> {
         mem::replace(&mut self.device, ScriptDevice::Nothing).into_device()
     }
@@ -152,7 +152,7 @@ impl<'a, R: Files + AllocGlobal> Script<'a, R> {
         }
     }
 
-    // Overwrites bytes of the device. Its session ends.
+    // Ends the session, and overwrites bytes of its device.
     fn put(&mut self, block: u32, offset: u32, more: &[u8], erased: Erased) -> Answer {
         let Some(device) = self.take_device() else {
             return Answer::Nothing;
@@ -181,7 +181,7 @@ impl<'a, R: Files + AllocGlobal> Script<'a, R> {
         }
     }
 
-    // Shows bytes of the device.
+    // Returns bytes of the device as an answer.
     fn bytes(&self, block: u32, offset: u32, count: u32) -> Answer {
         let Some(device) = self.device.device() else {
             return Answer::Nothing;
@@ -226,7 +226,7 @@ impl<'a, R: Files + AllocGlobal> Script<'a, R> {
         }
     }
 
-    // Performs a command that makes, changes or shows a device.
+    // Performs a command that makes, changes or prints a device.
     fn perform_device_command(&mut self, command: &Command) -> Answer {
         match command {
             Command::Fresh {
@@ -262,8 +262,8 @@ impl<'a, R: Files + AllocGlobal> Script<'a, R> {
 
     /// Performs a command.
     ///
-    /// An operation is one of the session. Without a session the answer to it, and to a comparison,
-    /// is `Nothing`.
+    /// Operations are performed on the session. Without a session the answer to an operation or a
+    /// comparison is `Nothing`.
     pub fn perform_command(&mut self, command: &Command) -> Answer {
         match command {
             Command::Profile(profile) => {

@@ -1,4 +1,4 @@
-// The device that a script works on, and the session over it.
+// A script's device, and the session over it.
 
 use crate::counted_device::CountedDevice;
 use lfs_device::{
@@ -11,7 +11,7 @@ use std::alloc::Global;
 /// A device in memory, one of whose calls may fail.
 pub type Device = CountedDevice<FaultDevice<RamDevice>>;
 
-/// A fault that never comes.
+/// A planned fault that never happens.
 pub const NO_FAULT: PlannedFault = PlannedFault {
     which: CountedCalls::Any,
     nth: 0,
@@ -20,9 +20,9 @@ pub const NO_FAULT: PlannedFault = PlannedFault {
     bad_block: None,
 };
 
-/// Counts the calls of the device from now on. One of them may fail. It says that bytes are blank if
-/// the device below does. Returns `NoMemory` if an erase
-/// that is cut short has no memory for the bytes of a block.
+/// Returns the device with calls that are counted from now on, and one of which fails as planned. It
+/// says that bytes are blank if the device below does. Returns `NoMemory` if an erase is to be cut
+/// short and memory for a block can't be allocated.
 pub fn plan_fault(alloc: Global, device: RamDevice, fault: PlannedFault) -> Result<Device, Error> {
     let block_size = device.geometry().block_size as usize;
     let device = FaultDevice::new(device, fault.which, fault.nth, fault.stops);
@@ -37,7 +37,7 @@ pub fn plan_fault(alloc: Global, device: RamDevice, fault: PlannedFault) -> Resu
     Ok(CountedDevice::new(device.with_blank_checks()))
 }
 
-/// Counts the calls of the device from now on. None fails.
+/// Returns the device with calls that are counted from now on. None fails.
 pub fn device_without_fault(device: RamDevice) -> Device {
     let device = FaultDevice::new(device, CountedCalls::Any, 0, false);
     CountedDevice::new(device.with_blank_checks())
@@ -52,7 +52,7 @@ pub enum ScriptDevice {
 }
 
 impl ScriptDevice {
-    /// Borrows the device. A session's is as the last call left it.
+    /// Borrows the device, also a session's, as the last call left it.
     pub fn device(&self) -> Option<&Device> {
         match self {
             ScriptDevice::Nothing => None,
@@ -61,7 +61,7 @@ impl ScriptDevice {
         }
     }
 
-    /// Ends the session, and returns the device. Nothing is written.
+    /// Ends the session, and returns the device. Writes nothing.
     pub fn into_device(self) -> Option<RamDevice> {
         let device = match self {
             ScriptDevice::Nothing => return None,
@@ -72,7 +72,7 @@ impl ScriptDevice {
     }
 }
 
-/// Returns how many calls a device had. Each count saturates.
+/// Returns how many calls a device had, and how many failed. Each count saturates.
 pub fn count_calls(device: &Device) -> DeviceCallCounts {
     DeviceCallCounts {
         reads: device.inner().calls(CountedCalls::Read),

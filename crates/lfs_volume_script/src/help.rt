@@ -1,4 +1,4 @@
-// What the program says of itself.
+// The program's help.
 
 /// The text of `--help`: the lines that a script is made of.
 pub const HELP: &str = "\

@@ -1,4 +1,4 @@
-// The lines of a script: commands, and calls that a session doesn't have.
+// Parses the lines of a script: commands, and calls that a session doesn't have.
 
 use lfs_device::CountedCalls;
 use lfs_model::NameOrder;
@@ -9,15 +9,15 @@ use std::str;
 /// The command of a line.
 #[derive(Drop)]
 pub enum VolumeCommand {
-    /// One that scripts of sessions have too.
+    /// A command that scripts of sessions have, too.
     Command(Command),
-    /// How many calls of a kind the device had.
+    /// Prints how many calls of a kind the device had.
     Calls(CountedCalls),
-    /// The position of the handle.
+    /// Prints the position of the handle.
     Position(u32),
-    /// The size of the handle's file.
+    /// Prints the size of the handle's file.
     Size(u32),
-    /// A read of at most so many bytes into a buffer.
+    /// Reads at most so many bytes by the handle, into a buffer.
     ReadInto(u32, u32),
 }
 
@@ -29,7 +29,7 @@ fn without_newline(line: &[u8]) -> &[u8] {
     }
 }
 
-// Returns the decimal number of the word at a place.
+// Parses the word at an index as a decimal number.
 fn number_at(words: &[&[u8]], place: usize) -> Result<u32, LineError> {
     let word = words.get(place).copied().unwrap_or_default();
     let number = match str::from_utf8(word) {
@@ -45,7 +45,7 @@ fn number_at(words: &[&[u8]], place: usize) -> Result<u32, LineError> {
     }
 }
 
-// Returns the kind of calls that a word names.
+// Parses a kind of device calls.
 fn kind_of_word(word: &[u8]) -> Result<CountedCalls, LineError> {
     if word == b"any".as_slice() {
         Ok(CountedCalls::Any)
@@ -60,7 +60,7 @@ fn kind_of_word(word: &[u8]) -> Result<CountedCalls, LineError> {
     }
 }
 
-// Returns the call of a volume that these words are, where a session has none of the name.
+// Parses a call that volumes have and sessions don't. Returns None for other names.
 fn volume_call(words: &[&[u8]]) -> Result<Option<VolumeCommand>, LineError> {
     match words {
         [name, kind] if *name == b"calls".as_slice() => {
@@ -80,7 +80,7 @@ fn volume_call(words: &[&[u8]]) -> Result<Option<VolumeCommand>, LineError> {
     }
 }
 
-// Returns the command, if it is one of volumes too.
+// Returns the command, unless volumes don't have it.
 fn checked_command(command: Command) -> Result<VolumeCommand, LineError> {
     match command {
         Command::Put { .. }
@@ -100,11 +100,11 @@ fn checked_command(command: Command) -> Result<VolumeCommand, LineError> {
     }
 }
 
-/// Returns the command of a line. Returns None where the line is empty or begins with `#`.
+/// Parses the command of a line. Returns None if the line is empty or begins with `#`.
 ///
 /// # Errors
-/// - `Refused` where the line is no command, with the reason.
-/// - `NoMemory` where its words or their bytes find no memory.
+/// - `Refused` if the line isn't a command, with the reason.
+/// - `NoMemory` if memory for its words can't be allocated.
 pub fn read_volume_line(alloc: Global, line: &[u8]) -> Result<Option<VolumeCommand>, LineError> {
     let text = without_newline(line);
     let words: Vec<&[u8]> = text.split(|byte| *byte == b' ').collect(alloc)?;

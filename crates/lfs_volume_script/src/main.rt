@@ -1,6 +1,6 @@
 // SPDX-License-Identifier: BSD-3-Clause
-//! lfs_volume_script: performs the calls of standard input, one a line, on a volume over a littlefs
-//! image in memory, and prints the answer to each.
+//! lfs_volume_script: performs the calls of standard input, one per line, on a volume over a
+//! littlefs image in memory, and prints the answer to each.
 #![tactic(auto)]
 
 mod help;
@@ -15,7 +15,8 @@ use std::io::{BufReader, ErrorKind};
 use std::process::ExitCode;
 use std::{env, io};
 
-// Shows why a script ended before its last line, and returns the status. A failed write is ignored.
+// Prints why a script ended before its last line, and returns the exit status. Ignores a failed
+// write.
 fn report_script_end(rt: &HostRuntime, end: ScriptEnd) -> ExitCode {
     let (shown, status) = match end {
         ScriptEnd::Done => return ExitCode::SUCCESS,
@@ -33,7 +34,7 @@ fn command_line_words(rt: &HostRuntime) -> io::Result<Vec<String>> {
     Ok(words)
 }
 
-// Shows the help, and returns the status.
+// Prints the help, and returns the exit status.
 fn show_help(rt: &HostRuntime) -> ExitCode {
     match print!(rt; "{HELP}") {
         Ok(()) => ExitCode::SUCCESS,
@@ -41,13 +42,13 @@ fn show_help(rt: &HostRuntime) -> ExitCode {
     }
 }
 
-// Says that there are no such words, and returns the status. A failed write is ignored.
+// Prints that the words are unknown, and returns the exit status. Ignores a failed write.
 fn refuse_words(rt: &HostRuntime) -> ExitCode {
     let _ = eprintln!(rt; "error: a script is read from standard input (--help says more)");
     ExitCode::from(2)
 }
 
-// Performs the lines of standard input, and returns the status.
+// Performs the lines of standard input, and returns the exit status.
 fn run_script(rt: &HostRuntime) -> ExitCode {
     let Ok(mut input) = BufReader::new(rt.alloc(), rt.stdin()) else {
         return report_script_end(rt, ScriptEnd::NoMemory);

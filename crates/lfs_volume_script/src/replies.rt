@@ -1,4 +1,4 @@
-// The answers of a volume to calls.
+// Performs a script's calls on a volume.
 
 use lfs_device::{BlockDevice, Error};
 use lfs_fs::Reply;
@@ -6,8 +6,7 @@ use lfs_script_lines::{Answer, Operation};
 use lfs_volume::Volume;
 use std::alloc::Global;
 
-// Returns the answer that shows a call's result: a refusal, or an error by which the volume failed or
-// wanted memory.
+// Converts a call's result to an answer: its reply, a refusal, or another error.
 fn answer_of_reply(answered: Result<Reply, Error>) -> Answer {
     match answered {
         Ok(reply) => Answer::Reply(reply),
@@ -18,13 +17,13 @@ fn answer_of_reply(answered: Result<Reply, Error>) -> Answer {
     }
 }
 
-// Returns the reply to a call that returns nothing.
+// Returns the reply `Done` to a call that returns nothing.
 fn done(answered: Result<(), Error>) -> Result<Reply, Error> {
     answered?;
     Ok(Reply::Done)
 }
 
-// Performs a call on an open file, or one of the whole volume.
+// Performs a call on an open file, or on the whole volume.
 fn any_reply<D: BlockDevice>(
     alloc: Global,
     volume: &mut Volume<D>,
@@ -74,17 +73,17 @@ pub fn perform_operation<D: BlockDevice>(
     answer_of_reply(path_reply(alloc, volume, operation))
 }
 
-/// Shows the position of a handle.
+/// Returns the position of a handle as an answer.
 pub fn show_position<D: BlockDevice>(volume: &Volume<D>, handle: u32) -> Answer {
     answer_of_reply(volume.position(handle).map(Reply::Count))
 }
 
-/// Shows the size of a handle's file.
+/// Returns the size of a handle's file as an answer.
 pub fn show_size<D: BlockDevice>(volume: &Volume<D>, handle: u32) -> Answer {
     answer_of_reply(volume.size(handle).map(Reply::Count))
 }
 
-/// Reads into a buffer of so many bytes, and shows those that were read.
+/// Reads into a buffer of so many bytes, and returns those that were read as an answer.
 pub fn read_into_buffer<D: BlockDevice>(
     alloc: Global,
     volume: &mut Volume<D>,

@@ -1,4 +1,4 @@
-// The commands of a script on the device in hand.
+// The commands of a script on its device.
 
 use crate::lines::VolumeCommand;
 use crate::replies::{perform_operation, read_into_buffer, show_position, show_size};
@@ -16,7 +16,7 @@ use std::{fs, mem, str};
 // A device in memory, one of whose calls may fail.
 type Device = FaultDevice<RamDevice>;
 
-// A fault that never comes.
+// A planned fault that never happens.
 const NO_FAULT: PlannedFault = PlannedFault {
     which: CountedCalls::Any,
     nth: 0,
@@ -62,7 +62,7 @@ fn device_of_bytes(
     }
 }
 
-// The device that a script works with, and its volume.
+// A script's device, or a volume over it.
 #[derive(Drop)]
 enum Hand {
     Nothing,
@@ -79,7 +79,7 @@ impl Hand {
         }
     }
 
-    // Ends the volume.
+    // Ends the volume, and returns the device.
     fn into_device(self) -> Option<Device> {
         match self {
             Hand::Nothing => None,
@@ -89,12 +89,12 @@ impl Hand {
     }
 }
 
-/// The state of a script.
+/// A script that is being performed: its device, and the profile of devices to come.
 #[derive(Drop)]
 pub struct Script<'a, R: Files> {
     rt: &'a R,
     hand: Hand,
-    // That of the devices that are made.
+    // The profile of the devices that the script makes.
     profile: Profile,
 }
 
@@ -108,12 +108,12 @@ impl<'a, R: Files + AllocGlobal> Script<'a, R> {
         }
     }
 
-    /// Returns what gives memory and files.
+    /// Returns the runtime, which has the allocator and files.
     pub fn rt(&self) -> &'a R {
         self.rt
     }
 
-    // Takes a volume in hand, or the device of an error.
+    // Stores the new volume, or the device that an error returns.
     fn take_volume(&mut self, begun: Result<Volume<Device>, (Device, Error)>) -> Answer {
         match begun {
             Ok(volume) => {
@@ -147,7 +147,7 @@ impl<'a, R: Files + AllocGlobal> Script<'a, R> {
         }
     }
 
-    // Ends the volume, and takes its device out of hand.
+    // Ends the volume, and moves its device out.
     fn take_device(&mut self) -> Option<RamDevice> {
         let device = mem::replace(&mut self.hand, Hand::Nothing).into_device()?;
         Some(device.into_inner())
@@ -221,7 +221,7 @@ impl<'a, R: Files + AllocGlobal> Script<'a, R> {
         }
     }
 
-    // Shows how many calls the device had, at most 2^32 - 1.
+    // Returns how many calls the device had, at most 2^32 - 1, as an answer.
     fn calls(&self, which: CountedCalls) -> Answer {
         match self.hand.device() {
             Some(device) => {
@@ -266,7 +266,7 @@ impl<'a, R: Files + AllocGlobal> Script<'a, R> {
         }
     }
 
-    /// Performs a command. Without a volume the answer to a call is `Nothing`.
+    /// Performs a command, and returns its answer: `Nothing` to a call without a volume.
     pub fn perform(&mut self, command: &VolumeCommand) -> Answer {
         match command {
             VolumeCommand::Calls(which) => self.calls(*which),

@@ -11,13 +11,13 @@ use std::rt::Files;
 pub enum ScriptEnd {
     /// With its last line.
     Done,
-    /// At a line that is no command: its number, from 1 on, and the reason.
+    /// At a line that isn't a command: its number, from 1 on, and the reason.
     Line(u64, LineObjection),
-    /// Where a growth was refused.
+    /// With a failed allocation.
     NoMemory,
-    /// Where its lines could not be read.
+    /// With a failed read of its lines.
     Input,
-    /// Where an answer could not be written.
+    /// With a failed write of an answer.
     Output,
 }
 

@@ -17,7 +17,7 @@ use Rattle.lfs_mount.proofs.Searches.{AreSoundBefore, Goes, IsLedTwice, found_le
 
 -- ---- the directories of the code
 
--- where a directory begins
+-- the address of a directory's first pair
 pub first_at : (addresses : List (List ℕ)) (v : ℕ) → v < length addresses → slice_get (map address_view addresses) v ≡ Some (address_view (get_or addresses v []))
 first_at addresses v lt = slice_get-map address_view addresses v ∙ ap (option_map address_view) (slice_get-get_or addresses v [] lt)
 

@@ -100,7 +100,7 @@ led_meets v bytes (suc k) (p ∷ ps) l = led_meets v bytes k ps l.1
 
 -- ---- from one superblock on, by pairs without slots
 
--- where the chain doesn't go on behind the pair at an index, the root begins at the last superblock
+-- if the chain doesn't continue behind the pair at an index, the root begins at the last superblock
 pub record IsWalked (v : AcceptedVersions) (bytes : List ℕ) (ps : List Pair) (root index : ℕ) : Type 0 where
   pub led : Led v bytes root ps
   pub linked : Linked v bytes index ps
@@ -209,7 +209,7 @@ step_at hs index h next low high e f =
       there = subst (λ i. slice_get hs i ≡ Some next) is (slice_get_read hs (length hs) index next refl high f);
     }
 
--- the same of another geometry, and of blocks and bytes that are the same
+-- the same for another geometry, and for equal blocks and bytes
 pub same_block : (was now : Geometry) (blocks then : Blocks) (bytes read : List ℕ) (h : PairHeader) (o : Option Bool) → now ≡ was → then ≡ blocks → read ≡ bytes
     → repeats_superblock now.profile.versions read (block_bytes then h.active) ≡ o → repeats_superblock was.profile.versions bytes (block_bytes blocks h.active) ≡ o
 same_block was now blocks then bytes read h o g b r f =
@@ -500,7 +500,7 @@ module _ (disk : Disk) (history : List CallEvent) (hs : List PairHeader) (has : 
             ),
           )
 
-      -- the violation that its block shows
+      -- the violation that its block proves
       pub first_breaks : (broken : Violation) → BreaksFirstSuperblock disk h broken → PairsBreak disk ps broken
       first_breaks (violation.FirstEntry pair) (same, not) = subst (λ at. PairsBreak disk ps (violation.FirstEntry at)) (sym same) (other_entry not)
       first_breaks (violation.Superblock pair) (same, none) = subst (λ at. PairsBreak disk ps (violation.Superblock at)) (sym same) (no_struct none)

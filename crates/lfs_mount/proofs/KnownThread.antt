@@ -34,7 +34,7 @@ headers_drop disk history zero hs are = are
 headers_drop disk history (suc n) [] are = tt
 headers_drop disk history (suc n) (h ∷ hs) are = headers_drop disk history n hs are.1
 
--- ---- where directories begin
+-- ---- the first pairs of directories
 
 abbrev begins_of : Bool → List Pair → List (ℕ × ℕ)
 begins_of begins [] = []

@@ -50,7 +50,7 @@ fewer_read f q (s ∷ slots) = go (q s) (fewer_read f q slots)
 
 -- ---- pairs
 
--- the lists of a pair that can be taken are those of its visible slots
+-- the lists of a pair that the pass accepts are those of its visible slots
 taken_lists : (disk : Disk) (firsts : List (ℕ × ℕ)) (g : Gstate) (first : Bool) (p : Pair) (m : PairBeforeSlotsAreRead) (known : Name × Vertex) (sets : BlockStates) (new : Name × Vertex) (marked : BlockStates)
     → IsDescription disk g first p m → ScansPair disk firsts m known sets new marked → described_lists disk m ≡ lists_of (unmoved_entries g p)
 taken_lists disk firsts g first p m known sets new marked h t =
@@ -107,7 +107,7 @@ at_least_three : (b : Bool) → 3 ≤ cond b 3 4
 at_least_three true = omega arith
 at_least_three false = omega arith
 
--- each header takes at least one read
+-- each header costs at least one read
 pub thread_reads-no_fewer : (disk : Disk) (ps : List Pair) → length ps ≤ thread_reads disk ps
 thread_reads-no_fewer disk [] = omega arith
 thread_reads-no_fewer disk (p ∷ ps) =

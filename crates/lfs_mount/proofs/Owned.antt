@@ -145,7 +145,7 @@ meets_twice sets owned (b ∷ bs) block h within (inr m) =
     let here = count_append block (b ∷ []) bs in
     omega arith
 
--- a number that is counted twice stands at two places
+-- a number that is counted twice occurs at two list indices
 pub two_places : (b : ℕ) (xs : List ℕ) → 2 ≤ number_occurrences b xs → (i j : ℕ) × ((i < j) × (slice_get xs i ≡ Some b) × (slice_get xs j ≡ Some b))
 two_places b [] twice = absurd (omega arith)
 two_places b (x ∷ xs) twice = go (nat_eq b x) refl twice (two_places b xs)

@@ -21,7 +21,7 @@ mounted_image disk history t u found order read fits is = subst (λ (v : ThreadV
   broken = read.broken;
 })
 
--- the device of a thread that was read, where the image isn't accepted in the order that is wanted
+-- the device of a thread that was read, if the image isn't accepted in the order that is wanted
 pub refused_back : {D : Type 0} (g : Ghosts D) (old back : D) (t : ThreadView) (found : ImageFindings) → IsAcceptedIn (disk_of_device g old) (g.history old) t found
     → ordered_disk t.kept.disk.order (disk_of_device g back) ≡ t.kept.disk → g.history back ≡ t.kept.history → GivesDeviceBack g old back Corrupt
 refused_back g old back t found read disk history = record {

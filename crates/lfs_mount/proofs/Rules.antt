@@ -12,7 +12,7 @@ use Rattle.lfs_mount.proofs.Runs.{shown_in, vertices, entries_of, Named, thread_
 use Rattle.lfs_mount.proofs.MarkedLists.{lists_joined}
 use Rattle.lfs_mount.proofs.Scans.{entry_some, scan_some}
 
--- ---- complete slots, some of them taken away
+-- ---- complete slots, some of them removed
 
 abbrev pub without : Option ℕ → List Slot → List Slot
 without None slots = slots
@@ -23,7 +23,7 @@ behind false slots = slots
 behind true [] = []
 behind true (s ∷ slots) = slots
 
--- the slot that goes is an entry
+-- the removed slot is an entry
 abbrev pub IsMovedEntry : Option ℕ → List Slot → Type 0
 IsMovedEntry None slots = Unit {0}
 IsMovedEntry (Some id) slots = (t : Slot) × ((slice_get slots id ≡ Some t) × IsTreeEntry t)

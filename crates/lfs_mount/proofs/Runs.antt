@@ -6,7 +6,7 @@ use Rattle.lfs_mount.proofs.Common.{same_Some, length-map, Name, is_valid_name, 
 use Rattle.lfs_model.specs.declared.order.NameOrder.{NameOrder}
 use Rattle.lfs_mount.proofs.Drawn.{IsKnown, known_more, nothing_drawn}
 
--- ---- the run of pairs in hand, and the pairs to come
+-- ---- the pairs of the current directory, and the pairs that follow
 
 -- whether a pair's tail is hard, and its slots
 abbrev pub Shown : Type 0
@@ -15,7 +15,7 @@ Shown = Bool × List Slot
 abbrev pub shown_in : Gstate → List Pair → List Shown
 shown_in g ps = map (λ p. (is_hard_tail p.content.tail, unmoved_entries g p)) ps
 
--- the slots of each directory, the first one's behind those in hand
+-- the slots of each directory, the first one's behind those passed so far
 abbrev pub runs : List Slot → List Shown → List (List Slot)
 runs hand [] = []
 runs hand (p ∷ ps) = if p.0 then runs (hand ++ p.1) ps else (hand ++ p.1) ∷ runs [] ps
@@ -106,7 +106,7 @@ draws_from by ds graph h = record {
   each = drawn_at by ds ds graph h;
 }
 
--- pairs taken from the front draw the directories
+-- passing pairs from the front describes the directories
 pub thread_drawn : (by : NameOrder) (g : Gstate) (ps : List Pair) → Ends ps → Each Named (shown_in g ps)
     → IsDirectoryGraph by (pair_directories g ps) (vertices by (directory_addresses (pair_directories g ps)) empty_scan (map entries_of (shown_in g ps)))
 thread_drawn by g ps ends named =

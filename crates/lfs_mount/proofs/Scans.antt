@@ -145,7 +145,7 @@ name_type kind = go (kind == file_name_type) (kind == directory_name_type) refl 
     go false true e f = directory_there (eqb-true kind directory_name_type f)
     go false false e f = other_there (ap₂ (λ x y. cond x File (cond y Directory Superblock)) e f)
 
--- a kind and a struct that suit stand for something
+-- a kind and a struct that suit it name something
 stands : (kind type : ℕ) (bytes : List ℕ) → IsAllowedPart 2 (type, bytes) → HasKind (kind_of_type kind) (decoded_struct type bytes) → raw_reference kind (type, bytes) ≡ None → ⊥
 stands kind type bytes h has_struct_of_its_kind none = go (name_type kind) (part_type type bytes h)
   where
@@ -231,7 +231,7 @@ scan_none by firsts known (s ∷ raws) parts e slots are entries = go (raw_slot_
     go None f g next = entry_none s p.first parts.0 f p.is_first (All-head IsTreeEntry p.first p.others all)
     go (Some x) f g next = next x g
 
--- where they aren't all entries, one isn't
+-- if they aren't all entries, one isn't
 pub scan_none_at : (by : NameOrder) (firsts : List (ℕ × ℕ)) (known : Name × Vertex) (raws : List RawSlot) → scan_after_slots by firsts known raws ≡ None → (index : ℕ) × LacksEntryAt raws index
 scan_none_at by firsts known [] e = absurd (cc)
 scan_none_at by firsts known (s ∷ raws) e = go (raw_slot_entry s) refl e (λ x. scan_none_at by firsts (scan_with_entry by firsts known x) raws)

@@ -34,7 +34,7 @@ few_after n c (e ∷ es) d few is =
     let all = few_after (n + 1) u es d (omega arith) rest in
     omega arith)
 
--- a block that a device may have comes to few slots
+-- a block of a size that a device may have has few slots
 pub few_slots : (block : List ℕ) (held : RawContent) → length block ≤ 2 ^ 16 → content_after empty_raw_content (block_entries block) ≡ Some held → length held.slots < 2 ^ 15
 few_slots block held small is =
     let all = few_after 0 empty_raw_content (block_entries block) held (omega arith) is in

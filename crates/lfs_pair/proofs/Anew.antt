@@ -31,7 +31,7 @@ anew_ends size page count revision c valid fits =
 pub anew_room : {b : PartialCommit} {size page count revision : ℕ} {c : RawContent} → b ≡ anew size page revision c → IsValidGeometry size page count → RawContentFits size page c → padded_commit_end b ≤ b.room
 anew_room {size = size} {page} {count} {revision} {c} is valid fits = subst (λ (d : PartialCommit). padded_commit_end d ≤ d.room) (sym is) (anew_ends size page count revision c valid fits)
 
--- where it begins at 0
+-- if it begins at 0
 pub anew_within : {b : PartialCommit} {size page count revision : ℕ} {c : RawContent} → b ≡ anew size page revision c → IsValidGeometry size page count → RawContentFits size page c → 0 + padded_commit_end b ≤ size
 anew_within {size = size} {page} {count} {revision} {c} is valid fits =
     let ends = anew_ends size page count revision c valid fits in subst (λ (d : PartialCommit). 0 + padded_commit_end d ≤ size) (sym is) (omega arith)
@@ -53,7 +53,7 @@ anew_holds {c = c} {old = old} new is sound gets =
       commits = got.commits;
     }
 
--- ---- what a stop on the way there leaves
+-- ---- what a stop leaves before it is done
 
 left_by_erase : {block revision : ℕ} {c : RawContent} {old : Blocks} (disk : Blocks) → SameExcept block old disk × MayEraseLeave (block_bytes old block) (block_bytes disk block)
     → DiffersInBlock block (LossLeavesRewritten revision c) old disk
@@ -82,7 +82,7 @@ leaves_anew {revision = revision} {block = block} {c = c} {old = old} {mid = mid
     let left : MayEraseLeave (block_bytes old block) (block_bytes mid block) = AllCallsSince-only (AllCallsSince-until clean first behind) here in
     goes_on_by first (HoldsAtLosses-weaker (λ disk stopped. (SameExcept-trans same stopped.0, left_anew (block_bytes old block) (block_bytes mid block) (block_bytes disk block) is sound left stopped.1)) behind)
 
--- ---- where it ends
+-- ---- the end
 
 pub nothing_more : (n : ℕ) → 0 + n ≡ n
 nothing_more n = omega arith

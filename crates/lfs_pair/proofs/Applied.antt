@@ -25,7 +25,7 @@ mapped_split f (x ∷ xs) zero d l = refl
 mapped_split f (x ∷ xs) (suc i) d l =
     let more : suc i + 1 ≡ suc (i + 1) = omega arith in rw more (ap (λ ys. f x ∷ ys) (mapped_split f xs i d (omega arith)))
 
--- one change more
+-- one more change
 pub one_more : (c mid new : RawContent) (front : List ContentChange) (change : ContentChange) → content_after c (entries_of_changes front) ≡ Some mid → content_after mid (change_entries change) ≡ Some new
     → content_after c (entries_of_changes (front ++ change ∷ [])) ≡ Some new
 one_more c mid new front change so_far here =

@@ -6,7 +6,7 @@ use Rattle.lfs_model.specs.session.History.{LossLeavesAtWorst}
 use Rattle.lfs_model.proofs.Histories.{StayUnprogrammed-blank, StayUnprogrammed-refl}
 use Rattle.lfs_pair.specs.declared.pair.Pair.{Pair}
 
--- what can be appended where no word came can be by any history
+-- if the device wasn't asked, the same can be appended for any history
 pub appends_until : {disk : Disk} {before after some more : List CallEvent} {pair : Pair} {changes : List ContentChange} → blank_count after ≡ blank_count before → AppendFits disk before after pair changes → AppendFits disk some more pair changes
 appends_until {before = before} {after = after} {some = some} {more = more} {pair = pair} words can = record { known = known can.known; room = can.room }
   where
@@ -14,7 +14,7 @@ appends_until {before = before} {after = after} {some = some} {more = more} {pai
     known (inl written) = inl written
     known (inr blank) = absurd (omega (arith, words, blank))
 
--- a pair that was fetched, without a word more
+-- a fetched pair for which the device wasn't asked
 pub unknown : {before after : List CallEvent} (pair : Pair) → pair.is_fetched ≡ true → after ≡ before → IsEndUnprogrammed before after pair → ⊥
 unknown pair fetched same (inl written) = absurd (cc)
 unknown pair fetched same (inr blank) = let is = ap blank_count same in absurd (omega (arith, is, blank))

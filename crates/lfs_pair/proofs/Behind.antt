@@ -17,7 +17,7 @@ use Rattle.lfs_pair.proofs.Asking.{appends_until}
 
 -- ---- reads
 
--- a device that was only read, at most so often and without a fault
+-- a device that was only read, at most `most` times and without a fault
 pub record IsRead {D : Type 0} (g : Ghosts D) (most : ℕ) (old mid : D) : Type 0 where
   pub device : ReadsOnly g old mid
   pub few : read_count (g.history mid) ≤ read_count (g.history old) + most
@@ -27,7 +27,7 @@ pub record IsRead {D : Type 0} (g : Ghosts D) (most : ℕ) (old mid : D) : Type 
 pub unread : {D : Type 0} (g : Ghosts D) (old : D) → IsRead g 0 old old
 unread g old = record { device = record { same = refl; geometry = refl; reads = began }; few = omega arith; faultless = refl }
 
--- the same where nothing was appended then
+-- the same if nothing was appended then
 pub is_read_on : {D : Type 0} {g : Ghosts D} {most : ℕ} {changes : List ContentChange} {old mid new : D} {was now : Pair} → IsRead g most old mid → RefusesAppend g changes mid new was now → IsRead g most old new
 is_read_on {g = g} {old = old} r refused = record {
   device = record {
@@ -48,7 +48,7 @@ only_behind r only = only_trans (only_by_reads r.device) only
 pub reading_behind : {D : Type 0} {g : Ghosts D} {n : ℕ} (m : ℕ) {bs : List ℕ} {old mid new : D} → IsRead g n old mid → ChangesTheseBlocks g bs mid new → read_count (g.history new) ≤ read_count (g.history mid) + m → ChangesReadingFew g (m + n) bs old new
 reading_behind m r only more = record { only = only_behind r only; few = let few = r.few in omega (arith, few, more) }
 
--- the same where more would be allowed
+-- the same if more reads are allowed
 pub reading_more : {D : Type 0} {g : Ghosts D} (n : ℕ) {bs : List ℕ} {old new : D} → ChangesReadingFew g (0 + n) bs old new → ChangesReadingFew g (1 + n) bs old new
 reading_more n reads = record { only = reads.only; few = let few = reads.few in omega (arith, few) }
 
@@ -89,7 +89,7 @@ appends_some {old} {disk} {before} {history} {was} {changes} is appends = subst 
 pub refuses_none : {D : Type 0} {g : Ghosts D} {changes : List ContentChange} {old new : D} {was : Pair} {o : Option WrittenCommit} → o ≡ None → IfNone o (RefusesAppend g changes old new was was) → RefusesAppend g changes old new was was
 refuses_none {g = g} {changes} {old} {new} {was} is refuses = subst (λ x. IfNone x (RefusesAppend g changes old new was was)) is refuses
 
--- the header behind an append is at the same place
+-- the header after an append has the same address
 pub same_header : {c : RawContent} {was with pair : Pair} {end last : ℕ} → IsHeaderWith c was with → IsWrittenHeader (header_address with) with.active with.revision end last c pair
     → IsWrittenHeader (header_address was) was.active was.revision end last c pair
 same_header with now = record { blocks = now.blocks ∙ with.blocks; active = now.active ∙ with.active; revision = now.revision ∙ with.revision; ends = now.ends; sums = now.sums; fetched = now.fetched }

@@ -103,7 +103,7 @@ reading_trans first second = record {
   few = let a = first.few in let b = second.few in omega (arith, a, b);
 }
 
--- one read, where more are allowed
+-- one read, if more are allowed
 pub reading_by_read : {D : Type 0} {g : Ghosts D} {n : ℕ} {bs : List ℕ} {old new : D} → ReadsOnly g old new → read_count (g.history new) ≤ read_count (g.history old) + 1 → 1 ≤ n → ChangesReadingFew g n bs old new
 reading_by_read read few some = record { only = only_by_reads read; few = omega (arith, few, some) }
 

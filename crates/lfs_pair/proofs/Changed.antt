@@ -85,7 +85,7 @@ pub record IsAppending (disk : Disk) (at : ℕ × ℕ) (active other : ℕ) (hel
   pub more : content_after held b.entries ≡ Some new
   pub no_revision : b.revision ≡ None
 
--- the active block still is, where it has the log from before or behind the commit
+-- the active block still is the active one if it has the log from before the commit or after it
 appended_active : (disk : Disk) (at : ℕ × ℕ) (active other : ℕ) (held new : RawContent) (b : PartialCommit) (left : Blocks) → IsAppending disk at active other held new b
     → SameExcept active disk.blocks left → Stays (disk_block disk active) (block_bytes left active) → active ≡ active_block_at (record disk { blocks = left }) at
 appended_active disk at active other held new b left a same stays =
@@ -137,7 +137,7 @@ left_by_append disk at active other held new b end left a is (same, which) = rec
       first = appended_first disk at active other held new b (Some new) left a same gets;
     })
 
--- ---- a content written anew into the other block
+-- ---- a compaction into the other block
 
 pub record IsCompacting (disk : Disk) (at : ℕ × ℕ) (active other revision : ℕ) : Type 0 where
   pub sides : Sides disk at active other
@@ -304,7 +304,7 @@ content_made_here disk history pair held new block changes c is here made log =
 pub left_alone : (disk : Disk) (at : ℕ × ℕ) (changes : List ContentChange) → LossLeavesChanged disk at changes disk.blocks
 left_alone disk at changes = record { others = SameExceptBlocks-refl (at.0 ∷ at.1 ∷ []) disk.blocks; content = inl (record { content = refl; first = λ e h. h }) }
 
--- what changes make is what is left, where that isn't what was
+-- if the old content isn't what is left, the changed one is
 pub left_by_change : (disk : Disk) (at : ℕ × ℕ) (changes : List ContentChange) (new : RawContent) (left : Blocks) → changed_pair_content disk at changes ≡ Some new → RawContentFits disk.block_size disk.page new → IsWellFormed new
     → LossLeavesNew disk at new left → LossLeavesChanged disk at changes left
 left_by_change disk at changes new left made fits logged l = record { others = l.others; content = go l.content }
@@ -316,7 +316,7 @@ left_by_change disk at changes new left made fits logged l = record { others = l
 second_alone : (a b : List ℕ) → has_commit b ≡ false → is_second_active a b ≡ false
 second_alone a b none = rw none refl
 
--- where the second block has no commit, the first holds
+-- if the second block has no commit, the first is active
 pub first_in : (disk : Disk) (at : ℕ × ℕ) (revision : ℕ) (c : RawContent) → has_commit (disk_block disk at.1) ≡ false → HasOneCommit revision c (disk_block disk at.0) → IsIn disk at at.0 c
 first_in disk at revision c cleared holds = record {
   active_is = sym (ap (λ s. cond s at.1 at.0) (second_alone (disk_block disk at.0) (disk_block disk at.1) cleared));

@@ -21,7 +21,7 @@ Gets-same {b} {old} {new} left gets same = record {
   revision = revision_same left new same (Gets-has_commit gets) ∙ gets.revision;
 }
 
--- the block has room for the pages, they go there, and it has these bytes behind them
+-- the block has room for the pages, they are programmed there, and these bytes follow them
 pub record GoInto (b : PartialCommit) (next : Option (List ℕ)) (pages : List ℕ) (at : ℕ) (block : List ℕ) : Type 0 where
   pub commit : AreCommitPages b next pages
   pub goes : IsCommitOffset b.revision b.previous block at

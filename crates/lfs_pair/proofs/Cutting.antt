@@ -28,18 +28,18 @@ cut_after block_size page slots first cut is before within fits =
       };
     }
 
--- where a longer front doesn't fit, no cut is later
+-- if a longer front doesn't fit, no later cut does
 not_later : (block_size page : ℕ) (slots : List RawSlot) (cut k : ℕ) → (cut + 1 ≤ slots_limit → sum_by slot_size_raw (take (cut + 1) slots) ≤ pair_capacity block_size page → ⊥) → IsFittingSplit block_size page slots k → k ≤ cut
 not_later block_size page slots cut k full is = elim (cases_lt cut k) [
   | inl later ↦ absurd (full (omega (arith, length-take-le k slots is.within, is.front.count)) (omega (arith, front_grows slot_size_raw slots (cut + 1) k (omega arith), is.front.size)))
   | inr le ↦ le
 ]
 
--- an earlier cut was passed over, since more may stand in front
+-- an earlier cut isn't the last, since more slots may be in front
 abbrev pub Passes : ℕ → ℕ → List RawSlot → ℕ → Type 0
 Passes block_size page slots cut = (k : ℕ) → k < cut → IsFittingSplit block_size page slots k → 2 * sum_by slot_size_raw (take cut slots) ≤ sum_by slot_size_raw slots
 
--- the slots that may stand in front before the cut
+-- the slots that may be in front of the cut
 pub record Fronts (block_size page : ℕ) (slots : List RawSlot) (cut : ℕ) : Type 0 where
   pub fits : SlotsFitPair block_size page (take cut slots)
   pub passes : Passes block_size page slots cut
@@ -47,7 +47,7 @@ pub record Fronts (block_size page : ℕ) (slots : List RawSlot) (cut : ℕ) : T
 pub nothing_in_front : (block_size page : ℕ) (slots : List RawSlot) → Fronts block_size page slots 0
 nothing_in_front block_size page slots = record { fits = record { size = omega arith; count = omega arith }; passes = λ k l is. absurd (omega arith) }
 
--- at the end all stand in front
+-- at the end all are in front
 pub cut_at_end : (block_size page : ℕ) (slots : List RawSlot) (cut : ℕ) → cut ≡ length slots → Fronts block_size page slots cut → IsHalfCut block_size page slots cut
 cut_at_end block_size page slots cut is front =
     let none : drop cut slots ≡ [] = drop_of_length-le slots (omega arith) in

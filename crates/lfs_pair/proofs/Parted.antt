@@ -65,7 +65,7 @@ AreNamed-drop zero slots have = have
 AreNamed-drop (suc n) [] have = tt
 AreNamed-drop (suc n) (s ∷ slots) have = AreNamed-drop n slots have.1
 
--- a content that can be written anew
+-- a content that a compaction can write
 pub record IsReady (block_size page : ℕ) (c : RawContent) : Type 0 where
   pub logged : IsWellFormed c
   pub names : AreNamed c.slots
@@ -97,7 +97,7 @@ back_ready {block_size} {page} {whole} parts logged names =
       fits = record { size = parts.is_cut.back.size; count = parts.is_cut.back.count };
     })
 
--- where the whole doesn't fit, neither part is empty
+-- if the whole doesn't fit, neither part is empty
 pub cut_inside : {block_size page cut : ℕ} {whole : RawContent} → IsFittingSplit block_size page whole.slots cut → BothHaveSlots block_size page whole cut
 cut_inside {block_size} {page} {cut} {whole} is full = (front cut is, back)
   where
@@ -113,7 +113,7 @@ cut_inside {block_size} {page} {cut} {whole} is full = (front cut is, back)
           absurd (full (record { size = subst (λ s. sum_by slot_size_raw s ≤ pair_capacity block_size page) all is.front.size; count = subst (λ s. length s ≤ slots_limit) all is.front.count }))
     ]
 
--- one more block written anew
+-- one more block that is erased and written
 pub clears_more : {count revision : ℕ} {c : RawContent} {block : List ℕ} {before mid history : List CallEvent} {P Q : CallEvent → Type 0} → AllCallsSince P before mid → AllCallsSince Q mid history → ErasedOneMore count before mid → IsWrittenAnew revision c block mid history
     → ErasedOneMore (count + 1) before history
 clears_more {before = before} {mid = mid} {history = history} first second clears anew = record {
@@ -154,7 +154,7 @@ is_splitting {geometry} {blocks = blocks} {history = history} {pair = pair} {fre
       back_ready = back_ready parts logged names;
     }
 
--- ---- what a stop on the way there leaves
+-- ---- what a stop leaves before it is done
 
 still_elsewhere : (old : Disk) (at fresh : ℕ × ℕ) (left : Blocks) → AreApart at fresh → KeepsOutsidePair fresh old.blocks left → HasOldContent old at (record old { blocks = left })
 still_elsewhere old at fresh left apart same = record {
@@ -166,7 +166,7 @@ pub first_while_fresh : (old : Disk) (at fresh : ℕ × ℕ) (left : Blocks) →
     → BeginsWith (current_block (record old { blocks = left }) at) e
 first_while_fresh old at fresh left apart same = (still_elsewhere old at fresh left apart same).first
 
--- the first entry stays where the fresh pair was written first
+-- the first entry stays if the fresh pair was written first
 pub first_behind : (old : Disk) (at fresh : ℕ × ℕ) (mid left : Blocks) (new : RawContent) → AreApart at fresh → KeepsOutsidePair fresh old.blocks mid
     → KeepsFirstEntry (record old { blocks = mid }) at (Some new) (record old { blocks = left }) → KeepsFirstEntry old at (Some new) (record old { blocks = left })
 first_behind old at fresh mid left new apart same keeps e h anew = keeps e ((still_elsewhere old at fresh mid apart same).first e h) anew

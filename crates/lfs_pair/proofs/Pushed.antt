@@ -17,7 +17,7 @@ with_more es fs old mid new first second =
 
 -- ---- loops
 
--- one attribute more
+-- one more attribute
 pub attributes_more : (id kind : ℕ) (xs : List Attribute) (i : ℕ) (d : Attribute) (old mid new : PartialCommit) → i < length xs → kind ≡ (get_or xs i d).kind
     → mid ≡ commit_with_entries (attribute_entries id (map attribute_view (take i xs))) old → new ≡ commit_with_entries (log_entry (first_attribute_type + kind) id (get_or xs i d).bytes.now ∷ []) mid
     → new ≡ commit_with_entries (attribute_entries id (map attribute_view (take (i + 1) xs))) old
@@ -26,7 +26,7 @@ attributes_more id kind xs i d old mid new l is first second =
     with_more (attribute_entries id (map attribute_view (take i xs))) (log_entry (first_attribute_type + (get_or xs i d).kind) id bytes ∷ []) old mid new first (second ∙ ap (λ k. commit_with_entries (log_entry (first_attribute_type + k) id bytes ∷ []) mid) is)
     ∙ ap (λ es. commit_with_entries es old) (sym (ap (attribute_entries id) (mapped_front attribute_view xs i d l) ∙ map-append _ (map attribute_view (take i xs)) (attribute_view (get_or xs i d) ∷ [])))
 
--- one element more of a list where each has a list of entries
+-- one more element of a list in which each has a list of entries
 pub flat_more : {X Y : Type 0} (f : X → Y) (e : Y → List LogEntry) (xs : List X) (i : ℕ) (d : X) (old mid new : PartialCommit) → i < length xs
     → mid ≡ commit_with_entries (flat_map e (map f (take i xs))) old → new ≡ commit_with_entries (e (f (get_or xs i d))) mid
     → new ≡ commit_with_entries (flat_map e (map f (take (i + 1) xs))) old
@@ -44,7 +44,7 @@ slots_append id (t ∷ slots) s =
     ap (λ es. slot_entries id t ++ es) (slots_append (id + 1) slots s ∙ ap (λ k. entries_of_slots (id + 1) slots ++ slot_entries k s) next)
     ∙ sym (append_assoc (slot_entries id t) (entries_of_slots (id + 1) slots) (slot_entries (id + suc (length slots)) s))
 
--- one slot more
+-- one more slot
 pub slots_more : {X : Type 0} (f : X → RawSlot) (xs : List X) (i : ℕ) (x : X) (id : ℕ) (old mid new : PartialCommit) → i < length xs → x ≡ get_or xs i x → id ≡ i
     → mid ≡ commit_with_entries (entries_of_slots 0 (map f (take i xs))) old → new ≡ commit_with_entries (slot_entries id (f x)) mid
     → new ≡ commit_with_entries (entries_of_slots 0 (map f (take (i + 1) xs))) old

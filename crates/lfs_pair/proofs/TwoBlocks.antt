@@ -100,7 +100,7 @@ still_active disk at active other left (second e is also) stays weaker =
     is ∙ sym (ap (λ s. cond s at.1 at.0) (second_stays (disk_block disk at.0) (disk_block disk at.1) (block_bytes left at.0) (block_bytes left at.1) e
     (subst (λ b. Stays (disk_block disk b) (block_bytes left b)) is stays) (subst (λ b. Weaker (disk_block disk b) (block_bytes left b)) also weaker)))
 
--- the other block holds, as it has the next revision
+-- the other block is active, as it has the next revision
 pub other_active : (disk : Disk) (at : ℕ × ℕ) (active other : ℕ) (left : Blocks) → Sides disk at active other
     → has_commit (block_bytes left active) ≡ true → has_commit (block_bytes left other) ≡ true → block_revision (block_bytes left active) < 2 ^ 32
     → block_revision (block_bytes left other) ≡ (block_revision (block_bytes left active) + 1) % 2 ^ 32

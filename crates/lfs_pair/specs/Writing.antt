@@ -31,7 +31,7 @@ pub record CanProgramCommit (geometry : Geometry) (blocks : Blocks) (history : L
   pub goes : IsCommitOffset builder.revision builder.previous (block_bytes blocks b) at
   pub unprogrammed : AreUnprogrammed history b at geometry.block_size
 
--- the same of a block with these bytes
+-- the same for a block with these bytes
 pub record CanAppendCommit (geometry : Geometry) (blocks : Blocks) (history : List CallEvent) (builder : PartialCommit) (b at : ℕ) (bytes : List ℕ) : Type 0 where
   pub can : CanProgramCommit geometry blocks history builder b at
   pub holds : bytes ≡ block_bytes blocks b

@@ -41,7 +41,7 @@ fetched_stands disk history at pair sets on f full first second =
       holds = ap (content_at disk) (sym f.at) ∙ header_content disk history pair h;
     }
 
--- no content, where a slot lacks its name or its struct
+-- no content, if a slot lacks its name or its struct
 pub fetched_incomplete : (disk : Disk) (history : List CallEvent) (at : ℕ × ℕ) (pair : PairHeader) → FetchFinds disk history at pair → pair.is_complete ≡ false → content_at disk at ≡ None
 fetched_incomplete disk history at pair f not_full = ap (option_and_then complete_content) f.content ∙ go (complete_content f.held) (sym f.is_pair.describes.sums.complete ∙ not_full)
   where

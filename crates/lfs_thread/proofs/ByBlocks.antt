@@ -26,14 +26,14 @@ last_there : {X : Type 0} (xs : List X) (y : X) → slice_get (xs ++ y ∷ []) (
 last_there [] y = refl
 last_there (a ∷ xs) y = last_there xs y
 
--- what stands in a list with one more at its end
+-- the elements of a list with one more at its end
 was_or_last : {X : Type 0} (xs : List X) (y : X) (i : ℕ) (x : X) → slice_get (xs ++ y ∷ []) i ≡ Some x → (slice_get xs i ≡ Some x) ⊎ ((i ≡ length xs) × (y ≡ x))
 was_or_last [] y zero x e = inr (refl, same_Some y x e)
 was_or_last [] y (suc i) x e = absurd (cc)
 was_or_last (a ∷ xs) y zero x e = inl e
 was_or_last (a ∷ xs) y (suc i) x e = ⊎_elim (λ was. inl was) (λ last. inr (ap suc last.0, last.1)) (was_or_last xs y i x e)
 
--- ---- the place of an address
+-- ---- the list index of an address
 
 -- two blocks in either order are the lesser and the greater one
 pub sorted_from_same : (a b : ℕ × ℕ) → same_pair a b ≡ true → (lesser_of a ≡ lesser_of b) × (greater_of a ≡ greater_of b)
@@ -57,7 +57,7 @@ same_from_sorted a b l g = ⊎_elim
     (λ w. or_right _ _ (and_from _ _ (eq-eqb a.0 b.1 w.0) (eq-eqb a.1 b.0 w.1)))
     (cases_same a b l g)
 
--- the address at a place
+-- the address at a list index
 pub place_some : (addresses : List (ℕ × ℕ)) (at : ℕ × ℕ) (i : ℕ) → address_index addresses at ≡ Some i → SameAddressAt addresses at i
 place_some [] at i e = absurd (cc)
 place_some (a ∷ addresses) at i e = go (same_pair a at) refl e (place_some addresses at)
@@ -70,7 +70,7 @@ place_some (a ∷ addresses) at i e = go (same_pair a at) refl e (place_some add
         let p = next m.0 m.1 in
         record { address = p.address; there = ap (slice_get (a ∷ addresses)) (sym m.2) ∙ p.there; same = p.same }
 
--- an address without a place is none of them
+-- an address without a list index isn't in the list
 pub place_none : (addresses : List (ℕ × ℕ)) (at : ℕ × ℕ) → address_index addresses at ≡ None → AllByRecursion (λ a. same_pair a at ≡ false) addresses
 place_none [] at e = tt
 place_none (a ∷ addresses) at e = go (same_pair a at) refl e (place_none addresses at)
@@ -123,11 +123,11 @@ module _ (addresses : List (ℕ × ℕ)) (place : ℕ → Option ℕ) (by : Find
           let c = place_some addresses at j h in
           absurd (let clash : Some j ≡ None = sym (by.each j c.address c.there) ∙ ap place (sorted_from_same c.address at c.same).0 ∙ e in cc)
 
-  -- the place is within the list
+  -- the list index is within the list
   pub place_within : (i : ℕ) → place (lesser_of at) ≡ Some i → (a : ℕ × ℕ) × (slice_get addresses i ≡ Some a)
   place_within i e = let m = mapped lesser_of (slice_get addresses i) (lesser_of at) (by.only (lesser_of at) i e) in (m.0, m.1)
 
--- ---- one address more
+-- ---- one more address
 
 equal_keys : (a b : ℕ) → a ≡ b → is_eq (nat_cmp a b) ≡ true
 equal_keys a b same = grind (arith, nat_tests)

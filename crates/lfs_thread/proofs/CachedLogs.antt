@@ -105,7 +105,7 @@ current_read blocks cache now b (inr put) current other bytes h = go (eqb_tells 
         same_Some bytes x e ∙ ap (block_bytes blocks) (sym k.1)
     go (inr k) = current other bytes (cached_bytes-put_first_other cache b other x bytes k.1 (sym (ap (λ z. cached_bytes z other) put) ∙ h))
 
--- ---- a block that is written where it is cached
+-- ---- a cached block that is written
 
 abbrev pub IsUncached : CachedBlocks → ℕ → Type 0
 IsUncached cache b = (bytes : List ℕ) → cached_bytes cache b ≡ Some bytes → ⊥
@@ -116,11 +116,11 @@ uncached cache b none bytes h = absurd (let e : None ≡ Some bytes = sym none �
 pub uncached_without : (cache : CachedBlocks) (gone b : ℕ) → IsUncached cache b → IsUncached (cache_without cache gone) b
 uncached_without cache gone b none bytes h = none bytes (still_there cache gone b bytes h).was
 
--- a block that isn't cached isn't where another is filled
+-- a block that isn't cached isn't cached after another one is filled
 pub uncached_filled : (cache now : CachedBlocks) (b other : ℕ) (x : List ℕ) → now ≡ cache_with cache b x → other ≢ b → IsUncached cache other → IsUncached now other
 uncached_filled cache now b other x filled apart none bytes h = none bytes (cached_bytes-put_first_other cache b other x bytes apart (sym (ap (λ z. cached_bytes z other) filled) ∙ h))
 
--- after the bytes of a cached block of a pair were written, where the other block isn't cached, and only the pair changed
+-- after the bytes of a pair's cached block were written, if the other block isn't cached and only the pair changed
 pub current_written : {old new : Blocks} (cache : CachedBlocks) (active other : ℕ) (at : ℕ × ℕ) {x : List ℕ} → IsCacheCurrent old cache → SameExceptBlocks (address_blocks at) old new → IsSome (cached_bytes cache active)
     → IsUncached cache other → ((b : ℕ) → b ≢ active → b ≢ other → (at.0 ≢ b) × (at.1 ≢ b)) → x ≡ block_bytes new active → IsCacheCurrent new (set_value (nat_eq active) cache x)
 current_written {old} {new} cache active other at {x} current same some none both is b bytes h = go (eqb_tells active b) (sym (lookup-set_value nat_eq_equiv (nat_eq active) (λ k y e. ap (λ z. nat_eq z y) (eqb-true active k e)) b x cache some) ∙ h)
@@ -134,7 +134,7 @@ current_written {old} {new} cache active other at {x} current same some none bot
         let outside = both b (λ e. k.1 (sym e)) (λ e. none bytes (subst (λ z. cached_bytes cache z ≡ Some bytes) e found)) in
         current b bytes found ∙ sym (same.others b (All-from_recursion (λ k. k ≢ b) (address_blocks at) (outside.0, (outside.1, tt))))
 
--- after a pair was split, where neither its other block nor the fresh pair's blocks are cached, and its active block stays
+-- after a split, if neither the pair's other block nor the fresh pair's blocks are cached, and its active block stays
 pub current_split : {old new : Blocks} (cache : CachedBlocks) (active other : ℕ) (at fresh : ℕ × ℕ) → IsCacheCurrent old cache → SameExceptBlocks (addresses_blocks at fresh) old new → block_bytes new active ≡ block_bytes old active
     → IsUncached cache other → IsUncached cache fresh.0 → IsUncached cache fresh.1 → ((b : ℕ) → b ≢ active → b ≢ other → (at.0 ≢ b) × (at.1 ≢ b)) → IsCacheCurrent new cache
 current_split {old} {new} cache active other at fresh current same kept none first second both b bytes h = current b bytes h ∙ sym (go (eqb_tells active b))

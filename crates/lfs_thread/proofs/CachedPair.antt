@@ -49,7 +49,7 @@ module _ (disk : Disk) (history : List CallEvent) (hs : List PairHeader) (sets :
     bytes = are;
   }
 
-  -- where its log ends, and by which tag
+  -- the end of its log, and its last tag
   pub end_there : (bytes : List ℕ) → bytes ≡ disk_block disk h.active → h.end ≡ (chain_of bytes).end
   end_there bytes e = there.is_pair.describes.end ∙ ap (λ b. (chain_of b).end) (sym e)
 
@@ -89,7 +89,7 @@ module _ (disk : Disk) (history : List CallEvent) (hs : List PairHeader) (sets :
       let right = used_right sets (pairs_blocks (header_pairs disk a.front)) (pairs_blocks (header_pairs disk (h ∷ a.back))) cut in
       one_of_both (IsUsedBlock sets) right.0 right.1.0
 
-  -- where two blocks in flight are no longer cached, this one still is
+  -- if two blocks in flight are no longer cached, this one still is
   pub cached_beside : (fresh : ℕ × ℕ) → FreshInFlight sets fresh → (cache now : CachedBlocks) → now ≡ cache_without (cache_without cache fresh.0) fresh.1 → cached_bytes now h.active ≡ cached_bytes cache h.active
   cached_beside fresh held cache now is =
       ap (λ z. cached_bytes z h.active) is
@@ -106,7 +106,7 @@ module _ (disk : Disk) (history : List CallEvent) (hs : List PairHeader) (sets :
 
 -- ---- the reads of a block that is loaded into the cache
 
--- one at most, whatever comes of it
+-- at most one read, whatever the result
 pub few_reads : {D : Type 0} (g : Ghosts D) (was : Option (List ℕ)) (b : ℕ) (old new : D) (result : Result (Unit {0}) Error) → ReadsUnlessCached g was b old new result → IfErr result (λ e. (e ≡ Io) ⊎ (e ≡ NoMemory))
     → read_count (g.history new) ≤ read_count (g.history old) + 1
 few_reads g (Some bytes) b old new result r e = let s = ap (λ d. read_count (g.history d)) (r.no_call (search rules)) in omega (arith, s)
@@ -118,7 +118,7 @@ few_reads g None b old new (Err e) r (inr memory) = go (r.no_memory (ap Err memo
     go (inl s) = let k = ap read_count s in omega (arith, k)
     go (inr s) = let k = ap read_count s in omega (arith, k)
 
--- none where it is there
+-- none if it is cached
 pub fill_reads : {D : Type 0} (g : Ghosts D) (was : Option (List ℕ)) (b : ℕ) (old new : D) (result : Result (Unit {0}) Error) → ReadsUnlessCached g was b old new result → IfErr result (λ e. (e ≡ Io) ⊎ (e ≡ NoMemory))
     → read_count (g.history new) ≤ read_count (g.history old) + reads_unless_cached was
 fill_reads g (Some bytes) b old new result r e = let s = ap (λ d. read_count (g.history d)) (r.no_call (search rules)) in omega (arith, s)

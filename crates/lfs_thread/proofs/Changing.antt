@@ -194,7 +194,7 @@ module _ (disk : Disk) (before : List CallEvent) (blocks : Blocks) (after : List
     map = refl;
   }
 
--- the same of a device that keeps its geometry
+-- the same for a device that keeps its geometry
 module _ (geometry later : Geometry) (old blocks : Blocks) (before after : List CallEvent) (hs : List PairHeader) (sets : BlockStates) (index : ℕ) (h new : PairHeader) (changes : List ContentChange)
     (same : later ≡ geometry) (a : IsAt hs index h) (kept : IsKeptOnDisk (disk_of_blocks geometry old) before hs sets) (can : CanChangePair (kept_view (disk_of_blocks geometry old) before hs sets) index changes)
     (commits : CommitsChanges (disk_of_blocks geometry old) before changes h (disk_of_blocks later blocks) after new) (others : KeepsOutsidePair (header_address h) old blocks) (stay : OutsideStaysUnprogrammed (header_address h) before after) where

@@ -4,7 +4,7 @@ use Rattle.std.specs.Prelude.{IfNone, IfSome}
 use Rattle.lfs_thread.proofs.Common.{ne_eqb, slice_get_within, length-set, BlockStates, Free, InFlight, Used, IsFree, IsInFlight, IsUsedBlock, Disk, CallEvent, slice_get-set_same, slice_get-set_other, number_occurrences, count_here, IsPairAddress, pairs_blocks, PairHeader, AllBlocksUsed, IsKeptOnDisk, header_pairs, FreshInFlight, map_using}
 use Rattle.lfs_model.specs.layers.BlockSets.{BlockState}
 
--- ---- blocks that aren't used stand in no pair
+-- ---- blocks that aren't used are in no pair
 
 pub count_other : (x b : ℕ) (bs : List ℕ) → x ≢ b → number_occurrences x (b ∷ bs) ≡ number_occurrences x bs
 count_other x b bs apart = let e : 0 + number_occurrences x bs ≡ number_occurrences x bs = omega arith in ap (λ t. cond t 1 0 + number_occurrences x bs) (ne_eqb x b apart) ∙ e
@@ -68,7 +68,7 @@ settles_two sets fresh t = record {
   size = length-set (set sets fresh.0 Used) fresh.1 Used ∙ length-set sets fresh.0 Used;
 }
 
--- the second is still in flight, where the first is settled
+-- the second block is still in flight once the first is settled
 pub second_held : (sets : BlockStates) (fresh : ℕ × ℕ) → FreshInFlight sets fresh → IsInFlight (set sets fresh.0 Used) fresh.1
 second_held sets fresh t = slice_get-set_other sets fresh.0 fresh.1 Used (λ e. t.apart (sym e)) ∙ t.second
 
@@ -87,7 +87,7 @@ held_address disk history hs sets fresh kept held = record {
   second = let l = slice_get_within sets fresh.1 InFlight held.second in let s = kept.size in omega arith;
 }
 
--- ---- a block that isn't used comes into another state
+-- ---- a block that isn't used changes its state
 
 used_beside : (sets : BlockStates) (x : ℕ) (s : BlockState) (bs : List ℕ) → ¬ IsUsedBlock sets x → AllBlocksUsed sets bs → AllBlocksUsed (set sets x s) bs
 used_beside sets x s [] unused used = tt

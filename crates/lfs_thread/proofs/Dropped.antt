@@ -42,7 +42,7 @@ remove_behind (x ∷ xs) y z ys = let e : suc (length xs) + 1 ≡ suc (length xs
 set_next : (hs : List PairHeader) (index : ℕ) (h new : PairHeader) (n : HasNext hs index h) → set hs index new ≡ n.front ++ new ∷ n.next ∷ n.back
 set_next hs index h new n = ap₂ (λ (z : List PairHeader) (i : ℕ). set z i new) n.parts n.place ∙ set-append_seam n.front h (n.next ∷ n.back) new
 
--- what is taken out is the next header
+-- the header that is removed is the next one
 pub gone_is : (hs : List PairHeader) (index : ℕ) (h new gone : PairHeader) (n : HasNext hs index h) → gone ≡ get_or (set hs index new) (index + 1) gone → gone ≡ n.next
 gone_is hs index h new gone n value = value ∙ ap₂ (λ (z : List PairHeader) (i : ℕ). get_or z (i + 1) gone) (set_next hs index h new n) n.place ∙ get_behind n.front new n.next n.back gone
 
@@ -124,7 +124,7 @@ module _ (disk : Disk) (before : List CallEvent) (blocks : Blocks) (after : List
   same_blocks : pairs_blocks (header_pairs left (new ∷ [])) ≡ pairs_blocks (header_pairs disk (h ∷ []))
   same_blocks = ap (λ (at : ℕ × ℕ). at.0 ∷ at.1 ∷ []) commits.holds.same
 
-  -- how often a block stands in each part
+  -- how often a block occurs in each part
   counts : (b : ℕ) → number_occurrences b (pairs_blocks (header_pairs disk n.front)) + (number_occurrences b (pairs_blocks (header_pairs disk (h ∷ []))) + (number_occurrences b (pairs_blocks (header_pairs disk (n.next ∷ []))) + number_occurrences b (pairs_blocks (header_pairs disk n.back)))) ≤ 1
   counts b =
       let o = once_from_distinct (pairs_blocks (header_pairs disk (n.front ++ (two ++ n.back)))) kept_parts.distinct b in

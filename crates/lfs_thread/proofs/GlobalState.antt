@@ -26,6 +26,6 @@ deltas_are : (disk : Disk) (history : List CallEvent) (hs : List PairHeader) →
 deltas_are disk history [] are = refl
 deltas_are disk history (h ∷ hs) are = ap₂ (λ (g : Gstate) (gs : List Gstate). g ∷ gs) (delta_is disk history h are.0) (deltas_are disk history hs are.1)
 
--- the deltas in the headers come to the global state of the pairs
+-- the XOR of the deltas in the headers is the global state of the pairs
 pub state_is : (disk : Disk) (history : List CallEvent) (hs : List PairHeader) → AreHeaders disk history hs → fold gstate_xor zero_gstate (map (λ (p : PairHeader). move_view p.move_state) hs) ≡ pairs_gstate (header_pairs disk hs)
 state_is disk history hs are = ap (fold gstate_xor zero_gstate) (deltas_are disk history hs are)

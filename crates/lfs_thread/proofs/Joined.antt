@@ -31,7 +31,7 @@ module _ (disk : Disk) (before : List CallEvent) (blocks : Blocks) (after : List
     used = subst (λ ps. AllBlocksUsed sets (pairs_blocks ps)) (sym beside_pairs) kept.used;
   }
 
--- what changes make of a pair is what they make of it beside the fresh one
+-- the changed content of a pair is the same once the fresh pair is written
 pub beside_made : (disk : Disk) (before : List CallEvent) (blocks : Blocks) (after : List CallEvent) (hs : List PairHeader) (sets : BlockStates) (fresh : ℕ × ℕ) (index : ℕ) (h : PairHeader) (changes : List ContentChange) → IsAt hs index h
     → IsKeptOnDisk disk before hs sets → ¬ IsUsedBlock sets fresh.0 → ¬ IsUsedBlock sets fresh.1 → KeepsOutsidePair fresh disk.blocks blocks
     → complete_after (kept_view (record disk { blocks = blocks }) after hs sets) index changes ≡ complete_after (kept_view disk before hs sets) index changes
@@ -66,7 +66,7 @@ remove_third : {X : Type 0} (xs : List X) (y z w : X) (ys : List X) → remove (
 remove_third [] y z w ys = refl
 remove_third (x ∷ xs) y z w ys = let e : suc (length xs) + 2 ≡ suc (length xs + 2) = omega arith in ap (λ (n : ℕ). remove (x ∷ (xs ++ y ∷ z ∷ w ∷ ys)) n) e ∙ ap (λ t. x ∷ t) (remove_third xs y z w ys)
 
--- The headers `mid` behind `h` go. `new` and `f` stand where `h` stood, and the blocks of `mid` may be no longer used.
+-- The headers `mid` behind `h` are removed. `new` and `f` replace `h`, and the blocks of `mid` may be no longer used.
 pub record IsJoint (disk : Disk) (join : List Pair → ℕ → Pair → Pair → List Pair) (hs : List PairHeader) (index : ℕ) (h : PairHeader) (sets now : BlockStates) (items : List PairHeader) (new f : PairHeader) (target : Option (ℕ × ℕ)) : Type 0 where
   pub front : List PairHeader
   pub mid : List PairHeader
@@ -175,7 +175,7 @@ module _ (disk : Disk) (before : List CallEvent) (blocks : Blocks) (after : List
   unfolding now_header
   now_pair = pair_on_content left (header_address new) c (header_content left after new now_header) ∙ ap (λ at. record { at = at; content = c }) commits.holds.same
 
-  -- how often a block stands in each part
+  -- how often a block occurs in each part
   counts : (b : ℕ) → number_occurrences b (pairs_blocks (header_pairs disk j.front)) + (number_occurrences b (pairs_blocks (header_pairs disk (h ∷ []))) + (number_occurrences b (pairs_blocks (header_pairs disk j.mid)) + number_occurrences b (pairs_blocks (header_pairs disk j.back)))) ≤ 1
   counts b =
       let o = once_from_distinct (pairs_blocks (header_pairs disk (j.front ++ (olds ++ j.back)))) kept_parts.distinct b in

@@ -12,7 +12,7 @@ use Rattle.lfs_thread.specs.MountErrors.{mount_error_for}
 abbrev pub IsReadingError : Error → Type 0
 IsReadingError e = (e ≡ error.Corrupt) ⊎ (e ≡ error.NoMemory) ⊎ (e ≡ error.Io)
 
--- a violation is true where each `Corrupt` below means it
+-- a violation is true if each `Corrupt` below means it
 pub true_of : (disk : Disk) (e : Error) (v : Violation) → IsReadingError e → (e ≡ error.Corrupt → BreaksThread disk v) → IsThreadViolation disk (mount_error_for e v)
 true_of disk e v (inl is) breaks = subst (λ x. IsThreadViolation disk (mount_error_for x v)) (sym is) (breaks is)
 true_of disk e v (inr (inl is)) breaks = subst (λ x. IsThreadViolation disk (mount_error_for x v)) (sym is) tt

@@ -99,7 +99,7 @@ module _ {D : Type 0} (g : Ghosts D) (order : NameOrder) (device : D) (hs : List
       leave_after (disk_of_device g device) (g.history device) hs sets index fresh (length slots) 0 few kept (held_address (disk_of_device g device) (g.history device) hs sets fresh kept can.held) (let b = can.below in omega (arith, b)) (omega arith) (let n = can.fits.count in omega (arith, n))
       ∙ ap (λ z. Some (record { slots = z; tail = hard_to fresh; move = (thread_pair old index).content.move })) (take_all (length slots) slots (omega arith)))
 
--- ---- what the step does and leaves, where the changes make that content
+-- ---- the effect of the step, and what a stop leaves, if the changes make that content
 
 module _ (t : KeptThread) (index : ℕ) (fresh : ℕ × ℕ) (changes : List ContentChange) where
   pub threaded_from : {new : KeptThread} → IsJoined t index kind.Empty fresh changes new → IsThreadedIn t index fresh changes new

@@ -16,7 +16,7 @@ use Rattle.lfs_thread.proofs.Reported.{keeps_by_both, keeps_by_fresh}
 use Rattle.lfs_thread.proofs.Joined.{IsJoint, beside_pairs, beside_kept, beside_made, headers_joined, joint, joined_kept, joined_pairs, f_header}
 use Rattle.lfs_thread.proofs.WrittenBehind.{IsBehindHeader, revision_at, written_header}
 
--- ---- beside the thread, and then in it
+-- ---- before a tail names it, and after
 
 module _ (disk : Disk) (history : List CallEvent) (hs : List PairHeader) (sets : BlockStates) (index : ℕ) (h : PairHeader) (fresh : ℕ × ℕ) (changes : List ContentChange)
     (a : IsAt hs index h) (kept : IsKeptOnDisk disk history hs sets) (can : CanThreadIn (kept_view disk history hs sets) index fresh changes)
@@ -261,7 +261,7 @@ module _ (geometry later : Geometry) (old mid : Blocks) (before then : List Call
           (subst (λ m. IsJoined was index b fresh changes (kept_view (disk_of_blocks geometry blocks) after (headers_joined b hs index new f) m)) (sym is_now)
           (is_joined (disk_of_blocks geometry old) before hs sets index h fresh changes a kept can b mid then others stay f fresh_there below blocks after new commits_there keeps stays)))
 
--- a header put behind another one is taken out again
+-- a header that was inserted behind another one is removed again
 pub unplaced : (hs : List PairHeader) (index : ℕ) (h x : PairHeader) → IsAt hs index h → remove (insert hs (index + 1) x) (index + 1) ≡ hs
 unplaced hs index h x a =
     ap₂ (λ (z : List PairHeader) (i : ℕ). remove (insert z (i + 1) x) (i + 1)) a.parts a.place
@@ -274,7 +274,7 @@ source_below kind.Empty t index l holds = l
 source_below kind.Slots t index l holds = l
 source_below kind.Next t index l holds = holds.0
 
--- the header of the copied pair can be taken out
+-- the header of the copied pair can be removed
 pub can_drop : (b : Behind) (disk : Disk) (history : List CallEvent) (hs : List PairHeader) (sets : BlockStates) (index : ℕ) (h new f source : PairHeader) (fresh : ℕ × ℕ) → IsAt hs index h → IsAt hs (source_index index b) source → IsKeptOnDisk disk history hs sets
     → {items : List PairHeader} → items ≡ insert (set hs index new) (index + 1) f → {now : BlockStates} → now ≡ map_using sets fresh → CanDropCopied b items (index + 2) source now
 can_drop kind.Empty disk history hs sets index h new f source fresh a s kept are is_now = tt
@@ -289,7 +289,7 @@ can_drop kind.Next disk history hs sets index h new f source fresh a s kept {ite
     let same = length-set hs index new in
     ((omega arith), ((let l = on.first in omega arith), (let l = on.second in omega arith)))
 
--- the map, where the blocks of the copied pair are free
+-- the map in which the blocks of the copied pair are free
 pub freed : (b : Behind) (disk : Disk) (history : List CallEvent) (hs : List PairHeader) (sets : BlockStates) (index : ℕ) {source : PairHeader} → IsAt hs (source_index index b) source
     → {settled using : BlockStates} → settled ≡ using → map_without b settled (header_address source) ≡ map_without b using (thread_pair (kept_view disk history hs sets) (index + 1)).at
 freed kind.Empty disk history hs sets index s same = same

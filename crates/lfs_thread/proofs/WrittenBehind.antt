@@ -87,7 +87,7 @@ first_holds : (a b : List ℕ) → has_commit a ≡ true → has_commit b ≡ fa
 first_holds a b first second =
     ap₂ (λ p q. cond (not p) (cond q (Some b) None) (cond (q && is_later (block_revision a) (block_revision b)) (Some b) (Some a))) first second
 
--- The header of the fresh pair: it has what the step says, and goes on with the revision of what was copied.
+-- The header of the fresh pair: it has the content of the step, and the revision after that of the pair that was copied.
 pub record IsBehindHeader (old : KeptThread) (index : ℕ) (b : Behind) (fresh : ℕ × ℕ) (disk : Disk) (history : List CallEvent) (f : PairHeader) : Type 0 where
   pub header : IsHeader disk history f
   pub at : header_address f ≡ fresh
@@ -146,7 +146,7 @@ module _ (disk : Disk) (history : List CallEvent) (hs : List PairHeader) (sets :
       copy_content : (record is.content { move = m }) ≡ record (thread_pair old i).content { move = m }
       copy_content = ap (λ (c : PairContent). record c { move = m }) content_is
 
-      -- a log that was written anew begins with the superblock's entry, where slot 0 is the superblock
+      -- a compacted log begins with the superblock's entry, if slot 0 is the superblock
       copy_first : HasSuperblock (record (thread_pair old i).content { move = m }) → BeginsWith (current_block beside fresh) superblock_entry
       copy_first has =
           let full = subst HasSuperblock (sym copy_content) has in

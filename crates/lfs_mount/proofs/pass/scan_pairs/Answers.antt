@@ -12,7 +12,7 @@ use Rattle.lfs_mount.proofs.Passing.{IsUnderWay, all_taken, begun, taken_hard, t
 use Rattle.lfs_mount.proofs.pass.scan_pairs.Goals as goal
 use Rattle.lfs_mount.proofs.pass.scan_pairs.Goals.{then-not-member+in_ok-push, else-not-member}
 
--- what stands past the end of a list of members
+-- the default past the end of a list of members
 abbrev none : PairBeforeSlotsAreRead
 none = record { at = []; active = 0; is_hard = false; has_superblock = false; moved = None }
 

@@ -127,7 +127,7 @@ returns-clause-writes g c = record {
   faults = reports_ok (c.in_ok-written.ensures.writes.faults.no_fault (λ gives. absurd (cc)) ∙ c.in_ok-is_blank.ensures.reports.faults.no_fault (λ gives. absurd (cc)));
 }
 
--- where nothing is appended
+-- if nothing is appended
 
 pub returns-in_err-is_blank-clause-writes : goal.returns-in_err-is_blank-clause-writes
 returns-in_err-is_blank-clause-writes g c = record {

@@ -12,7 +12,7 @@ use Rattle.lfs_device.specs.declared.geometry.Geometry.{Geometry}
 pub append_changes-requires : goal.append_changes-requires
 append_changes-requires g c = record { can = c.requires.can; holds = c.requires.holds; buf = search rules }
 
--- where nothing is written
+-- if nothing is written
 
 pub returns-then-not-content_fits-clause-ends : goal.returns-then-not-content_fits-clause-ends
 returns-then-not-content_fits-clause-ends g c = record {
@@ -25,7 +25,7 @@ returns-then-not-content_fits-clause-ends g c = record {
       absurd (cc (c.if-not-content_fits.true, is)));
 }
 
--- where the changes are appended
+-- if the changes are appended
 
 pub returns-in_err-written-clause-device : goal.returns-in_err-written-clause-device
 returns-in_err-written-clause-device g c = reading_more 0 (reading_behind 0 (unread g.D.BlockDevice c.args.dev.now) c.in_err-written.ensures.writes.device c.in_err-written.ensures.writes.few)
@@ -59,7 +59,7 @@ returns-in-Some-clause-stops g c =
     let to = is_to_write c.requires.can c.requires.holds c.in_ok-content.ensures.content c.in_ok-content.ensures.logged c.geometry-geometry.ensures (c.content_fits.ensures.0 (search rules)) in
     stops_behind (unread g.D.BlockDevice c.args.dev.now) to refl c.in_ok-written.ensures.writes.device (λ cleanly. c.in_ok-written.ensures.stops _ (made_behind (unread g.D.BlockDevice c.args.dev.now) to))
 
--- where the content is written anew
+-- if the pair is compacted
 
 pub returns-in_err-content-2-clause-device : goal.returns-in_err-content-2-clause-device
 returns-in_err-content-2-clause-device g c = reading_more 0 (reading_behind 0 (unread g.D.BlockDevice c.args.dev.now) c.in_ok-written.ensures.writes.device c.in_ok-written.ensures.writes.few)

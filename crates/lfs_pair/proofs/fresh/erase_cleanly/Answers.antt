@@ -55,7 +55,7 @@ returns-in_ok-prog-clause-cleared g c =
     let power = c.geometry-page.result.valid.power in
     no_commit-programmed _ _ _ _ _ c.in_ok-prog.ensures.programs.ok (omega (arith, shape.count, same, c.requires.in_device)) (take-replicate c.geometry-page.result.page 512 0 (page_at_most _ power)) (page_at_least _ power)
 
--- where each erase leaves no log, none is read behind it
+-- if each erase leaves no log, none is read afterwards
 pub returns-in_ok-prog-clause-clears : goal.returns-in_ok-prog-clause-clears
 returns-in_ok-prog-clause-clears g c =
     let blocks = g.D.BlockDevice.blocks c.erase.new.self in

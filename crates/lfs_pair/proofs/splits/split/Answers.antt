@@ -42,7 +42,7 @@ compact-requires g c =
       fits = rw only.geometry ready.front_ready.fits;
     }
 
--- where the fresh pair can't be written
+-- if the fresh pair can't be written
 
 pub returns-in_err-fresh_pair-clause-device : goal.returns-in_err-fresh_pair-clause-device
 returns-in_err-fresh_pair-clause-device g c =

@@ -22,7 +22,7 @@ invariant_of-self-2 g c works =
       subst (λ bs. IsCacheCurrent bs c.self.inside.parts.cache) (sym e.device.same) (c.self.invariant works).1,
     )
 
--- where a read ends tells nothing of the blocks
+-- the end of a read says nothing of the cached blocks
 as_noted : (block_size size position count end : ℕ) (known later : KnownBlocks) (old new : List CallEvent) → ReadsKnownList block_size size position count (record { indices = known.indices; blocks = known.blocks; end = end }) later old new → ReadsKnownList block_size size position count known later old new
 as_noted block_size size position count end known later old new reads first last off there is_first is_last = let few = reads first last off there is_first is_last in record { now = few.now; few = few.few; near = few.near }
 

@@ -1,4 +1,4 @@
-// The rows that bench/against_c.py measures beside littlefs's own code.
+// The rows that bench/against_c.py measures against littlefs's own code.
 
 use crate::counting_device::{CountingDevice, Counts};
 use crate::files::{self, Measured, no_memory_error, write_new_file};
@@ -11,10 +11,10 @@ use std::time::Instant;
 
 const BLOCK: u32 = 4096;
 
-// The bytes that rows write and read.
+// The buffer that rows write and read.
 type Buffer = [u8; BLOCK as usize];
 
-// A row, by its operations. It is found by its name before its time is taken.
+// A row, by its operations. Its name is looked up before it is timed.
 #[derive(Clone, Copy)]
 enum Row {
     Create1,
@@ -82,7 +82,7 @@ fn row_of_name(name: &str) -> Option<Row> {
 pub struct RowDevice {
     /// How many blocks of 4,096 bytes it has.
     pub blocks: u32,
-    /// How many compactions a metadata pair stays at its place for. At 0 it stays for good.
+    /// After how many compactions a metadata pair is relocated. 0 for never.
     pub pair_cycles: u32,
     /// Whether it says which bytes are blank.
     pub checks_blanks: bool,
@@ -105,7 +105,7 @@ fn formatted_session(alloc: Global, row: RowDevice) -> Result<Measured, Error> {
     .map_err(|(_, error)| error)
 }
 
-// Makes the files that are there before a row is measured.
+// Makes the files that a row needs before it is measured.
 fn make_row_files(
     alloc: Global,
     session: &mut Measured,
@@ -142,7 +142,7 @@ fn make_row_files(
     }
 }
 
-// Performs the operations of a row, which alone are timed. Returns the last session.
+// Performs the operations of a row, the only ones that are timed. Returns the last session.
 fn perform_benchmark_row(
     alloc: Global,
     session: Measured,
@@ -162,7 +162,7 @@ fn perform_benchmark_row(
     }
 }
 
-// Performs the operations of a row that is no row about wear.
+// Performs the operations of a row that isn't about wear.
 fn perform_row_in_session(
     alloc: Global,
     session: &mut Measured,
@@ -222,7 +222,7 @@ fn print_device_call_counts(
     )
 }
 
-// Prints how often each block was erased, a line each.
+// Prints how often each block was erased, one per line.
 fn show_erases(rt: &HostRuntime, session: &Measured) -> io::Result<()> {
     for count in session.device().erase_counts() {
         println!(rt; "{count}")?;
@@ -230,7 +230,7 @@ fn show_erases(rt: &HostRuntime, session: &Measured) -> io::Result<()> {
     Ok(())
 }
 
-// Prepares a session, performs the row, and prints its costs after its name. Of a row about wear it
+// Prepares a session, performs the row, and prints its name and its costs. For a row about wear it
 // also prints how often each block was erased.
 fn measure_benchmark_row(
     rt: &HostRuntime,
@@ -260,9 +260,9 @@ fn measure_benchmark_row(
     }
 }
 
-/// Performs a row on a device, with so many operations. Prints the row, its reads, bytes read,
-/// programs, bytes programmed, erases and nanoseconds. Of a row about wear it also prints how often
-/// each block was erased.
+/// Performs a row of `count` operations on a device. Prints the row's name, its reads, bytes read,
+/// programs, bytes programmed, erases and nanoseconds. For a row about wear it also prints how
+/// often each block was erased.
 pub fn run_benchmark_row(
     rt: &HostRuntime,
     name: &str,

@@ -6,7 +6,7 @@ use std::time::Instant;
 
 const BLOCK: usize = 65536;
 
-// Fills the block with bytes that have no pattern which a table would favour.
+// Fills the block with pseudorandom bytes, which favour no entry of a table.
 fn fill_with_pseudorandom_bytes(block: &mut [u8]) {
     let mut state = 1u32;
     for byte in block.iter_mut() {
@@ -24,7 +24,7 @@ fn checksum_of_repeated_block(block: &[u8], rounds: u32) -> u32 {
 }
 
 /// Computes the checksum `rounds` times, each time from the last result on. Prints the result, and
-/// on standard error the nanoseconds that it took (bench/crc.py compares them).
+/// on standard error the nanoseconds (bench/crc.py compares them).
 pub fn benchmark_checksum(rt: &HostRuntime, rounds: u32) -> io::Result<()> {
     let mut block = [0u8; BLOCK];
     fill_with_pseudorandom_bytes(&mut block);

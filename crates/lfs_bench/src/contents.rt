@@ -1,4 +1,4 @@
-// Contents of files that the rows beside littlefs's own code write and read.
+// Writes and reads of files for the rows against littlefs's own code.
 
 use crate::files::{Measured, file_path, write_new_file};
 use lfs_device::Error;
@@ -13,7 +13,7 @@ fn replace_open_flags() -> OpenFlags {
     OpenFlags::WRITE | OpenFlags::CREATE | OpenFlags::TRUNCATE
 }
 
-/// Appends bytes to a file, which is made where it isn't there.
+/// Appends bytes to a file, which is created if it is missing.
 pub fn append_bytes_to_file(
     alloc: Global,
     session: &mut Measured,
@@ -25,7 +25,7 @@ pub fn append_bytes_to_file(
     session.close(alloc, fd)
 }
 
-/// Gives a file new contents, or makes it.
+/// Replaces the contents of a file, or creates it.
 pub fn replace_file_contents(
     alloc: Global,
     session: &mut Measured,
@@ -43,11 +43,11 @@ pub struct Pieces<'a> {
     pub path: &'a [u8],
     pub bytes: &'a [u8],
     pub count: u32,
-    /// Whether they come after what the file holds, each with a sync after it.
+    /// Whether they are appended to the file, each with a sync after it.
     pub are_appended: bool,
 }
 
-/// Opens a file, which is made where it isn't there, writes pieces to it and closes it.
+/// Opens a file, which is created if it is missing, writes pieces to it and closes it.
 #[inline(never)]
 pub fn write_pieces(
     alloc: Global,
@@ -69,7 +69,7 @@ pub fn write_pieces(
     session.close(alloc, fd)
 }
 
-/// Opens a file, appends bytes and closes it, so often.
+/// Opens a file, appends bytes and closes it, `count` times.
 pub fn open_and_append(
     alloc: Global,
     session: &mut Measured,
@@ -82,7 +82,7 @@ pub fn open_and_append(
     Ok(())
 }
 
-/// Writes a file of so many times the same piece.
+/// Writes a file that repeats a piece `count` times.
 pub fn write_file_in_pieces(
     alloc: Global,
     session: &mut Measured,
@@ -99,7 +99,7 @@ pub fn write_file_in_pieces(
     write_pieces(alloc, session, pieces)
 }
 
-/// Appends bytes to an open file and syncs it, so often.
+/// Appends bytes to an open file and syncs it, `count` times.
 pub fn append_and_sync(
     alloc: Global,
     session: &mut Measured,
@@ -115,7 +115,7 @@ pub fn append_and_sync(
     write_pieces(alloc, session, pieces)
 }
 
-/// Reads so many pieces of a file, each as long as the one that it is read into.
+/// Reads `count` pieces of a file into the buffer `piece`.
 pub fn read_file_in_pieces(
     alloc: Global,
     session: &mut Measured,
@@ -130,7 +130,7 @@ pub fn read_file_in_pieces(
     session.close(alloc, fd)
 }
 
-/// Reads a piece at places of a file of 1 MiB that a generator picks, so often.
+/// Reads a piece at pseudorandom offsets of a file of 1 MiB, `count` times.
 pub fn read_at_random_positions(
     alloc: Global,
     session: &mut Measured,
@@ -147,7 +147,7 @@ pub fn read_at_random_positions(
     session.close(alloc, fd)
 }
 
-/// Changes ten bytes near the beginning of a file of 1 MiB, so often.
+/// Changes ten bytes near the beginning of a file of 1 MiB, `count` times.
 pub fn overwrite_bytes_repeatedly(
     alloc: Global,
     session: &mut Measured,
@@ -162,7 +162,7 @@ pub fn overwrite_bytes_repeatedly(
     Ok(())
 }
 
-/// Gives a file four other bytes, so often.
+/// Replaces the contents of a file by four other bytes, `count` times.
 pub fn replace_small_file_repeatedly(
     alloc: Global,
     session: &mut Measured,
@@ -176,7 +176,7 @@ pub fn replace_small_file_repeatedly(
     Ok(())
 }
 
-/// Fills the root's pair nearly with seven files of 512 bytes.
+/// Nearly fills the root's pair, with seven files of 512 bytes.
 pub fn fill_root_pair_nearly(alloc: Global, session: &mut Measured) -> Result<(), Error> {
     write_new_file(alloc, session, b"/f90000", b"hell")?;
     for number in 0..7 {
@@ -186,7 +186,7 @@ pub fn fill_root_pair_nearly(alloc: Global, session: &mut Measured) -> Result<()
     Ok(())
 }
 
-/// Writes ten bytes to an open file, so often.
+/// Writes ten bytes to an open file, `count` times.
 pub fn write_ten_bytes_repeatedly(
     alloc: Global,
     session: &mut Measured,

@@ -1,4 +1,4 @@
-// A device that counts its calls and their bytes, and sees in which order blocks are written.
+// A device that counts its calls and their bytes, and notes in which order blocks are written.
 
 use lfs_device::{BlockDevice, Error, Geometry};
 use std::alloc::Global;
@@ -11,8 +11,8 @@ pub struct Counts {
     pub programs: u64,
     pub program_bytes: u64,
     pub erases: u64,
-    /// The programs of a block from its first byte on right after its erase, each of a later block
-    /// than the one before.
+    /// How many programs began at the first byte of a block that was just erased, and whose address
+    /// is above that of the last such block.
     pub in_turn: u64,
 }
 
@@ -26,7 +26,7 @@ impl Counts {
         in_turn: 0,
     };
 
-    /// The calls since the counts that are given.
+    /// Returns the counts of the calls since `before`.
     pub fn since(&self, before: &Counts) -> Counts {
         Counts {
             reads: self.reads.saturating_sub(before.reads),
@@ -39,13 +39,13 @@ impl Counts {
     }
 }
 
-// The calls that were made, and their order.
+// The counts of the calls, and their order.
 #[derive(Clone, Copy)]
 struct CallSequence {
     counts: Counts,
     // The block that was erased last, until it is programmed.
     erased: Option<u32>,
-    // The block of the last program in order.
+    // The block of the last program that counted as `in_turn`.
     last: Option<u32>,
 }
 
@@ -75,7 +75,7 @@ impl CallSequence {
     }
 }
 
-/// Makes a device with the counts of its calls.
+/// A device that counts its calls.
 #[derive(Drop)]
 pub struct CountingDevice<D: BlockDevice> {
     inner: D,
@@ -89,7 +89,7 @@ impl<D: BlockDevice> CountingDevice<D> {
         CountingDevice::with_erase_counts(inner, Vec::new(alloc))
     }
 
-    /// Makes a device with the numbers with which the counts of each block's erases begin.
+    /// Makes a device whose counts of each block's erases begin with these numbers.
     pub fn with_erase_counts(inner: D, erased: Vec<u32>) -> CountingDevice<D> {
         CountingDevice {
             inner,
@@ -106,7 +106,7 @@ impl<D: BlockDevice> CountingDevice<D> {
         self.turns.counts
     }
 
-    /// Borrows the counts of each block's erases.
+    /// Borrows how often each block was erased.
     pub fn erase_counts(&self) -> &[u32] {
         &self.erased
     }

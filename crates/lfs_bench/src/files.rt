@@ -1,4 +1,4 @@
-// Files and directories that the rows beside littlefs's own code are about.
+// Files and directories for the rows against littlefs's own code.
 
 use crate::counting_device::CountingDevice;
 use lfs_device::{Error, RamDevice};
@@ -8,7 +8,7 @@ use std::alloc::Global;
 /// The file system that the rows work on.
 pub type Measured = Session<CountingDevice<RamDevice>>;
 
-/// Returns the error in place of one that only says that memory isn't there.
+/// Converts any allocation error to `NoMemory`.
 pub fn no_memory_error<T: Drop>(_: T) -> Error {
     Error::NoMemory
 }
@@ -29,8 +29,8 @@ pub fn directory_path(alloc: Global, number: u32) -> Result<Vec<u8>, Error> {
     Vec::from_slice(alloc, &name).map_err(no_memory_error)
 }
 
-/// Returns the path of a file by its number below 100,000. The file is in the root where there are
-/// no directories, else in the directory with the number modulo their count.
+/// Returns the path of a file by its number below 100,000. The file is in the root if there are no
+/// directories, otherwise in the directory of that number modulo their count.
 pub fn file_path(alloc: Global, number: u32, directories: u32) -> Result<Vec<u8>, Error> {
     let mut path = match number.checked_rem(directories) {
         Some(directory) => directory_path(alloc, directory)?,
@@ -120,7 +120,7 @@ pub fn list_root(alloc: Global, session: &mut Measured) -> Result<(), Error> {
     Ok(())
 }
 
-/// Renames one file there and back, so often in all.
+/// Renames one file back and forth, `count` times in all.
 pub fn rename_often(
     alloc: Global,
     session: &mut Measured,
@@ -137,7 +137,7 @@ pub fn rename_often(
     Ok(())
 }
 
-/// Sets an attribute of 16 bytes, so often.
+/// Sets an attribute of 16 bytes, `count` times.
 pub fn set_attribute_repeatedly(
     alloc: Global,
     session: &mut Measured,
@@ -162,7 +162,7 @@ pub fn make_deeply_nested_file(alloc: Global, session: &mut Measured) -> Result<
     write_new_file(alloc, session, path.as_slice(), b"hello")
 }
 
-/// Queries the size of that file, so often.
+/// Queries the size of that file, `count` times.
 pub fn stat_deeply_nested_file(
     alloc: Global,
     session: &mut Measured,

@@ -1,5 +1,5 @@
-// How many device reads it takes to read a byte of a list of 1,000 blocks. Beside these, the reads
-// of a walk back by each block's first pointer.
+// How many device reads a byte of a CTZ skip list of 1,000 blocks costs, compared with a walk back
+// by each block's first pointer.
 
 use lfs_device::{BlockDevice, CountedCalls, Error, FaultDevice, Geometry, RamDevice};
 use lfs_file::read_at;
@@ -12,8 +12,8 @@ const BLOCKS: u32 = 1000;
 
 const SHOWN: [u32; 6] = [0, 1, 500, 512, 998, 999];
 
-// How many reads it took to read the first byte of a block of the list: by all pointers, and by
-// first pointers alone.
+// How many reads the first byte of a block of the list costs: by all pointers, and by first
+// pointers only.
 #[derive(Clone, Copy)]
 struct ReadsOfListBlock {
     block: u32,
@@ -94,8 +94,8 @@ fn measure_skip_list_reads(alloc: Global) -> Result<Vec<ReadsOfListBlock>, Error
     Ok(all)
 }
 
-/// Prints both counts for some of the blocks, and the most and the sum over all of them
-/// (bench/ctz_reads.py judges them).
+/// Prints both counts for some of the blocks, and their maximum and sum over all of them
+/// (bench/ctz_reads.py judges these).
 pub fn print_list_reads(rt: &HostRuntime) -> io::Result<()> {
     let all = match measure_skip_list_reads(rt.alloc()) {
         Ok(all) => all,

@@ -1,5 +1,5 @@
-// A benchmark of look-ups in a block of 64 KiB. It holds a thousand files, each created before the
-// others.
+// A benchmark of look-ups in a block of 64 KiB with the names of a thousand files, each created at
+// id 0.
 
 use lfs_model::NameOrder;
 use lfs_tag::kinds::{CREATE, FILE_NAME};
@@ -12,7 +12,7 @@ const BLOCK: usize = 65536;
 
 const FILES: u32 = 1000;
 
-// Returns the name of a file. Names fall as the numbers rise.
+// Returns the name of a file. The names fall as the numbers rise.
 fn file_name_of_number(number: u32) -> [u8; 4] {
     u32::MAX.wrapping_sub(number).to_be_bytes()
 }
@@ -43,7 +43,7 @@ fn read_log_repeatedly(block: &[u8], rounds: u32) -> u64 {
     sum
 }
 
-// Takes the log by its known end `rounds` times, and returns the sum of the ends.
+// Makes the log from its known end `rounds` times, and returns the sum of the ends.
 fn take_known_log(block: &[u8], rounds: u32) -> u64 {
     let log = Log::read(block);
     let (end, last) = (log.end(), log.last_log_tag());
@@ -78,9 +78,9 @@ fn read_log_content_repeatedly(alloc: Global, log: &Log<'_>, rounds: u32) -> u64
     sum
 }
 
-/// Prints the ids of two names. On standard error it prints the nanoseconds of `rounds` readings of
-/// the log, logs known by their end, look-ups of a name, and readings of the content
-/// (bench/lookups.py judges them).
+/// Prints the ids of two names. Prints on standard error the nanoseconds of `rounds` reads of the
+/// log, logs made from their known ends, look-ups of a name, and reads of the content
+/// (bench/lookups.py judges these).
 pub fn benchmark_log_lookups(rt: &HostRuntime, rounds: u32) -> io::Result<()> {
     let mut block = [0xffu8; BLOCK];
     fill_block_with_log(&mut block);

@@ -1,10 +1,11 @@
 // SPDX-License-Identifier: BSD-3-Clause
-//! Figures that benchmarks judge: the checksum of a block, look-ups in a block, the device reads of a
-//! list, the writes of a file over a session, and the rows that are measured beside littlefs's own code.
-//! The first word names one of them, none all but these rows. The second says how many rounds are timed,
-//! or how many pieces are written; for a row the words are its name, how many blocks the device has,
-//! how many operations are made, for how many compactions a metadata pair stays at its place (0: for
-//! good), and `blanks` where the device says which bytes are blank.
+//! Figures that benchmarks judge: the checksum of a block, look-ups in a block, the device reads of
+//! a list, the writes of a file over a session, and the rows that are measured against littlefs's
+//! own code. The first word names one of them; without it all run except these rows. The second is
+//! the number of rounds that are timed, or of pieces that are written. For a row the words are its
+//! name, the device's number of blocks, the number of operations, the profile's `pair_cycles`
+//! (after how many compactions a metadata pair is relocated; 0 for never), and `blanks` if the
+//! device says which bytes are blank.
 #![tactic(auto)]
 
 mod c_rows;
@@ -19,7 +20,7 @@ mod writes;
 
 use std::{env, io};
 
-// How many pieces are written where no number is given.
+// How many pieces are written if no number is given.
 const PIECES: u32 = 12;
 
 fn run_all_benchmarks(rt: &HostRuntime) -> io::Result<()> {
@@ -29,7 +30,7 @@ fn run_all_benchmarks(rt: &HostRuntime) -> io::Result<()> {
     writes::benchmark_file_writes(rt, PIECES)
 }
 
-// The word of that place as a number, or another number where it is none.
+// Parses the word at an index as a number. Returns `otherwise` if it isn't one.
 fn argument_number_or(words: &[String], place: usize, otherwise: u32) -> u32 {
     match words.get(place) {
         Some(word) => word.as_str().parse::<u32>().unwrap_or(otherwise),
@@ -37,7 +38,7 @@ fn argument_number_or(words: &[String], place: usize, otherwise: u32) -> u32 {
     }
 }
 
-// The row that the words name.
+// Runs the row that the words name.
 fn run_row_of_arguments(rt: &HostRuntime, words: &[String]) -> io::Result<()> {
     let Some(row) = words.get(2) else {
         return eprintln!(rt; "row NAME BLOCKS COUNT [CYCLES [blanks]]");

@@ -1,4 +1,4 @@
-// How a device wears that is mounted many times.
+// The wear of a device that is mounted many times.
 
 use crate::contents::{append_bytes_to_file, replace_file_contents};
 use crate::files::{Measured, file_path, make_directories};
@@ -17,8 +17,8 @@ fn append_log(alloc: Global, session: &mut Measured, bytes: &[u8]) -> Result<(),
     Ok(())
 }
 
-// Performs one operation that the generator's state picks: a file is written anew, a log is
-// appended to, or a file is removed, where it is there.
+// Performs one pseudorandom operation: replaces a file, appends to a log, or removes a file if
+// there is one.
 fn perform_pseudorandom_operation(
     alloc: Global,
     session: &mut Measured,
@@ -47,7 +47,7 @@ fn mount_again(alloc: Global, session: Measured) -> Result<Measured, Error> {
     }
 }
 
-/// Performs so many operations, with a mount after each 20. Returns the last session.
+/// Performs `count` pseudorandom operations, with a mount after each 20. Returns the last session.
 pub fn perform_pseudorandom_operations(
     alloc: Global,
     session: Measured,
@@ -66,7 +66,7 @@ pub fn perform_pseudorandom_operations(
     Ok(session)
 }
 
-/// Mounts so often, each time with 100 bytes appended to a log. Returns the last session.
+/// Mounts `count` times, each time with 100 bytes appended to a log. Returns the last session.
 pub fn append_each_mount(alloc: Global, session: Measured, count: u32) -> Result<Measured, Error> {
     let mut session = session;
     for _ in 0..count {
@@ -76,7 +76,7 @@ pub fn append_each_mount(alloc: Global, session: Measured, count: u32) -> Result
     Ok(session)
 }
 
-/// Mounts so often, each time with a counter that is written again. Returns the last session.
+/// Mounts `count` times, each time with a counter that is written again. Returns the last session.
 pub fn count_each_mount(alloc: Global, session: Measured, count: u32) -> Result<Measured, Error> {
     let mut session = session;
     for _ in 0..count {

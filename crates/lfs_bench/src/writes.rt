@@ -14,7 +14,7 @@ const PIECE: u32 = 4096;
 
 type Writing = Session<CountingDevice<RamDevice>>;
 
-// Returns the piece that is written again and again.
+// Returns the piece that is written repeatedly.
 fn pseudorandom_file_piece() -> [u8; PIECE as usize] {
     let mut state = 1u32;
     let mut piece = [0; PIECE as usize];
@@ -75,8 +75,8 @@ fn print_write_call_counts(rt: &HostRuntime, pieces: u32, counts: Counts) -> io:
 }
 
 /// Writes `pieces` pieces. Prints how many blocks the file has, how many erases and programs its
-/// writing and closing took, and whether it is read as it was written. On standard error it prints
-/// the nanoseconds (bench/writes.py judges them).
+/// writes and its close cost, and whether its bytes are read back. Prints the nanoseconds on
+/// standard error (bench/writes.py judges these).
 pub fn benchmark_file_writes(rt: &HostRuntime, pieces: u32) -> io::Result<()> {
     let (mut session, fd) = match open_new_file(rt.alloc(), pieces) {
         Ok(open_new_file) => open_new_file,

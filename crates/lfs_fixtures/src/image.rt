@@ -1,8 +1,8 @@
-// Images of 16 blocks of 4,096 bytes, made of tags and bytes without the crates that read them.
+// Makes images of 16 blocks of 4,096 bytes from tags and bytes, without the crates that read them.
 
 use std::alloc::{AllocError, Global};
 
-/// The entries of a commit: each tag with its bytes.
+/// The entries of a commit: tags with their data.
 pub type FixtureEntries<'a> = &'a [(u32, &'a [u8])];
 
 // The superblock's struct: version 2.0, 16 blocks of 4,096 bytes, and three limits.
@@ -10,7 +10,7 @@ const FIELDS: [u8; 24] = [
     0, 0, 2, 0, 0, 16, 0, 0, 16, 0, 0, 0, 255, 0, 0, 0, 255, 255, 255, 127, 254, 3, 0, 0,
 ];
 
-// Computes the checksum, bit by bit.
+// Computes the CRC-32 of a commit, bit by bit.
 fn checksum(bytes: &[u8]) -> u32 {
     let mut sum = 0xffff_ffffu32;
     for byte in bytes {
@@ -26,8 +26,8 @@ fn checksum(bytes: &[u8]) -> u32 {
     sum
 }
 
-// Adds a commit after the last tag, up to the next page of 256 bytes. Returns the commit's own last
-// tag.
+// Appends a commit after the tag `last`, padded to the next page of 256 bytes. Returns the commit's
+// own last tag.
 fn push_commit(
     bytes: &mut Vec<u8>,
     last: u32,
@@ -53,7 +53,7 @@ fn push_commit(
     Ok(tag)
 }
 
-// Makes a block with the superblock in its first commit. Returns also the last tag of that commit.
+// Returns a block with the superblock in its first commit, and the last tag of that commit.
 fn superblock_block(alloc: Global, revision: u32) -> Result<(Vec<u8>, u32), AllocError> {
     let mut bytes = Vec::from_slice(alloc, &revision.to_le_bytes())?;
     let superblock = [
@@ -64,7 +64,7 @@ fn superblock_block(alloc: Global, revision: u32) -> Result<(Vec<u8>, u32), Allo
     Ok((bytes, last))
 }
 
-/// Makes a block with the superblock in its first commit, and these commits after it.
+/// Returns a block with the superblock in its first commit, and these commits after it.
 pub fn commits_beginning(
     alloc: Global,
     revision: u32,
@@ -77,7 +77,8 @@ pub fn commits_beginning(
     Ok(bytes)
 }
 
-/// Makes a block with a commit of these after the superblock's, where there are any.
+/// Returns a block with the superblock in its first commit and these entries, if any, in a second
+/// one.
 pub fn block_with_entries(
     alloc: Global,
     revision: u32,
@@ -90,14 +91,14 @@ pub fn block_with_entries(
     Ok(bytes)
 }
 
-// Makes a block with one commit of these.
+// Returns a block with one commit of these entries, at revision 1.
 fn one_commit_block(alloc: Global, entries: FixtureEntries<'_>) -> Result<Vec<u8>, AllocError> {
     let mut bytes = Vec::from_slice(alloc, &[1, 0, 0, 0])?;
     push_commit(&mut bytes, 0xffff_ffff, entries)?;
     Ok(bytes)
 }
 
-/// What a block holds: a commit, or bytes.
+/// The contents of a block: one commit, or bytes.
 #[derive(Clone, Copy)]
 pub enum BlockFilling<'a> {
     Commit(FixtureEntries<'a>),
@@ -129,7 +130,8 @@ fn put_block_content(
     Ok(())
 }
 
-/// Makes an image of a second commit of its first block, and its other blocks.
+/// Returns an image whose first block has the superblock and a commit of these entries. `others`
+/// are the contents of other blocks, by their addresses.
 pub fn image_with_commit(
     alloc: Global,
     entries: FixtureEntries<'_>,
@@ -143,7 +145,7 @@ pub fn image_with_commit(
     Ok(image)
 }
 
-/// Makes an image of which these are the first two blocks.
+/// Returns an image with these two blocks at its beginning.
 pub fn image_with_pair(alloc: Global, first: &[u8], second: &[u8]) -> Result<Vec<u8>, AllocError> {
     let mut image = Vec::from_slice(alloc, first)?;
     image.resize(4096, 0xff)?;

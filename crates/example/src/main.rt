@@ -1,6 +1,7 @@
 // SPDX-License-Identifier: BSD-3-Clause
-//! File systems in memory. First it makes a directory, writes a file, mounts the device again, and reads the file. Then come a
-//! device of your own, with settings, a counter and a log on it, a power loss and its recovery, and a list of operations.
+//! Examples of file systems in memory. The first makes a directory, writes a file, mounts the
+//! device again, and reads the file. The others have a device of your own, with settings, a counter
+//! and a log on it; a power loss and its recovery; and a list of operations.
 #![tactic(auto)]
 
 mod operations;

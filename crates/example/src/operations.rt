@@ -1,11 +1,11 @@
-// A list of operations, which a session performs in turn.
+// A list of operations, performed by `run`.
 
 use lfs_device::{Error, Geometry, RamDevice};
 use lfs_fs::{Op, OpenFlags, Reply, format};
 use std::alloc::Global;
 use std::io;
 
-// Performs operations on a new file system, and returns their replies, a refusal among them.
+// Performs operations on a new file system, and returns their replies. One of them is a refusal.
 fn replies_to_example_operations(alloc: Global) -> Result<Vec<Reply>, Error> {
     let device = RamDevice::blank(alloc, Geometry::new(1024, 128, 8)?)?;
     let mut session = format(alloc, device).map_err(|(_, error)| error)?;

@@ -1,4 +1,4 @@
-// A device of your own, from nothing: a chip in memory, whose erases fill a block with 0xff.
+// A device of your own, from scratch: a chip in memory, whose erases fill a block with 0xff.
 
 ghost use Rattle.std.specs.Prelude.{◌≡◌, ◌≤◌, ◌<◌, ◌+◌, ◌*◌, length, replicate};
 ghost use Rattle.lfs_model.specs.format.Blocks.{cut, overwritten_at};
@@ -12,7 +12,7 @@ use saved_files::{append_to_log, raise_counter, read_settings, save_settings, se
 use std::alloc::Global;
 use std::{io, str};
 
-// A chip: its bytes, block after block, and its history of calls, which only proofs see.
+// A chip: its bytes, block after block, and the history of its calls, which exists only in proofs.
 #[derive(Drop)]
 struct Chip {
     geometry: Geometry,
@@ -25,7 +25,7 @@ struct Chip {
 }
 
 impl Chip {
-    // A chip that holds 0xff in every byte.
+    // Returns a chip whose bytes are all 0xff.
     fn new(alloc: Global, geometry: Geometry) -> Result<Chip, Error> {
         let len = geometry.block_size as usize * geometry.block_count as usize;
         let bytes = Vec::from_elem(alloc, 0xffu8, len)?;
@@ -36,7 +36,7 @@ impl Chip {
         })
     }
 
-    // Returns the offset of a byte in `bytes`.
+    // Returns the index in `bytes` of the byte at an offset of a block.
     fn position(&self, block: u32, off: u32) -> usize
         requires in_device { block < self.now.geometry.block_count }
         requires in_block { off ≤ self.now.geometry.block_size }
@@ -108,7 +108,7 @@ impl BlockDevice for Chip {
         Ok(())
     }
 
-    // The chip's own check: bytes are blank if each is 0xff.
+    // The chip's own check: bytes are unprogrammed if each is 0xff.
     fn is_unprogrammed(&mut self, block: u32, off: u32, len: u32) -> Result<bool, Error> {
         let start = self.position(block, off);
         if self.bytes[start..start + len as usize]
@@ -130,7 +130,8 @@ fn used_block_count(alloc: Global) -> Result<u32, Error> {
     session.used_count()
 }
 
-// Keeps settings, a counter and a log on a chip. Returns the settings that the next start reads, and the counter when it was raised.
+// Stores settings, a counter and a log on a chip. Returns the settings that the next start reads,
+// and the incremented counter.
 fn keep_files(alloc: Global) -> Result<(Vec<u8>, u32), Error> {
     let chip = Chip::new(alloc, Geometry::new(1024, 128, 8)?)?;
     let mut session = format(alloc, chip).map_err(|(_, error)| error)?;
@@ -143,7 +144,7 @@ fn keep_files(alloc: Global) -> Result<(Vec<u8>, u32), Error> {
     Ok((read_settings(&mut next, alloc)?, number))
 }
 
-/// Prints how many there are.
+/// Prints how many blocks are used on a chip with one directory.
 pub fn print_used_blocks(rt: &HostRuntime) -> io::Result<()> {
     match used_block_count(rt.alloc()) {
         Ok(count) => println!(rt; "a device of your own: {count} blocks used"),
@@ -151,7 +152,7 @@ pub fn print_used_blocks(rt: &HostRuntime) -> io::Result<()> {
     }
 }
 
-/// Prints what an application keeps there.
+/// Prints the settings and the counter that an application stores on a chip.
 pub fn print_kept_files(rt: &HostRuntime) -> io::Result<()> {
     match keep_files(rt.alloc()) {
         Ok((settings, number)) => println!(rt;

@@ -1,4 +1,4 @@
--- What a session knows of its device.
+-- Facts of a session's device, for proofs.
 use Rattle.std.specs.Prelude.{◌≡◌, false}
 use Rattle.lfs_model.specs.session.History.{LeftByLatest}
 use Rattle.lfs_model.specs.crash.Conformance.{CallsConform}
@@ -6,12 +6,13 @@ use Rattle.lfs_tree.specs.TreeState.{TreeState}
 use Rattle.lfs_fs.specs.FileView.{RuntimeFiles}
 use Rattle.lfs_fs.specs.SessionView.{IsReady}
 
--- The newest call left the disk as it is, and each call that didn't fail conforms.
+-- The disk is as the latest device call left it, and each call that didn't fail conforms to the laws.
 pub record DeviceConforms (t : TreeState) : Type 0 where
   pub newest : LeftByLatest t.history t.disk.blocks
   pub conforms : CallsConform t.history
 
--- What a session that works keeps between its calls: it is ready for the next one, and its device meets the laws of its calls.
+-- The invariant of a session between its calls: unless it has failed, it is ready for the next call, and its device has met the
+-- laws of its calls.
 pub record HasSessionInvariant (t : TreeState) (files : RuntimeFiles) : Type 0 where
   pub ready : t.failed ≡ false → IsReady t files
   pub reported : t.failed ≡ false → DeviceConforms t

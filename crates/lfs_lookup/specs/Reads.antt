@@ -13,14 +13,14 @@ use Rattle.lfs_lookup.specs.Halves.{ReadsBinarySearch, ReadsBinarySearches}
 use Rattle.lfs_lookup.specs.Listed.{joined_pairs}
 use Rattle.lfs_lookup.specs.declared.search.SlotPosition.{SlotPosition}
 
--- The search reads each pair of the directory that begins with the pair of index `first` at most once, and none where all are
+-- The search reads each pair of the directory that begins with the pair of index `first` at most once, and none if all are
 -- cached. If `moved` is None it is a binary search.
 pub record ReadsDirectoryOnce {X : Type 0} (moved : Option SlotPosition) (first : ℕ) (old new : ThreadView) (result : Result X Error) : Type 0 where
   pub few : read_count new.kept.history ≤ read_count old.kept.history + joined_count (drop first old.kept.pairs)
   pub halves : moved ≡ None → ReadsBinarySearch old new first
   pub loads : KeepsCachedPairs (joined_pairs (drop first old.kept.pairs)) old new result
 
--- The search reads each pair of the directories at these paths at most once, and none where all are cached. If `settled` holds,
+-- The search reads each pair of the directories at these paths at most once, and none if all are cached. If `settled` holds,
 -- and so no slot is moved, it is a binary search.
 pub record ReadsDirectoriesOnce {X : Type 0} (settled : Type 0) (through : X → Type 0) (paths : List Path) (old new : ThreadView) (result : Result X Error) : Type 0 where
   pub few : read_count new.kept.history ≤ read_count old.kept.history + sum_by (directory_pair_count old.kept.pairs) paths

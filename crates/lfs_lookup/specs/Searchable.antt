@@ -7,7 +7,7 @@ use Rattle.lfs_thread.specs.Kept.{ThreadView}
 use Rattle.lfs_lookup.specs.LookupPaths.{HidesMovedSlot, IsAcceptedRecovered}
 use Rattle.lfs_lookup.specs.declared.search.SlotPosition.{SlotPosition}
 
--- the thread hasn't failed, and has a pair of that number
+-- the thread hasn't failed, and has a pair of that index
 pub record CanReadPair (t : ThreadView) (index : ℕ) : Type 0 where
   pub works : t.failed ≡ false
   pub below : index < length t.kept.pairs

@@ -53,8 +53,8 @@ pub record IsRenamedInPair (old new : KeptThread) (path : Path) (from to : Name)
   pub once : (b : ℕ) → number_occurrences b (used_blocks new.disk new.pairs) + number_occurrences b gone ≤ 1
   pub completed : CompletesRename old new path from to
 
--- The errors of an operation that reads a slot before it changes or splits the pair: as `ReportsPut`, except that the thread
--- hasn't failed and is as it was if the slot couldn't be read.
+-- The errors of an operation that reads a slot before it changes or splits the pair: as `ReportsPut`, unless the slot couldn't
+-- be read; then the thread hasn't failed and is as it was.
 pub record ReportsReadPut {X : Type 0} (old new : ThreadView) (index : ℕ) (changes : List ContentChange) (result : Result X Error) : Type 0 where
   pub failed : (new.failed ≡ has_failed_after result) ⊎ ((new.failed ≡ false) × OnlyReadsThread old.kept new.kept)
   pub reports : ReportsSpaceErrors old.kept new.kept result

@@ -46,8 +46,8 @@ pub record IsDirectoryReplaced (old new : KeptThread) (pair id place : ℕ) (pat
   pub gstate : pairs_gstate new.pairs ≡ sync_bit_delta
   pub taken : IsWritableChange old.disk old.pairs new.disk new.pairs (tree_renaming (path ++ from ∷ []) (path ++ to ∷ [])) (renamed_addresses (path ++ from ∷ []) (path ++ to ∷ []))
 
--- The errors of a step that reads a slot first and allocates no block: after an error the thread has failed, except that it
--- hasn't failed and is as it was if the slot couldn't be read.
+-- The errors of a step that reads a slot first and allocates no block: after an error the thread has failed, unless the slot
+-- couldn't be read; then it is as it was.
 pub record ReportsReadCommit {X : Type 0} (old new : ThreadView) (result : Result X Error) : Type 0 where
   pub failed : (new.failed ≡ is_err result) ⊎ ((new.failed ≡ false) × OnlyReadsThread old.kept new.kept)
   pub reported : ThreadReportsErrors old.kept new.kept result
@@ -70,8 +70,7 @@ pub record IsRenamedOver (old new : KeptThread) (path : Path) (from to : Name) :
   pub completed : CompletesRename old new path from to
 
 -- The errors of several steps that allocate no block, and of which the first one reads a slot. The result is `Io` exactly if a
--- device call failed. After an error the thread has failed, except that it hasn't failed and is as it was if the slot couldn't
--- be read.
+-- device call failed. After an error the thread has failed, unless the slot couldn't be read; then it is as it was.
 pub record ReportsReadCommits {X : Type 0} (old new : ThreadView) (result : Result X Error) : Type 0 where
   pub failed : (new.failed ≡ is_err result) ⊎ ((new.failed ≡ false) × OnlyReadsThread old.kept new.kept)
   pub errors : IfErr result (λ e. (e ≡ Io) ⊎ (e ≡ NoMemory))

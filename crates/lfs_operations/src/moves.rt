@@ -31,7 +31,7 @@ use lfs_tag::kinds::DELETE;
 use lfs_thread::{Thread, gstate_xor_delta, number_at_address};
 use std::alloc::{AllocError, Global};
 
-/// Which entry moves from one pair into another, and where to.
+/// The source and the target of a rename across pairs.
 #[derive(Clone, Copy)]
 pub struct Route {
     /// The index of the entry's pair in the thread.

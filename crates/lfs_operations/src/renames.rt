@@ -44,7 +44,7 @@ fn renaming_changes<'a>(
     Ok(changes)
 }
 
-/// Where an entry moves to in its pair.
+/// The target of a rename within a pair.
 #[derive(Clone, Copy)]
 pub struct PairPlace {
     /// The new id, counted while the old slot is still there.

@@ -48,7 +48,8 @@ fn is_due<D: BlockDevice>(thread: &Thread<D>, index: usize, soon: bool) -> bool
     cycles != 0 && revision % cycles as u64 == 0
 }
 
-// Returns whether an eighth of the blocks stays free if two more are used.
+// Returns whether two more blocks may be used within `limit`, so that an eighth of the blocks stays
+// free.
 fn has_unload_room<D: BlockDevice>(thread: &Thread<D>, limit: u32) -> bool
     ensures { OnTrue result (HasUnloadRoom thread.now.kept limit) }
 {

@@ -59,7 +59,7 @@ pub record CanMoveEntry (t : KeptThread) (from to : Path) (source : RenameSource
   pub logged : (at : ℕ × ℕ) → IsRawFormed t.disk at
   pub room : HasFreeBlocks 2 t.map
 
--- the slot at `place` is where the new name belongs or, with `replaces`, the replaced file's
+-- `place` is the slot at which the new name belongs or, with `replaces`, the replaced file's
 pub record CanMoveTo (replaces : Bool) (t : KeptThread) (from to : Path) (source : RenameSource) (place : SlotPosition) (name : Name) : Type 0 where
   pub can : CanMoveEntry t from to source name
   pub gone : List ℕ

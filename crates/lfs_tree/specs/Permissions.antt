@@ -72,7 +72,7 @@ pub record CanRemoveAttrIn (t : TreeState) (path : Path) (kind : ℕ) : Type 0 w
 abbrev pub CanRemoveAttr : TreeState → Path → ℕ → Type 0
 CanRemoveAttr t path kind = CanRemoveAttrIn (without_cache t) path kind
 
--- the entry at `from` may be renamed to `to`, and replaces what is there
+-- the entry at `from` may be renamed to `to`, and replaces the entry at `to`, if there is one
 pub record CanRenameIn (t : TreeState) (from to : Path) : Type 0 where
   pub works : t.failed ≡ false
   pub writable : t.writable ≡ true

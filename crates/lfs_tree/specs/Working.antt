@@ -14,8 +14,7 @@ pub record IsWorkingWhere (t : ThreadView) (Can : KeptThread → Type 0) : Type 
   pub works : t.failed ≡ false
   pub can : Can t.kept
 
--- At Ok the thread hasn't failed, and no device call failed. The error is `Io` if a device call failed, and `NoMemory` if none
--- did.
+-- At Ok the thread hasn't failed, and no device call failed. At an error a device call failed exactly if it is `Io`.
 pub record WorksOrReportsFault {X : Type 0} (old new : ThreadView) (result : Result X Error) : Type 0 where
   pub works : OnOk result (new.failed ≡ false)
   pub no_fault : OnOk result (fault_count new.kept.history ≡ fault_count old.kept.history)

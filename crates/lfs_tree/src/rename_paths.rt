@@ -82,7 +82,7 @@ fn find_rename_targets<D: BlockDevice>(
     })
 }
 
-// Returns the results of both look-ups: `known` if they are there, or else it looks the paths up.
+// Returns the results of both look-ups. Looks the paths up unless `known` has the results.
 pub(crate) fn given_or_found<D: BlockDevice>(
     alloc: Global,
     thread: &mut Thread<D>,

@@ -1,4 +1,4 @@
--- Writers that are opened.
+-- Writers, just opened.
 use Rattle.std.proofs.Common.{ℕ, ◌≡◌, ◌+◌, ◌*◌, ◌≤◌, Bool, true, false, cond, List, [], ◌∷◌, length, nat_lt, ◌&&◌, Option, Some, None, refl, sym, ap, ap₂, subst, ◌∙◌, arith}
 use Rattle.lfs_fs.proofs.Common.{le-leb, lt-ltb, file_bytes, is_file, block_count, inline_limit, block_count_for, FlagsOfOpen, zero_gstate, pairs_gstate, opened_writer, node_file_size, Node, FileNode, DirectoryNode, Path, AreTreeContents, InlineWithinLimit, writer_contents_bytes, IsApplied, TreeState, tree_summary, shown_tree, contents_form, IsWriterForm, CanOpenWriter, IsOpenedWriter, contents_reserve, path_itself, tree_creating, tree_with_change, last_name, parent_path, names_with, node_with_names, path_or_root, Tree, CanCreateFile}
 use Rattle.lfs_model.specs.session.Session as session
@@ -21,14 +21,14 @@ file_there (Some (DirectoryNode attributes names)) size e = absurd (cc)
 pub is_file_there : (t : TreeState) (path : Path) (size : ℕ) (truncates : Bool) → CanOpenWriter t path size truncates → is_file (shown_tree t path) ≡ true
 is_file_there t path size truncates can = (file_there (shown_tree t path) size can.there).0
 
--- The file is there in an image of which nothing is to be recovered, with room for two blocks where it is to be written anew.
+-- The path has a file, nothing is to recover, and two blocks are free if the file is to be truncated.
 pub record IsAtRest (t : TreeState) (path : Path) (size : ℕ) (truncates : Bool) : Type 0 where
   pub writable : t.writable ≡ true
   pub settled : pairs_gstate t.pairs ≡ zero_gstate
   pub there : node_file_size (shown_tree t path) ≡ Some size
   pub room : truncates ≡ true → 1 ≤ size → length (tree_summary t).used + 2 ≤ block_count t.disk
 
--- so it is once the image is recovered, which takes no block
+-- the same after a recovery, which allocates no block
 pub at_rest : (t new : TreeState) (path : Path) (size : ℕ) (truncates : Bool) → CanOpenWriter t path size truncates → IsApplied t ops.Recover new → length (tree_summary new).used ≤ length (tree_summary t).used + 0 → IsAtRest new path size truncates
 at_rest t new path size truncates can carried few = record {
   writable = carried.writable;
@@ -61,7 +61,7 @@ begun_clean t path size flags can none = record {
         let few = ap (nat_lt 0) file.1 ∙ e in
         ap₂ made (no_elements (file_bytes (shown_tree t path)) few) (sym few)
 
--- one without bytes, where the file has some
+-- a writer that truncates a file with bytes
 pub begun_anew : (t : TreeState) (path : Path) (size : ℕ) (flags : FlagsOfOpen) (c : WriterContents) → IsAtRest t path size flags.truncate → flags.truncate ≡ true → 1 ≤ size → AreTreeContents t path c → writer_contents_bytes (kept_thread t) c ≡ [] → contents_form c ≡ shape_of.InMemory 0 →
     IsOpenedWriter t (opened_writer path flags (file_bytes (shown_tree t path))) (record { path = path; position = 0; size = 0; appends = flags.append; unsaved = Some (record { contents = c; has_turned = false; last_end = None }) })
 begun_anew t path size flags c can truncates some over none shape = record {

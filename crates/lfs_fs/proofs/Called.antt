@@ -1,4 +1,4 @@
--- What a session's call promises, by the way in which it ends.
+-- The promises of a session's call, from the way in which it ends.
 use Rattle.std.proofs.Common.{◌≡◌, Bool, true, false, Some, None, Result, Err, sym, ap, subst, ◌∙◌}
 use Rattle.std.specs.Prelude.{OnOk, OnErr, IfErr, is_err}
 use Rattle.lfs_device.specs.declared.error.Error.{Error}
@@ -41,7 +41,7 @@ pub changed_call : {A : Type 0} (t : TreeState) (fs : RuntimeFiles) (now : Sessi
 changed_call t fs now op reply r new is between reported other kept looks alone ends answers survives =
     unasked_call now op (reply_from reply r) new kept looks (call_survives_loss t fs now op (reply_from reply r) new is between reported other answers survives) (λ e. ok_others now op reply r new answers alone e) ends answers
 
--- where it failed, nothing is said of what it left alone
+-- after a failure nothing is promised of what the call left alone
 pub failed_others : {A : Type 0} (now : SessionView) (op : Operation) (new : SessionView) {e : Error} (r : Result A Error) → r ≡ Err e → OnOk r (SparesOthers (system_state now) op (system_state new))
 failed_others now op new r is = subst (λ z. OnOk z (SparesOthers (system_state now) op (system_state new))) (sym is) tt
 
@@ -73,7 +73,7 @@ unread_call t fs now op reply e r is ready other kept looks h given =
 
 -- ---- a call of the tree ends it
 
--- the tree carries the operation out behind reads, or its call fails
+-- after reads only, the tree performs the operation, or its call fails
 pub done_call : (C K : Type 0) (t mid new : TreeState) (fs : RuntimeFiles) (now : SessionView) (op : Operation) (r : Result (Unit {0}) Error) (after : Tree) → session_view t fs ≡ now → HasSessionInvariant t fs → OnlyReadsTree t mid → refusal_by_checks (session_view t fs) op ≡ None →
     is_remount op ≡ false → is_read_only (viewed_session (session_view t fs)) op ≡ false → writes_or_truncates op ≡ false → opens_there (viewed_session (session_view t fs)) op ≡ false → needs_no_device (viewed_session (session_view t fs)) op ≡ false →
     (operation_effect (tree_summary t) (viewed_session (session_view t fs)) op).0 ≡ ops.Done → (operation_effect (tree_summary t) (viewed_session (session_view t fs)) op).1.files ≡ files_view t fs → asks_session op ≡ false → is_look_up op ≡ false → needs_session_alone (viewed_session (session_view t fs)) op ≡ false →

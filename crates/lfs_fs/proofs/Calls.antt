@@ -1,10 +1,10 @@
--- A device that has had a call.
+-- Devices that have had at least one call.
 use Rattle.std.proofs.Common.{◌≡◌, ◌<◌, List, [], ◌∷◌, ◌++◌, sym, ap, ◌∙◌, arith}
 use Rattle.std.specs.Prelude.{◌≢◌}
 use Rattle.lfs_fs.proofs.Common.{CallEvent, read_count}
 use Rattle.lfs_model.specs.session.History.{erase_count}
 
--- calls only come to those before
+-- calls are only added to the history
 pub still_called : (old new calls : List CallEvent) → new ≡ calls ++ old → old ≢ [] → new ≢ []
 still_called old new calls e some none = go calls (sym e ∙ none)
   where
@@ -12,10 +12,10 @@ still_called old new calls e some none = go calls (sym e ∙ none)
     go [] k = some k
     go (x ∷ xs) k = absurd (cc)
 
--- there was a read
+-- if there was a read
 pub has_called : (old new : List CallEvent) → read_count old < read_count new → new ≢ []
 has_called old new more none = absurd (let k = ap read_count none in omega (arith, k, more))
 
--- there was an erase
+-- if there was an erase
 pub has_erased : (old new : List CallEvent) → erase_count old < erase_count new → new ≢ []
 has_erased old new more none = absurd (let k = ap erase_count none in omega (arith, k, more))

@@ -1,4 +1,4 @@
--- From what a look-up found to an operation's checks.
+-- From the result of a look-up to an operation's checks.
 use Rattle.std.proofs.Common.{ℕ, ◌≡◌, ◌+◌, ◌≤◌, Bool, true, false, not, List, [], ◌∷◌, Option, Some, None, Result, Ok, Err, length, nat_lt, nat_le, ◌&&◌, ◌||◌, unwrap_or, is_some, is_none, refl, sym, ap, ap₂, subst, ◌∙◌, arith}
 use Rattle.std.specs.Prelude.{if◌then◌else◌}
 use Rattle.lfs_fs.proofs.Common.{list_any, option_or, nat_tests, block_count, profile_name_max, Path, is_file, last_name, same_path, Operation, Refusal, FlagsOfOpen, parse_path, DiskSummary, flags_allowed, has_long_name, parents_refusal, all_readers, all_writers, first_refusal, refuse_if, exceeds_charge, lacks_room, reserved_for_writers, path_or_root, operation_refusal, node_file_size, refusal_error, error_refusal, result_unless_refused, TreeState, shown_tree, tree_summary, OnlyReadsTree, FailedByReading, HasErrorCause, CanMakeDirectory, in_flight_count, IsStorageAt, IsFoundNode, is_absent, is_directory_node, is_file_node, node_size_if_file, SessionView, viewed_session, IsReadableFile, refusal_by_checks, PassesEarlyChecks, FailsChecks, IsChecksResult}
@@ -103,7 +103,7 @@ passed_writable h op rest is e = negated h.tree.writable (unrefused (not h.tree.
 pub room_left : (n m k f l : ℕ) → f ≤ k → nat_lt n (m + k + l) ≡ false → m + f + l ≤ n
 room_left n m k f l few e = grind (arith, nat_tests)
 
--- there is room beside what is held back
+-- enough blocks are free besides the reserved ones
 pub mkdir_space : (h : SessionView) (bytes : List ℕ) → refusal_by_checks h (ops.Mkdir bytes) ≡ None → lacks_room (tree_summary h.tree) h.files 4 ≡ false
 mkdir_space h bytes e =
     let a = neither (refuse_if (not h.tree.writable) ops.ReadOnly) _ (not_refused h (ops.Mkdir bytes) e) in

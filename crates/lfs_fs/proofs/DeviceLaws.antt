@@ -1,4 +1,4 @@
--- What a session's device tells behind its calls.
+-- The laws of a session's device, after calls.
 use Rattle.std.proofs.Common.{◌≡◌, false, List, [], ◌∷◌, ◌++◌, Result, refl, sym, ap, subst, ◌∙◌}
 use Rattle.lfs_device.specs.declared.device.BlockDevice.{Ghosts}
 use Rattle.lfs_device.specs.declared.error.Error.{Error}
@@ -14,7 +14,7 @@ laws_met g device t blocks history newest conforms = record {
   conforms = subst CallsConform history conforms;
 }
 
--- ---- behind reads
+-- ---- after reads
 
 conforming_reads : (blocks : Blocks) (e : CallEvent) → IsRead blocks e → CallConforms e
 conforming_reads blocks e read = record {
@@ -46,7 +46,7 @@ reported_later t new reported reads same = record {
 pub reported_asked : (t new : TreeState) → (t.failed ≡ false → DeviceConforms t) → OnlyReadsTree t new → new.failed ≡ false → DeviceConforms new
 reported_asked t new reported asked works = reported_later t new (reported (sym (ap (λ (s : TreeState). s.failed) asked.same) ∙ works)) asked.reads (ap (λ (s : TreeState). s.disk) asked.same)
 
--- behind checks
+-- after checks
 pub between_checked : {A : Type 0} (t : TreeState) (files : RuntimeFiles) (op : Operation) (P : A → Type 0) (r : Result A Error) (tree : TreeState) → HasSessionInvariant t files → IsChecksResult (session_view t files) op P r tree → HasSessionInvariant tree files
 between_checked t files op P r tree between h = record {
   ready = checked_ready t files op P r tree between.ready h;

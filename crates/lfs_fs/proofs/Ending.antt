@@ -28,11 +28,11 @@ at_work old now op r new same works late calm quiet = subst (λ z. MeetsReplyRul
   at_once = λ e is once. absurd (let k = sym (late e is) ∙ once in cc);
 })
 
--- it answers
+-- by a reply
 pub answer_ends : (old now : SessionView) (op : Operation) (reply : Reply) (new : SessionView) → old ≡ now → refusal_by_checks old op ≡ None → fault_count new.tree.history ≡ fault_count old.tree.history → MeetsReplyRules now op (Ok reply) new
 answer_ends old now op reply new same e calm = at_work old now op (Ok reply) new same (not_failed old op e) (unrefused_late old op e) (λ k. calm) (λ k. refl)
 
--- an error takes the reply's place
+-- by an error
 error_late : (old now : SessionView) (op : Operation) (e : Error) (new : SessionView) → old ≡ now → old.tree.failed ≡ false → PassesEarlyChecks old op → needs_session_alone (viewed_session old) op ≡ false → MeetsReplyRules now op (Err e) new
 error_late old now op e new same works late takes = at_work old now op (Err e) new same works late (λ k. absurd (cc)) (λ k. absurd (let l = sym takes ∙ k in cc))
 
@@ -56,7 +56,7 @@ no_refusals : {A : Type 0} (old new : TreeState) (r : Result A Error) → IfErr 
 no_refusals old new (Ok x) errors = tt
 no_refusals old new (Err e) errors = no_refusal_io e errors.errors
 
--- behind reads, a call of the tree came last
+-- by the tree's call, after reads
 pub carried_ends : {A K : Type 0} (old now : SessionView) (op : Operation) (reply : A → Reply) (mid new : TreeState) (files : OpenFilesByNumber) (r : Result A Error) → old ≡ now → refusal_by_checks old op ≡ None → needs_session_alone (viewed_session old) op ≡ false → OnlyReadsTree old.tree mid →
     OnOk r K → (K → fault_count new.history ≡ fault_count mid.history) → IfErr r (HasErrorCause mid new) → MeetsReplyRules now op (reply_from reply r) (view_with_files new files)
 carried_ends {A} {K} old now op reply mid new files r same e takes asked done calm errors =
@@ -112,7 +112,7 @@ pub checked_ends : {A : Type 0} (t : TreeState) (fs : RuntimeFiles) (now : Sessi
 checked_ends t fs now op reply P (Ok x) tree same takes h = answer_ends (session_view t fs) now op (reply x) (session_view tree fs) same h.1 h.0.no_fault
 checked_ends t fs now op reply P (Err e) tree same takes h = checks_end t fs now op e tree same takes h
 
--- the same of a call that gives the error on
+-- the same of a call that passes the error on
 pub ended_ends : {A : Type 0} (t : TreeState) (fs : RuntimeFiles) (now : SessionView) (op : Operation) (reply : A → Reply) (e : Error) (tree : TreeState) (r : Result A Error) → session_view t fs ≡ now → needs_session_alone (viewed_session (session_view t fs)) op ≡ false →
     FailsChecks (is_refusal e) (session_view t fs) op e tree → r ≡ Err e → MeetsReplyRules now op (reply_from reply r) (session_view tree fs)
 ended_ends t fs now op reply e tree r same takes h is = subst (λ z. MeetsReplyRules now op (reply_from reply z) (session_view tree fs)) (sym is) (checks_end t fs now op e tree same takes h)

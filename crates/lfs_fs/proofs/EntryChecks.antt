@@ -1,4 +1,4 @@
--- Checks of operations on what stands at a path.
+-- Checks of operations on the entry at a path.
 use Rattle.std.proofs.Common.{ℕ, ◌≡◌, Bool, true, false, not, cond, List, [], ◌∷◌, Option, Some, None, Result, Ok, length, ◌==◌, unwrap_or, is_none, is_some, refl, sym, ap, subst, ◌∙◌, arith}
 use Rattle.lfs_fs.proofs.Common.{option_map, onto_first, slice_split, list_all, lt-ltb, is_component, slash_byte, node_attributes_of, attribute_bytes, Refusal, parse_path, first_refusal, refuse_if, path_or_root, path_unusable, is_root_path, Path, IsFoundNode, is_absent, is_file_node, TreeState, shown_tree, OnlyReadsTree, entry_path, result_unless_refused, SessionView, refusal_by_checks, IsChecksResult}
 use Rattle.lfs_device.specs.declared.error.Error.{Error}

@@ -1,4 +1,4 @@
--- Bytes that are the path of an entry, and bytes that are not.
+-- Bytes that are an entry's path, and bytes that aren't.
 use Rattle.std.proofs.Common.{ℕ, ◌≡◌, true, false, cond, List, [], ◌∷◌, Option, Some, None, refl, sym, ap, ◌∙◌}
 use Rattle.lfs_fs.proofs.Common.{parse_path, path_unusable, is_root_path, Path, entry_path}
 

@@ -1,4 +1,4 @@
--- Where an error takes the place of a reply.
+-- Calls that end in an error instead of a reply.
 use Rattle.std.proofs.Common.{inl, inr, ℕ, ◌≡◌, ◌+◌, ◌<◌, Bool, true, false, cond, List, [], ◌∷◌, ◌++◌, refl, sym, ap, ap₂, subst, ◌∙◌, append_assoc, arith}
 use Rattle.std.specs.Prelude.{◌⊎◌}
 use Rattle.lfs_device.specs.declared.error.Error.{Error}

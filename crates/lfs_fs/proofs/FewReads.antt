@@ -1,4 +1,4 @@
--- How many reads a look-up takes, by the calls that came.
+-- How many reads a look-up makes, by its device calls.
 use Rattle.std.proofs.Common.{ℕ, ◌≡◌, ◌≤◌, ◌+◌, List, [], ◌∷◌, ◌++◌, Option, Some, unwrap_or, ap, arith}
 use Rattle.std.specs.Prelude.{sum_by}
 use Rattle.lfs_fs.proofs.Common.{ReadsEachOnce, directory_pair_count, CallEvent, read_count, Operation, parse_path, path_or_root, Path, TreeState, ReadsSearched}

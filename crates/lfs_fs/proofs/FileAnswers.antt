@@ -1,4 +1,4 @@
--- What a session says of an open file is so of the file.
+-- A session returns the position and the size that an open file has.
 use Rattle.std.proofs.Common.{ℕ, ◌≡◌, ◌∙◌, true, false, zero, suc, length, [], ◌∷◌, Option, Some, None, inl, inr, refl, sym, ap, subst}
 use Rattle.lfs_fs.proofs.Common.{AllByRecursion, option_map, same_Some, TreeState, file_position, RuntimeFiles, open_file_at, file_view, reader_if_any, unsaved_or_tree, writer_if_any, writers_among, IsWriterReady, SessionView, session_view}
 use Rattle.std.specs.Prelude.{Err, Ok}

@@ -1,4 +1,4 @@
--- Files beside a path at which nothing has names.
+-- Files outside a path without entries beneath it.
 use Rattle.std.proofs.Common.{ℕ, ◌≡◌, ◌||◌, ◌++◌, ◌∙◌, Bool, true, false, cond, List, [], ◌∷◌, length, map, Option, Some, None, is_some, refl, sym, ap, arith, append-nil}
 use Rattle.lfs_fs.proofs.Common.{option_map, is_file, directory_names, without_prefix, same_path, Slot, Struct, Inline, Ctz, Branch, Path, struct_node, struct_list_bytes, all_entries, path_itself, AllByRecursion, has_open_file, TreeState, shown_tree, RuntimeFiles, files_view, readers_among}
 use Rattle.std.specs.Option.{option_and_then}
@@ -37,7 +37,7 @@ pub not_some : {A : Type 0} (b : Bool) (x : A) → is_some (cond b (Some x) None
 not_some true x e = absurd (cc)
 not_some false x e = refl
 
--- where no file is open at such a path, no reader is
+-- if no file is open at such a path, no reader is
 pub no_reader_at : (t : TreeState) (files : RuntimeFiles) (p : Path → Bool) → has_open_file p (files_view t files) ≡ false → AllByRecursion (λ r. p r.path ≡ false) (readers_among files)
 no_reader_at t [] p e = tt
 no_reader_at t (None ∷ fs) p e = no_reader_at t fs p e
@@ -48,7 +48,7 @@ pub none_there : {A : Type 0} (o : Option A) → is_some o ≡ false → o ≡ N
 none_there None e = refl
 none_there (Some x) e = absurd (cc)
 
--- a file that is there isn't beneath the path
+-- a file in the tree isn't beneath the path
 pub beside : (t : TreeState) (q x : Path) → length (directory_names (shown_tree t q)) ≡ 0 → is_file (shown_tree t x) ≡ true → same_path q x ≡ false → without_prefix q x ≡ None
 beside t q x bare there apart = go (without_prefix q x) refl
   where

@@ -1,4 +1,4 @@
--- The open files stay while the tree changes beside them.
+-- Open files stay as they are while the tree changes elsewhere.
 use Rattle.std.proofs.Common.{ℕ, ◌≡◌, ◌+◌, ◌-◌, ◌≤◌, ◌⊎◌, ◌∙◌, inl, inr, Bool, true, false, List, [], ◌∷◌, length, Option, Some, None, is_none, is_some, refl, sym, ap, ap₂, subst, arith}
 use Rattle.std.specs.Prelude.{◌||◌, if◌then◌else◌, sum_by}
 use Rattle.lfs_fs.proofs.Common.{AllByRecursion, list_any, file_bytes, is_file, IsInFlight, in_flight_count, block_count, inline_limit, Operation, Reading, Writing, reserved_for_writers, reserved_for_writer, Path, few_flying, in_flight-freed, AreTreeContents, InlineWithinLimit, writer_contents_bytes, IsApplied, IsSoundState, TreeState, tree_summary, shown_tree, contents_form, ContentsForm, IsWriterForm, RuntimeFiles, unsaved_or_tree, last_change_end, files_view, has_unsaved, writers_reserve, writer_reserve, contents_reserve, reader_view, readers_among, is_unsaved_turned, writer_view, writers_among, writers_paths, AreUnsavedContents, IsReady, AreUnsavedIfAny, IsWriterReady, vacates_path, StayReady, KeepsWriters, ConcernsNoFile}

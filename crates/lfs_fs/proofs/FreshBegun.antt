@@ -1,4 +1,4 @@
--- A session as a format or a mount begins it.
+-- A session just after a format or a mount.
 use Rattle.std.proofs.Common.{◌≡◌, ◌∙◌, false, cond, List, [], refl, ap, ap₂, subst}
 use Rattle.lfs_fs.proofs.Common.{content_at, Disk, block_count, CallEvent, IsMounted, OpenFilesByNumber, HasFailed, Healthy, mounted_session, Pair, Tree, IsAccepted, disk_tree, one_thread, IsMountedTree, TreeState, RuntimeFiles, files_view, SessionView, session_view, system_state, viewed_session}
 use Rattle.lfs_model.specs.tree.Fresh.{IsFreshDisk, empty_tree}

@@ -1,4 +1,4 @@
--- A session that is only read, and a mount by the limits of its image.
+-- A session that only reads its device, and a mount that adopts the image's limits.
 use Rattle.std.proofs.Common.{ℕ, ◌≡◌, ◌<◌, ◌∙◌, inl, inr, Bool, true, false, cond, List, ◌++◌, Some, Result, Ok, Err, refl, sym, ap, ap₂, subst, flat_map}
 use Rattle.std.specs.Prelude.{All, IfErr, IfOk, OnOk, nat_eq}
 use Rattle.std.specs.List.{IsDistinct}
@@ -83,7 +83,7 @@ same_versions fields profile = go (limits_usable fields)
     go true = refl
     go false = refl
 
--- where the superblock's limits are the profile's, so is all else
+-- if the superblock's limits are the profile's, the profile with these limits is the same
 pub same_limits : (fields : SuperblockFields) (profile limits : Profile) → limits ≡ profile_with_limits fields profile → (limits.name_max ≡ profile.name_max) × (limits.file_max ≡ profile.file_max) × (limits.attr_max ≡ profile.attr_max) → limits ≡ profile
 same_limits fields profile limits is same =
     is ∙ go (limits_usable fields) (sym (ap (λ (k : Profile). k.name_max) is) ∙ same.0) (sym (ap (λ (k : Profile). k.file_max) is) ∙ same.1) (sym (ap (λ (k : Profile). k.attr_max) is) ∙ same.2)
@@ -139,7 +139,7 @@ module _ {D : Type 0} (g : Ghosts D) (device : D) (profile : Profile) (s read : 
   its_profile : s.tree.disk.profile ≡ profile
   its_profile = ap (λ (d : Disk). d.profile) begun.disk_is
 
-  -- ---- where the image has the profile's limits
+  -- ---- if the image has the profile's limits
 
   module _ (only : OnlyReadsSession s read) where
     is_below : below s.tree.disk.order profile ≡ below read.tree.disk.order read.tree.disk.profile
@@ -178,7 +178,7 @@ module _ {D : Type 0} (g : Ghosts D) (device : D) (profile : Profile) (s read : 
         no_fault = ap fault_count history ∙ only.tree.no_fault ∙ begun.no_fault;
       })
 
-  -- where its superblock isn't read
+  -- if its superblock can't be read
   pub failing_back : (kept : Profile) (inner back : D) (e : Error) → back ≡ inner → ordered_disk read.tree.disk.order (profiled_disk kept (disk_of_device g inner)) ≡ read.tree.disk → g.history inner ≡ read.tree.history → FailedByRead s read e →
       ReturnsUnchangedDevice g device back e
   failing_back kept inner back e is disk history (inl failed) = absurd (let k = sym failed.0 ∙ begun.works in cc)
@@ -190,7 +190,7 @@ module _ {D : Type 0} (g : Ghosts D) (device : D) (profile : Profile) (s read : 
         no_fault = λ other. ap fault_count history ∙ error.no_fault other ∙ begun.no_fault;
       })
 
-  -- ---- where the image has other limits
+  -- ---- if the image has other limits
 
   module _ (back : D) (again : OnlyReadsDevice g device back) (limits : Profile) where
     abbrev first : NameOrder → Disk

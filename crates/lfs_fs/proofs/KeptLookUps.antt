@@ -1,4 +1,4 @@
--- Look-ups in directories that are cached, and a stat that has just brought them there.
+-- Look-ups in cached directories, and a stat that has just cached them.
 use Rattle.std.proofs.Common.{ℕ, ◌≡◌, List, [], ◌∷◌, Option, Some, None, Result, Ok, Err, unwrap_or, refl, sym, ap, subst, arith}
 use Rattle.std.specs.Prelude.{Contains, OnOk}
 use Rattle.lfs_fs.proofs.Common.{All-from_recursion, directory_pair_count, searched_directories, read_count, Operation, Refusal, parse_path, path_or_root, first_refusal, Pair, Path, each_weaker, AreFewSmall, HasCachedDirectories, TreeState, AddsNoReads, NoReadsIfCached, result_unless_refused}
@@ -18,7 +18,7 @@ pub none_given : (old new : TreeState) (f : Path → List Path) (bytes : List �
     → HasCachedDirectories old (f (path_or_root bytes)) → read_count new.history ≡ read_count old.history
 none_given old new f bytes p is h = subst (λ q. HasCachedDirectories old (f q) → read_count new.history ≡ read_count old.history) (given bytes p is) h
 
--- what is found at the path passes the checks only where no parent refuses it
+-- the result of the look-up passes the checks only if no parent refuses the path
 pub hand_given : {A : Type 0} (old new : TreeState) (f : Path → List Path) (bytes : List ℕ) (p : Path) (fault : Option Refusal) (others : List (Option Refusal)) (x : A) (r : Result A Error) → Some p ≡ parse_path bytes
     → r ≡ result_unless_refused (first_refusal (fault ∷ others)) x → (AreFewSmall old.pairs (f p) → fault ≡ None → HasCachedDirectories new (f p)) → AreFewSmall old.pairs (f (path_or_root bytes)) → OnOk r (HasCachedDirectories new (f (path_or_root bytes)))
 hand_given {A = A} old new f bytes p fault others x r is passes h small =
@@ -43,14 +43,14 @@ reads_none old new op none there calls is =
     let n = none there in
     omega (arith, e, k, n)
 
--- ---- behind a stat
+-- ---- after a stat
 
 module _ (ps : List Pair) (before op : Operation) (k : SearchesSameDirectories ps before op) where
   -- the directories that it searched are small
   pub kept_small : AreFewSmall ps (searched_directories before)
   kept_small = record { few = k.few; small = recursion_from_All (λ p. directory_pair_count ps p ≡ 1) (searched_directories before) k.small }
 
-  -- and where they are cached so are those of the look-up behind it
+  -- and if they are cached, so are those of the next look-up
   pub kept_hand : (t : TreeState) → HasCachedDirectories t (searched_directories before) → HasCachedDirectories t (searched_directories op)
   kept_hand t there =
       let P : Path → Type 0 = λ p. AreLastUsed cache_limit t.disk t.cache (pairs_at t.pairs p) in

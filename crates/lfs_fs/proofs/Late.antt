@@ -1,11 +1,11 @@
--- Where the checks that ask nothing pass, the refusals that are left come behind a look-up.
+-- If the checks without a look-up pass, any refusal needs a look-up.
 use Rattle.std.proofs.Common.{ℕ, ◌≡◌, ◌&&◌, ◌||◌, Bool, true, false, not, List, [], ◌∷◌, ◌++◌, Option, Some, None, is_none, is_some, length, nat_le, nat_lt, refl, sym, subst, ◌∙◌}
 use Rattle.lfs_fs.proofs.Common.{list_any, option_or, attribute_bytes, attributes_with, refused_before_search, profile_attr_max, FlagsOfOpen, Operation, Refusal, parse_path, path_or_root, writes_or_truncates, first_refusal, flags_allowed, has_long_name, has_open_file, exceeds_charge, lacks_room, overfills_disk, parents_refusal, all_readers, refuse_if, all_writers, Node, FileNode, DirectoryNode, Path, Tree, node_attributes_of, file_bytes, is_beneath, is_directory, is_file, last_name, directory_names, without_prefix, same_path, opened_writer, tree_summary, shown_tree, entry_path, PassesEarlyChecks, SessionView, refusal_by_checks}
 use Rattle.lfs_model.specs.session.Operations as ops
 use Rattle.lfs_model.specs.session.Session.{directory_refusal}
 use Rattle.lfs_fs.proofs.EntryPaths.{is_entry, root_false}
 
--- refusals, those of them that are any, that don't come at once
+-- refusals, if any, that need a look-up
 abbrev IsLate : Operation → Option Refusal → Type 0
 IsLate op None = Unit {0}
 IsLate op (Some r) = refused_before_search op r ≡ false

@@ -1,4 +1,4 @@
--- The position of an open file, set.
+-- Sets the position of an open file.
 use Rattle.std.proofs.Common.{ℕ, ◌≡◌, true, false, set, None, Ok, is_some, refl, sym, ap, subst, ◌∙◌}
 use Rattle.lfs_fs.proofs.Common.{option_map, OpenFilesByNumber, TreeState, shown_tree, RuntimeFiles, open_file_at, files_view, file_with_position, StepsOrFails, SessionView, IsReady, session_view, refusal_by_checks}
 use Rattle.lfs_model.specs.session.Operations as ops

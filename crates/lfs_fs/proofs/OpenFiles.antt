@@ -1,4 +1,4 @@
--- Open files, as they are kept and as the definitions have them.
+-- Open files, in the code and in the definitions.
 use Rattle.std.proofs.Common.{ℕ, zero, suc, fold, unwrap_or, ◌≡◌, ◌+◌, ◌<◌, ◌≤◌, ◌||◌, Bool, true, false, cond, not, List, [], ◌∷◌, ◌++◌, length, map, set, Option, Some, None, is_some, is_none, nat_le, nat_lt, refl, sym, ap, ap₂, subst, ◌∙◌, arith}
 use Rattle.std.specs.Prelude.{slice_get, sum_by}
 use Rattle.lfs_fs.proofs.Common.{AllByRecursion, list_any, option_flatten, option_map, lt-ltb, ltb-true, same_Some, inline_limit, contents_form, FormFitsWriter, ContentsForm, IsWriterForm, nat_tests, map-set, map-append, same_path, Path, has_open_file, Reading, file_numbered, free_number_of, reserved_for_writers, reserved_for_writer, files_with_file, file_reader, all_readers, all_writers, path_or_root, repositioned_file, parse_path, block_count, lacks_room, TreeState, OnlyReadsTree, tree_summary, RuntimeFiles, prepended, selected_files, unsaved_or_tree, open_file_at, file_view, files_view, lowest_free, has_unsaved, is_open_where, is_unsaved_writer, writers_reserve, writer_reserve, contents_reserve, file_with_known, file_with_position, runtime_files_with, reader_if_any, reader_view, readers_among, is_unsaved_turned, writer_if_any, writer_view, writers_among, writers_paths, HasKnownBlocks, IsCurrentReader, IsReady, AreUnsavedIfAny, IsWriterReady}
@@ -258,7 +258,7 @@ unsaved_closed (None ∷ fs) (suc fd) e = unsaved_closed fs fd e
 unsaved_closed (Some (file.Reading r) ∷ fs) (suc fd) e = unsaved_closed fs fd e
 unsaved_closed (Some (file.Writing w) ∷ fs) (suc fd) e = ap (λ b. is_some w.unsaved || b) (unsaved_closed fs fd e)
 
--- ---- how many there are of a kind
+-- ---- the number of readers and of writers
 
 abbrev pub one_of : {A : Type 0} → Option A → ℕ
 one_of None = 0

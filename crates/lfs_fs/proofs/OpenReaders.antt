@@ -1,4 +1,4 @@
--- What the readers among open files keep.
+-- The invariant of the readers among open files.
 use Rattle.std.proofs.Common.{ℕ, zero, suc, ◌≡◌, ◌||◌, ◌∙◌, Bool, true, false, cond, List, [], ◌∷◌, ◌++◌, length, map, set, nat_lt, unwrap_or, Option, Some, None, refl, sym, ap, subst}
 use Rattle.lfs_fs.proofs.Common.{AllByRecursion, list_any, option_map, same_Some, Disk, vacates_path, Operation, struct_list_bytes, all_entries, disk_tree, slot_of, Attributes, Slot, Pair, Path, struct_node, is_file, same_path, path_from_same, path_itself, IsStorageAt, contents_struct, KeepsOtherFiles, IsApplied, TreeState, kept_thread, shown_tree, RuntimeFiles, prepended, open_file_at, file_with_position, runtime_files_with, reader_if_any, readers_among, writers_among, writers_paths, AreCurrentReaders, IsCurrentReader}
 use Rattle.lfs_lookup.specs.FileContents.{AreContentsAt}
@@ -36,7 +36,7 @@ module _ (P : Reader → Type 0) where
   joined fs (Some (file.Reading r)) e h = (e.0, h)
   joined fs (Some (file.Writing w)) e h = h
 
-  -- with another entry in a place
+  -- with a replaced entry
   pub all_set : (fs : RuntimeFiles) (fd : ℕ) (entry : Option OpenFile) → AllByRecursion P (prepended (reader_if_any entry) []) → AllByRecursion P (readers_among fs) → AllByRecursion P (readers_among (set fs fd entry))
   all_set [] fd entry e h = h
   all_set (None ∷ fs) zero entry e h = joined fs entry e h
@@ -46,7 +46,7 @@ module _ (P : Reader → Type 0) where
   all_set (Some (file.Reading r) ∷ fs) (suc fd) entry e h = (h.0, all_set fs fd entry e h.1)
   all_set (Some (file.Writing w) ∷ fs) (suc fd) entry e h = all_set fs fd entry e h
 
-  -- with one more behind them
+  -- with one more entry
   all_more : (fs : RuntimeFiles) (entry : Option OpenFile) → AllByRecursion P (prepended (reader_if_any entry) []) → AllByRecursion P (readers_among fs) → AllByRecursion P (readers_among (fs ++ entry ∷ []))
   all_more [] None e h = h
   all_more [] (Some (file.Reading r)) e h = e
@@ -72,7 +72,7 @@ module _ (P : Reader → Type 0) where
   one_of_all (Some (file.Reading q) ∷ fs) (suc fd) r e h = one_of_all fs fd r e h.1
   one_of_all (Some (file.Writing w) ∷ fs) (suc fd) r e h = one_of_all fs fd r e h
 
-  -- where their positions don't matter
+  -- for properties that don't depend on positions
   pub all_moved : ((r : Reader) (position : ℕ) → P r → P (record r { position = position })) → (fs : RuntimeFiles) (fd position : ℕ) → AllByRecursion P (readers_among fs) → AllByRecursion P (readers_among (set fs fd (option_map (file_with_position position) (open_file_at fs fd))))
   all_moved k [] fd position h = h
   all_moved k (None ∷ fs) zero position h = h
@@ -159,7 +159,7 @@ other_way p q e = go (same_path q p) refl
     go false k = refl
     go true k = absurd (let l = sym e ∙ ap (λ z. same_path z q) (sym (path_from_same q p k)) ∙ path_itself q in cc)
 
--- where the contents of a writer are stored at a path
+-- after a writer's contents are committed to a path
 pub read_stored : (disk : Disk) (old new : List Pair) (path : Path) (written later : List Path) (rs : List Reader) → KeepsOtherFiles (disk_tree disk old) old path new → ((p : Path) → list_any (same_path p) written ≡ false → (same_path p path ≡ false) × (list_any (same_path p) later ≡ false))
     → AllByRecursion (IsCurrentReader old written) rs → AllByRecursion (IsCurrentReader new later) rs
 read_stored disk old new path written later rs keeps apart h =
@@ -176,7 +176,7 @@ read_stored disk old new path written later rs keeps apart h =
 pub alone_apart : (p path : Path) → list_any (same_path p) (path ∷ []) ≡ false → same_path p path ≡ false
 alone_apart p path e = (no_more (same_path p path) _ e).0
 
--- ---- with another writer in a place
+-- ---- with a replaced writer
 
 -- that writer has the path of the only one
 pub read_rewritten : (ps qs : List Pair) (fs : RuntimeFiles) (fd : ℕ) (w v : Writer) → writers_among fs ≡ w ∷ [] → writers_among (set fs fd (Some (file.Writing v))) ≡ v ∷ [] → v.path ≡ w.path → qs ≡ ps → AreCurrentReaders ps fs → AreCurrentReaders qs (set fs fd (Some (file.Writing v)))
@@ -186,7 +186,7 @@ read_rewritten ps qs fs fd w v was now path same h =
     (subst (λ written. AllByRecursion (IsCurrentReader ps written) (readers_among (set fs fd (Some (file.Writing v))))) paths
     (all_set (IsCurrentReader ps (writers_paths fs)) fs fd (Some (file.Writing v)) tt h))
 
--- its contents were stored, and there is another entry in its place
+-- its contents were committed, and its entry replaced
 pub read_saved : (disk : Disk) (old new : List Pair) (fs : RuntimeFiles) (fd : ℕ) (entry : Option OpenFile) (path : Path) (later : List Path) → reader_if_any entry ≡ None → writers_paths fs ≡ path ∷ [] → writers_paths (set fs fd entry) ≡ later
     → KeepsOtherFiles (disk_tree disk old) old path new → ((p : Path) → same_path p path ≡ false → list_any (same_path p) later ≡ false) → AreCurrentReaders old fs → AreCurrentReaders new (set fs fd entry)
 read_saved disk old new fs fd entry path later none was now keeps apart h =

@@ -1,4 +1,4 @@
--- Whether a path lies beneath another, by their bytes.
+-- Whether a path is beneath another, by their bytes.
 use Rattle.std.proofs.Common.{ℕ, ◌≤◌, nat_eq, take, subst, length-append, ◌<◌, nat_lt, ◌≡◌, ◌==◌, ◌&&◌, ◌++◌, Bool, true, false, not, cond, if◌then◌else◌, List, [], ◌∷◌, length, drop, get_or, Option, Some, None, is_some, unwrap_or, eqb-true, refl, sym, ap, ap₂, ◌∙◌, arith}
 use Rattle.lfs_fs.proofs.Common.{slice_split, list_all, onto_first, lt-ltb, ltb-true, ltb-false, without_prefix, is_component, same_name, slash_byte, parse_path, path_or_root, path_unusable, Path, Names, alike, unlike, names}
 use Rattle.std.specs.Cmp.Lexicographic.{pointwise}

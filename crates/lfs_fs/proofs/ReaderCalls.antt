@@ -1,4 +1,4 @@
--- A session's read of an open file: what it comes to.
+-- The effect of a session's read of an open file.
 use Rattle.std.proofs.Common.{ℕ, ◌≡◌, ◌∙◌, ◌+◌, true, false, List, drop, length, set, take, Some, is_some, Result, Ok, Err, refl, sym, ap, subst}
 use Rattle.lfs_fs.proofs.Common.{option_map, AreKnownBlocks, contents_struct, error_refusal, repositioned_file, Reply, file_numbered, files_with_file, struct_blocks, file_bytes, HasErrorCause, FailedByReading, TreeState, OnlyReadsTree, shown_tree, IsCall, HasSessionInvariant, RuntimeFiles, open_file_at, file_with_known, file_with_position, files_view, writers_paths, reader_if_any, reader_view, reply_from, HasKnownBlocks, IsCurrentReader, IsReady, SessionView, refusal_by_checks, session_view}
 use Rattle.lfs_file.specs.declared.known.KnownBlocks.{KnownBlocks}

@@ -1,4 +1,4 @@
--- What an open reader gives.
+-- The bytes that an open reader returns.
 use Rattle.std.proofs.Common.{ℕ, ◌≡◌, ◌≤◌, ◌+◌, ◌-◌, ◌++◌, min, true, false, List, length, take, drop, Option, Some, None, is_none, Result, Ok, Err, refl, sym, ap, ap₂, subst, ◌∙◌, arith}
 use Rattle.lfs_fs.proofs.Common.{option_map, file_bytes, is_file, Operation, Reply, OpenFilesByNumber, Reading, Writing, file_numbered, files_with_file, file_reader, refuse_if, repositioned_file, node_file_size, Node, FileNode, DirectoryNode, length-take, take_all, same_Some, IsStorageAt, contents_struct, CallEvent, read_count, struct_at, block_count_for, Ctz, Inline, Struct, RuntimeFiles, open_file_at, files_view, reader_if_any, reader_view, ReadsFew, TreeState, IsSoundState, shown_tree, OnlyReadsTree, SessionView, session_view, view_with_files, viewed_session, refusal_by_checks, StepsOrFails, error_refusal, FailedByReading, HasErrorCause, reply_from}
 use Rattle.lfs_model.specs.session.Operations as ops

@@ -1,4 +1,4 @@
--- The blocks that open readers know.
+-- The blocks that open readers have found.
 use Rattle.std.proofs.Common.{ℕ, zero, suc, ◌≡◌, ◌≤◌, ◌∙◌, true, false, List, [], ◌∷◌, length, map, replicate, set, slice_index, Option, Some, None, is_some, refl, sym, ap, subst, arith}
 use Rattle.lfs_fs.proofs.Common.{AllByRecursion, list_any, option_map, same_Some, AreKnownBlocks, no_known_blocks, Disk, vacates_path, struct_at, Operation, struct_blocks, slot_of, Slot, Struct, Path, is_file, same_path, contents_struct, KeepsOtherFiles, IsApplied, TreeState, OnlyReadsTree, kept_thread, shown_tree, RuntimeFiles, open_file_at, file_with_known, file_with_position, file_view, files_view, runtime_files_with, reader_if_any, writers_paths, readers_among, writers_among, HasKnownBlocks, IsCurrentReader, IsReady, IsWriterReady}
 use Rattle.std.proofs.lemmas.List.{get_or-replicate}
@@ -58,14 +58,14 @@ module _ (old new : TreeState) where
       let k = carried.keeps r.path (contents_are_file old.disk old.pairs r.path r.contents read.0.contents) off.0 in
       (still_known r read.0.contents.struct k.struct k.list h.0, known_carried op written rs carried off.1 read.1 h.1)
 
-  -- where no used block was written
+  -- if no used block was written
   pub known_beside : (written : List Path) (rs : List Reader) → new.pairs ≡ old.pairs → ((path : Path) → list_blocks_at (kept_thread new) path ≡ list_blocks_at (kept_thread old) path)
       → AllByRecursion (IsCurrentReader old.pairs written) rs → AllByRecursion (HasKnownBlocks old.disk) rs → AllByRecursion (HasKnownBlocks new.disk) rs
   known_beside written [] same lists read h = tt
   known_beside written (r ∷ rs) same lists read h =
       (still_known r read.0.contents.struct (ap (λ ps. struct_at ps r.path) same) (lists r.path) h.0, known_beside written rs same lists read.1 h.1)
 
-  -- where the contents of a writer are stored
+  -- after a writer's contents are committed
   pub known_stored : (path : Path) (rs : List Reader) → KeepsOtherFiles (shown_tree old) old.pairs path new.pairs
       → ((q : Path) → is_file (shown_tree old q) ≡ true → same_path path q ≡ false → list_blocks_at (kept_thread new) q ≡ list_blocks_at (kept_thread old) q)
       → AllByRecursion (IsCurrentReader old.pairs (path ∷ [])) rs → AllByRecursion (HasKnownBlocks old.disk) rs → AllByRecursion (HasKnownBlocks new.disk) rs

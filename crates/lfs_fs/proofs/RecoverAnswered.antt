@@ -1,4 +1,4 @@
--- What a recovery answers, and what it leaves of the open files.
+-- The reply of a recovery, and what it leaves of the open files.
 use Rattle.std.proofs.Common.{inl, ◌≡◌, false, not, [], None, Result, Ok, Err, refl, sym, subst}
 use Rattle.std.specs.Prelude.{OnErr, OnOk, IfErr}
 use Rattle.lfs_device.specs.declared.error.Error.{Error}

@@ -15,7 +15,7 @@ use Rattle.lfs_fs.proofs.Staying.{SameFile, changed_same, named}
 
 -- ---- the writers' files
 
--- where no file is open at a path, no writer is
+-- if no file is open at a path, no writer is
 not_at : (t : TreeState) (files : RuntimeFiles) (p : Path) → has_open_file (same_path p) (files_view t files) ≡ false → AllByRecursion (λ w. same_path p w.path ≡ false) (writers_among files)
 not_at t [] p e = tt
 not_at t (None ∷ fs) p e = not_at t fs p e

@@ -1,4 +1,4 @@
--- Two paths are the same where their bytes are.
+-- Two paths are the same exactly if their bytes are.
 use Rattle.std.proofs.Common.{ℕ, ◌≡◌, ◌==◌, Bool, true, false, not, cond, List, [], ◌∷◌, length, Option, Some, None, is_some, unwrap_or, refl, sym, ap, ◌∙◌, arith}
 use Rattle.lfs_fs.proofs.Common.{slice_split, list_all, onto_first, same_Some, eqb-true, lt-ltb, is_component, same_name, slash_byte, same_path, parse_path, path_or_root, Path, Names, alike, unlike, names, path_itself, path_from_same}
 use Rattle.std.specs.List.{join_with_byte}

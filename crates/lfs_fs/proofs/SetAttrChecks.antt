@@ -71,7 +71,7 @@ set_attr_checked h bytes kind value p found mid tree replaced size n len absent 
         (both (when ops.EntryFull d_is (over_is (last_name p) (attributes_with kind value (node_attributes_of (shown_tree h.tree p))) (sym len_is) put ∙ ap (λ around. exceeds_charge around (last_name p) (attributes_with kind value (node_attributes_of (shown_tree h.tree p)))) same))
         (both (when ops.NoSpace e_is (lack_is ∙ ap (λ around. lacks_room around h.files 2) same)) refl))))
 
--- there is room beside what is held back
+-- enough blocks are free besides the reserved ones
 pub set_attr_space : (h : SessionView) (bytes : List ℕ) (kind : ℕ) (value : List ℕ) → refusal_by_checks h (ops.SetAttr bytes kind value) ≡ None → lacks_room (tree_summary h.tree) h.files 2 ≡ false
 set_attr_space h bytes kind value e =
     let a = neither (refuse_if (not h.tree.writable) ops.ReadOnly) _ (not_refused h (ops.SetAttr bytes kind value) e) in

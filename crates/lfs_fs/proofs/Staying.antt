@@ -1,4 +1,4 @@
--- Files that stay while something else changes.
+-- Files that stay as they are while another entry changes.
 use Rattle.std.proofs.Common.{inl, inr, Result, is_some, ◌≡◌, Bool, true, false, cond, ℕ, List, [], Option, Some, None, refl, sym, ap, subst, ◌∙◌}
 use Rattle.lfs_fs.proofs.Common.{option_map, tree_creating, node_attributes_of, file_bytes, tree_with_change, is_file, last_name, parent_path, same_path, names_with, node_with_names, attributes_with, attributes_without, path_or_root, Node, FileNode, DirectoryNode, Path, Tree, path_from_same, ltb-false, OnlyReadsTree, IsFailedTree, IsApplied, TreeState, tree_summary, shown_tree, RuntimeFiles, readers_among, writers_among, IsReady, session_view, refusal_by_checks, CanMakeDirectory, StayReady, KeepFiles}
 use Rattle.lfs_model.specs.session.TreeEdits.{with_attributes}

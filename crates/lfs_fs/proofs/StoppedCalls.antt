@@ -1,4 +1,4 @@
--- A loss of power in each of a session's calls.
+-- A power loss during each of a session's calls.
 use Rattle.std.proofs.Common.{ℕ, ◌≡◌, true, false, cond, List, [], ◌++◌, Option, Some, None, Result, Ok, Err, is_none, refl, sym, ap, ap₂, subst, ◌∙◌}
 use Rattle.std.specs.Prelude.{OnOk, OnErr, if◌then◌else◌}
 use Rattle.lfs_fs.proofs.Common.{option_map, tree_creating, tree_with_change, is_directory, CallEvent, OnlyReadsSince, FlagsOfOpen, file_numbered, path_or_root, tree_after_storing, node_file_size, node_with_bytes, DirectoryNode, FileNode, Node, Path, OnlyReadsSince-trans, writer_contents_bytes, OnlyReadsTree, FailedByReading, IsRemountedTree, IsSoundState, TreeState, SurvivesStops, shown_tree, RuntimeFiles, unsaved_or_tree, open_file_at, file_view, files_view, is_unsaved_writer, SessionView, IsReady, session_view, view_with_files, system_state, refusal_by_checks, SurvivesStoppedCalls}

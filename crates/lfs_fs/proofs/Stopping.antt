@@ -1,4 +1,4 @@
--- A loss of power in a session's call: what stands where the tree's own calls are stopped.
+-- A power loss during a session's call, from a power loss during the tree's calls.
 use Rattle.std.proofs.Common.{◌≡◌, inl, inr, Bool, true, false, List, [], ◌∷◌, ◌++◌, None, Result, Ok, Err, refl, sym, ap, subst, ◌∙◌, append_assoc}
 use Rattle.std.specs.Prelude.{◌⊎◌, OnOk, OnErr}
 use Rattle.lfs_device.specs.declared.error.Error.{Error}
@@ -149,7 +149,7 @@ one_changed old now op mid new after same sound e keeps called survives is =
     subst (λ z. SurvivesLossSince old.tree.disk old.tree.history new.history (shown_tree old.tree) z) (is ∙ sym (ap (λ r. (unless_refused r (viewed_session old) (operation_effect (tree_summary old.tree) (viewed_session old) op)).1.tree) (not_refused old op e)))
     (then_changes old.tree mid called.0 new.history after (keeps works writable) called.1 survives)))
 
--- the same behind reads
+-- the same after reads
 pub asked_changed : (old now : SessionView) (op : Operation) (mid : TreeState) (new : TreeState) (after : Tree) → old ≡ now → (old.tree.failed ≡ false → IsSoundState old.tree) → refusal_by_checks old op ≡ None →
     OnlyReadsTree old.tree mid → (calls : List CallEvent) × (new.history ≡ calls ++ mid.history) → SurvivesStops mid new after →
     after ≡ (operation_effect (tree_summary old.tree) (viewed_session old) op).1.tree → SurvivesStoppedCalls (system_state now) op (system_state (view_with_files new []))
@@ -174,6 +174,6 @@ pub reads_of_checks : {A : Type 0} (h : SessionView) (op : Operation) (P : A →
 reads_of_checks h op P (Ok x) tree k = k.0.reads
 reads_of_checks h op P (Err e) tree k = reads_of_ended h op e tree k
 
--- the session failed behind reads
+-- the session failed after reads
 pub reads_failing : (t mid new : TreeState) → new ≡ record mid { failed = true } → OnlyReadsSince t.disk.blocks t.history mid.history → OnlyReadsSince t.disk.blocks t.history new.history
 reads_failing t mid new is reads = subst (λ (z : TreeState). OnlyReadsSince t.disk.blocks t.history z.history) (sym is) reads

@@ -1,4 +1,4 @@
--- Runs whose operations survive stops.
+-- Runs whose operations survive a power loss.
 use Rattle.std.proofs.Common.{Result, Ok, Err, ◌≡◌, ◌≢◌, Bool, true, false, cond, List, [], refl, sym, ap, subst, ◌∙◌}
 use Rattle.lfs_device.specs.declared.error.Error.{Error}
 use Rattle.lfs_fs.proofs.Common.{HasEitherTree, SurvivesStoppedCalls, SurvivesPowerLoss, SameGeometry, ordered_disk, operation_result, LeftByLatest, Operation, Session, DiskSummary, is_remount, disk_tree, Pair, HealthyHasDiskTree, SystemState, StepsOrFails, SessionView, IsReady, session_view, system_state, HasSessionInvariant, DeviceConforms, RuntimeFiles, TreeState}

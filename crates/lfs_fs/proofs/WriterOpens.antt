@@ -62,7 +62,7 @@ busy_for t fs bytes b h = h t ∙ ap (λ n. nat_lt 0 n || has_open_file (same_pa
 abbrev at_path : {p : Path} (bytes : List ℕ) → parse_path bytes ≡ Some p → path_or_root bytes ≡ p
 at_path bytes given = ap (λ z. unwrap_or z []) given
 
--- ---- no entry is there
+-- ---- the path has no entry
 
 absent_refused : (h : SessionView) (bytes : List ℕ) (p : Path) (flags : FlagsOfOpen) (create : Bool) → PassesFirstChecks h.tree bytes flags → parse_path bytes ≡ Some p → shown_tree h.tree p ≡ None → flags.create ≡ create →
     refusal_by_checks h (ops.Open bytes flags) ≡ first_refusal (refuse_if (create && has_long_name (tree_summary h.tree) p) ops.NameTooLong ∷ refuse_if (not create) ops.NoEnt ∷ refuse_if (is_busy h p) ops.Busy
@@ -71,7 +71,7 @@ absent_refused : (h : SessionView) (bytes : List ℕ) (p : Path) (flags : FlagsO
 absent_refused h bytes p flags create passes given none creates =
     rw (passes.works, passes.writable, given, passes.allowed, passes.write, subst (λ q. parents_refusal (shown_tree h.tree) [] q ≡ None) (at_path bytes given) passes.parents, none, creates) refl
 
--- where there is room to make the file, there is room for its contents
+-- if enough blocks are free to create the file, enough are free for its contents
 room_for_both : (all used held more : ℕ) (truncate : Bool) →
     option_or (refuse_if (nat_lt all (used + held + 2)) ops.NoSpace) (option_or (refuse_if (truncate && nat_lt all (used + (if not (truncate && false) then 0 else more))) ops.NoSpace) None)
     ≡ option_or (refuse_if (nat_lt all (used + held + 2)) ops.NoSpace) None
@@ -115,7 +115,7 @@ creation_refused t fs bytes flags len long busy over lack r1 r2 r3 r4 passes non
     lists = both (when ops.NameTooLong r1_is (long_is ∙ ap (λ n. nat_lt (profile_name_max t.disk.profile) n) (sym len_is)))
         (both (when ops.Busy r2_is (busy_for t fs bytes busy busy_is)) (both (when ops.EntryFull r3_is (over_is (last_name (path_or_root bytes)) len_is)) (both (when ops.NoSpace r4_is lack_is) refl)))
 
--- ---- an entry is there
+-- ---- the path has an entry
 
 there_refused : (h : SessionView) (bytes : List ℕ) (p : Path) (flags : FlagsOfOpen) → PassesFirstChecks h.tree bytes flags → parse_path bytes ≡ Some p → is_none (shown_tree h.tree p) ≡ false →
     refusal_by_checks h (ops.Open bytes flags) ≡ first_refusal (refuse_if flags.exclusive ops.Exist ∷ refuse_if (is_directory (shown_tree h.tree p)) ops.IsDir ∷ refuse_if (is_busy h p) ops.Busy

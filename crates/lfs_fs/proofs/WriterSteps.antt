@@ -1,10 +1,10 @@
--- Where slots stand once a file is opened for writing that is there.
+-- The layout of slots after an existing file is opened for writing.
 use Rattle.std.proofs.Common.{ℕ, ◌≡◌, List, Some}
 use Rattle.lfs_fs.proofs.Common.{CallEvent, Disk, IsLayoutRecovered, FlagsOfOpen, Session, path_or_root, Pair, Node}
 use Rattle.lfs_model.specs.session.Moved.{IsLayoutMoved}
 use Rattle.lfs_model.specs.session.Operations as ops
 
--- they stand where a recovery leaves them
+-- it is the one that a recovery leaves
 there_arranged : (disk new : Disk) (ps qs : List Pair) (s : Session) (bytes : List ℕ) (flags : FlagsOfOpen) (n : Node) → s.tree (path_or_root bytes) ≡ Some n → IsLayoutRecovered disk ps s ops.Recover new qs →
     IsLayoutRecovered disk ps s (ops.Open bytes flags) new qs
 there_arranged disk new ps qs s bytes flags n there a = record {

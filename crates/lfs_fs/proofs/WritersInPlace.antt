@@ -1,4 +1,4 @@
--- A writer that is changed where it is among the open files.
+-- A writer that is changed in place among the open files.
 use Rattle.std.proofs.Common.{ℕ, zero, suc, ◌≡◌, ◌≤◌, List, [], ◌∷◌, length, Option, Some, sym, ap, subst, ◌∙◌, arith, slice_index_or}
 use Rattle.std.specs.Prelude.{slice_set}
 use Rattle.lfs_fs.proofs.Common.{same_Some, RuntimeFiles, unsaved_or_tree, open_file_at, writer_if_any, CanChangeWriter, IsUnsavedForm, TreeState, contents_form}
@@ -24,7 +24,7 @@ same_writer fs fd v w entry x at is written e =
 pub same_files_before : {P : Writer → Type 0} (fs gs : RuntimeFiles) (fd : ℕ) (later : RuntimeFiles) → fs ≡ gs → ChangesWriterAt fs fd P later → ChangesWriterAt gs fd P later
 same_files_before fs gs fd later e h = record { writer = h.writer; only = h.only ∙ ap (λ xs. slice_set xs fd (Some (file.Writing h.writer))) e; holds = h.holds }
 
--- one writer takes the place of another
+-- one writer replaces another
 pub as_many : (fs : RuntimeFiles) (fd : ℕ) (v w : Writer) → open_file_at fs fd ≡ Some (file.Writing w) → one_of (writer_if_any (Some (file.Writing v))) ≤ one_of (writer_if_any (open_file_at fs fd))
 as_many fs fd v w e = subst (λ o. one_of (writer_if_any (Some (file.Writing v))) ≤ one_of (writer_if_any o)) (sym e) (omega arith)
 

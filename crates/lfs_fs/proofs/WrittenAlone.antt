@@ -1,4 +1,4 @@
--- Where no block in use changed, the operation left alone all that it isn't about.
+-- If no used block changed, the operation left alone what it doesn't concern.
 use Rattle.std.proofs.Common.{ℕ, zero, suc, ◌≡◌, ◌≤◌, [], ◌∷◌, List, ap, arith}
 use Rattle.std.specs.Prelude.{All, Contains}
 use Rattle.lfs_fs.proofs.Common.{All-from_recursion, KeepsOthers, Disk, disk_block, Operation, Session, all_unmoved_slots, struct_blocks, used_blocks, Slot, Pair, pairs_blocks, Each, each_weaker}

@@ -11,7 +11,7 @@ use Rattle.lfs_tree.proofs.SameErrors.{same_error}
 abbrev see : Disk → List CallEvent → List Pair → BlockStates → Bool → Bool → CachedBlocks → TreeState
 see disk history pairs map writable failed cache = record { disk = disk; history = history; pairs = pairs; map = map; writable = writable; failed = failed; cache = cache }
 
--- a thread that was read, as it is behind the answer
+-- a thread after a call with this result
 abbrev pub behind : {X : Type 0} → ThreadView → Result X Error → ThreadView
 behind b r = record b { failed = is_err r || b.failed }
 
@@ -49,7 +49,7 @@ module _ {X : Type 0} (a b : ThreadView) (root : ℕ) (writable : Bool) (h : Sou
   pub rooted : (r : Result X Error) → ReadsOrReports a b r → SoundWithRoot b root writable
   rooted r k = record { works = k.works; sound = sound_read a.kept b.kept writable false false k.only h.sound; root_is = h.root_is ∙ ap count_before_root (sym k.only.pairs) }
 
-  -- where it doesn't fail
+  -- without an error
   pub held : (r : Result X Error) (c : ThreadView) → c ≡ behind b r → ReadsOrReports a b r → SoundUnlessFailed c root writable
   held r c is k = subst (λ (t : ThreadView). SoundUnlessFailed t root writable) (sym is) (go r k)
     where

@@ -1,4 +1,4 @@
--- Contents of a writer that are written beside an image.
+-- A writer's contents, written to blocks that the image doesn't use.
 use Rattle.std.proofs.Common.{ℕ, ◌≡◌, ◌<◌, ◌≤◌, ◌+◌, ◌/◌, ◌∙◌, Bool, true, false, List, length, min, Option, Some, None, Result, Ok, Err, inl, refl, sym, ap, subst, arith}
 use Rattle.lfs_tree.proofs.Common.{min-le_right, is_file, AreUsed, used_count, SameGeometry, disk_block, block_count, inline_limit, DiskSummary, slot_of, Slot, Pair, pairs_gstate, count_before_root, Path, Tree, IsAccepted, IsWritable, disk_tree, used_blocks, Blocks, CachedBlocks, HasEitherTree, SurvivesLossSince, with_blocks, IsChangedImage, HoldsAtLosses-weaker, HoldsAtLosses-worst, SameFileBlocks, file_blocks_same, AreOnThread, CanTruncate, CanWrite, HaveThreadForm, KeepsPairs, ThreadReportsFaults, contents_list_blocks, KeptThread, ThreadView, SoundUnlessFailed, SoundWithRoot, uncached_state, thread_state, CanTruncateIn, CanWriteIn, AreThreadContents, slot_blocks, writer_contents_bytes, list_blocks_at, IsFailedTree, HasErrorCause, IsSoundState, TreeState, contents_bytes, contents_form, ContentsForm, AreUsedAmong}
 use Rattle.std.specs.Prelude.{Contains, IfErr, IfOk, OnErr, OnOk}
@@ -16,7 +16,7 @@ use Rattle.lfs_file.specs.Contents.{truncation_room, write_room}
 use Rattle.lfs_file.specs.declared.contents.WriterContents.{WriterContents}
 use Rattle.lfs_file.proofs.Used.{used_back}
 
--- the bytes and the form of contents that stand on a thread's device
+-- the bytes and the form of contents on a thread's device
 pub bytes_of_held : (t : KeptThread) (c : WriterContents) (bytes : List ℕ) (shape : ContentsForm) → HaveThreadForm t c bytes shape → writer_contents_bytes t c ≡ bytes
 bytes_of_held t c bytes shape h = ap (λ (n : ℕ). contents_bytes t.disk.blocks n c) (sym h.divided.block_size) ∙ h.has.has
 
@@ -122,7 +122,7 @@ module _ (a b : ThreadView) (root : ℕ) (writable : Bool) (h : SoundWithRoot a 
     no_fault = λ other. t.no_fault (λ z. other (same_error e Io z));
   }
 
-  -- a loss of power on the way leaves the image as it was
+  -- a power loss on the way leaves the image as it was
   survives_beside : writable ≡ true → SurvivesLossSince a.kept.disk a.kept.history b.kept.history (disk_tree a.kept.disk a.kept.pairs) (disk_tree a.kept.disk a.kept.pairs)
   survives_beside may clean = HoldsAtLosses-weaker (λ blocks spared. left_beside a.kept blocks sound.accepted (sound.fits may) sound.used spared) (HoldsAtLosses-worst leaves.at_worst)
 

@@ -69,7 +69,7 @@ apart_listed t bs accepted used each path b has = All-from_recursion (λ c. c �
         let k : Free ≡ Used = same_Some Free Used (sym (subst (IsFree t.map) e free) ∙ is) in
         absurd (cc)
 
--- the files of an image stay where such blocks are written and their structs are as they were
+-- the files of an image stay if only such blocks are written and their structs stay
 pub keeps_writing : (a c : KeptThread) (bs : List ℕ) → IsAccepted a.disk a.pairs → AreUsed a.map (used_blocks a.disk a.pairs) → AllByRecursion (IsPairsOrFree a) bs → ChangesThreadBlocks bs a c
     → (path : Path) → is_file (disk_tree a.disk a.pairs path) ≡ true → struct_at c.pairs path ≡ struct_at a.pairs path → KeepsFileAt a c path
 keeps_writing a c bs accepted used each w path file same =
@@ -99,7 +99,7 @@ lists_from disk new ps h =
     (λ s k. All-from_recursion (λ b. disk_block new b ≡ disk_block disk b) (struct_blocks disk s.struct) k) (all_unmoved_slots ps)
     (each_pieces (λ b. disk_block new b ≡ disk_block disk b) (λ (s : Slot). struct_blocks disk s.struct) (all_unmoved_slots ps) (each_from_counted (λ b. disk_block new b ≡ disk_block disk b) (file_blocks disk (all_unmoved_slots ps)) h)))
 
--- they stay where such blocks are written
+-- they stay if only such blocks are written
 pub lists_stay : (t c : KeptThread) (bs : List ℕ) → IsAccepted t.disk t.pairs → AreUsed t.map (used_blocks t.disk t.pairs) → AllByRecursion (IsPairsOrFree t) bs → ChangesThreadBlocks bs t c → KeepsListBytes t.disk t.pairs c.disk
 lists_stay t c bs accepted used each w = lists_from t.disk c.disk t.pairs (λ b some. w.others.others b (apart_files t bs accepted used each b some))
 
@@ -117,7 +117,7 @@ behind_below ps first index pair rest h =
 
 -- ---- what is carried out
 
--- What an operation comes to that is completed by calls that write blocks of pairs and free ones, behind others that only read.
+-- The result of an operation by calls that write blocks of pairs and free ones, after calls that only read.
 pub record IsWorked (a : KeptThread) (h : List CallEvent) (op : Operation) (c : KeptThread) : Type 0 where
   pub accepted : IsAccepted a.disk a.pairs
   pub used : AreUsed a.map (used_blocks a.disk a.pairs)

@@ -1,4 +1,4 @@
--- A file or a directory that comes to a path.
+-- A new file or directory at a path.
 use Rattle.std.proofs.Common.{ℕ, ◌≡◌, ◌≢◌, ◌≤◌, ◌∙◌, ◌++◌, inr, true, false, List, [], ◌∷◌, Result, Ok, Err, refl, sym, ap, subst, arith}
 use Rattle.lfs_tree.proofs.Common.{list_all, ltb-false, same_Some, AreByteBlocks, KeepsOthers, changed_paths, OpenFilesByNumber, Session, Pair, tree_creating, last_name, BlockStates, IsFree, IsInFlight, Free, InFlight, charge_limit, CallEvent, OnlyReadsSince, fault_count, Name, is_component, is_valid_name, FlagsOfOpen, Operation, entry_charge, path_or_root, Path, Tree, DirectoryNode, FileNode, disk_tree, each_weaker, last_is, here, WritesPairTwo, IsPairTouched, CanCreateIn, IsFileCreated, tree_with_file, AreBothTouched, CanMakeAt, IsDirectoryMade, WritesPairsFour, tree_with_directory, IsReadyImage, KeptThread, ThreadView, ChangesThreadBlocks, thread_pair, CanAddEntry, tree_after_call, AppliesInPlace, HasAppliedCall, CanChangeRecovered, AppliesOrFails, IsNewSpot, IsVacantPath, HasSoundImage, SurvivesEither, uncached_state, tree_summary}
 use Rattle.lfs_device.specs.declared.error.Error.{Error}

@@ -1,4 +1,4 @@
--- A file that the image hasn't any more, whose blocks are freed in the map.
+-- A removed file, whose blocks are freed in the map.
 use Rattle.std.proofs.Common.{ℕ, ◌≡◌, ◌≢◌, ◌⊎◌, inl, inr, ◌<◌, ◌≤◌, ◌+◌, ◌-◌, ◌∙◌, Bool, true, false, List, [], ◌∷◌, ◌++◌, length, slice_get, Some, Result, Ok, Err, refl, sym, ap, subst, arith, append-nil, cond}
 use Rattle.std.specs.Prelude.{Contains, OnOk, ◌↔◌}
 use Rattle.lfs_tree.proofs.Common.{cases_lt, All-from_recursion, recursion_from_All, same_Some, CanSettleLists, ChangesOnlyMap, IsListSettled, stored_list_blocks, AreUsed, BlockStates, IsInFlight, IsUsedBlock, Free, InFlight, Used, Disk, SameGeometry, disk_block, CallEvent, Slot, Struct, Pair, pairs_blocks, pairs_gstate, address_blocks, IsFormedList, all_unmoved_slots, struct_blocks, used_blocks, Contains-number_occurrences, number_occurrences-Contains, no_move_from, Each, number_occurrences, count_append, each_from_counted, each_pieces, each_right, once_from_distinct, SameFileBlocks, file_blocks_same, is_list_same, HoldsAtLosses-read_count, HoldsAtLosses-trans, file_blocks, unmoved_in, SameInFlight, CanEditIn, editable_slot, IsReadyImage, IsReadyUnsettled, drops_emptied_pair, removal_written_address, KeptThread, ChangesThreadBlocks, thread_pair, WritesThreadFree, IsStorage, list_in_storage, IsListOrEmpty, SettlesList, empty_list}
@@ -62,7 +62,7 @@ written_pairs t index first below =
     let k = in_pairs t index first below in
     (Contains-number_occurrences (pairs_blocks t.pairs) (removal_written_address t index first).0 k.0, Contains-number_occurrences (pairs_blocks t.pairs) (removal_written_address t index first).1 k.1)
 
--- calls that only read, behind those that write
+-- calls that only read, after those that write
 pub writes_then : (a b c : KeptThread) (bs : List ℕ) → ChangesThreadBlocks bs a b → ChangesOnlyMap b c → ChangesThreadBlocks bs a c
 writes_then a b c bs w r = record {
   others = subst (λ (d : Disk). SameExceptBlocks bs a.disk.blocks d.blocks) (sym r.disk) w.others;
@@ -98,7 +98,7 @@ files_stay old mid index id first can w = each_from_counted (λ b. disk_block mi
     other : (b : ℕ) → 1 ≤ number_occurrences b (struct_blocks old.disk (editable_slot can).struct) → (c : ℕ) → 1 ≤ number_occurrences c (pairs_blocks old.pairs) → c ≢ b
     other b some c has e = let k = ap (λ z. number_occurrences z (pairs_blocks old.pairs)) e in let n = apart_from_pairs old index id can b some in absurd (omega arith)
 
--- Where the image hasn't the file of a slot any more, whose blocks are as they were.
+-- The image no longer has the file of a slot, whose blocks are as they were.
 module _ (old mid : KeptThread) (index id : ℕ) (can : CanEditIn old index id) (contents : FileStorage) (shows : IsStorage contents (editable_slot can).struct) (geometry : SameGeometry old.disk mid.disk)
     (same : SameFileBlocks old.disk mid.disk (editable_slot can).struct) (ready : IsReadyUnsettled mid (struct_blocks old.disk (editable_slot can).struct) [])
     (once : (b : ℕ) → number_occurrences b (used_blocks mid.disk mid.pairs) + number_occurrences b (struct_blocks old.disk (editable_slot can).struct) ≤ 1) where
@@ -145,7 +145,7 @@ module _ (t : KeptThread) (contents : FileStorage) (can : CanFreeList t contents
     shared = record { used = λ b has none. let k = number_occurrences-Contains [] b none in absurd (omega arith) };
   }
 
-  -- where there is no list, nothing is to be done
+  -- without a list nothing is to be done
   pub none_freed : stored_list_blocks t (list_in_storage contents) ≡ [] → IsReadyImage t
   none_freed none = record {
     accepted = can.ready.accepted;

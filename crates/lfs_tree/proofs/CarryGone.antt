@@ -1,4 +1,4 @@
--- An entry that goes, at a path.
+-- An entry at a path that is removed.
 use Rattle.std.proofs.Common.{ℕ, ◌≡◌, ◌≤◌, ◌-◌, ◌∙◌, ◌++◌, true, false, List, [], ◌∷◌, length, Some, None, ◌⊎◌, inl, Result, Ok, Err, refl, sym, ap, subst, arith}
 use Rattle.std.specs.Prelude.{nat_lt, IfErr, OnOk, is_err}
 use Rattle.lfs_tree.proofs.Common.{option_and_then, ltb-false, length-map, same_Some, slice_get_within, AreByteBlocks, ChangesOnlyMap, ThreadReportsFaults, directory_names, tree_removing, Disk, CallEvent, OnlyReadsSince, fault_count, Slot, Struct, Inline, Ctz, Branch, path_or_root, Pair, count_before_root, addresses_blocks, Path, Tree, branch_address, LeadsTo, all_entries, disk_tree, used_blocks, Contains-number_occurrences, number_occurrences-Contains, CompletesOperation, no_move_from, SameInFlight, IsReadyImage, IsReadyUnsettled, removal_written_address, CanRemoveDirectory, IsDirectoryRemoved, KeptThread, ThreadView, ChangesThreadBlocks, thread_pair, WritesThreadFree, CanRemoveEntry, tree_after_call, AppliesInPlace, HasAppliedCall, CanChangeRecovered, AppliesOrFails, SparesOutsideOperation, HasSoundImage, SurvivesEither, HasPathEntry, IsPathSpot, is_entry_found, IsStorage, CanRemoveFound, HasRemovedEntry, SparesInRemoval, uncached_state, LeadsToResult, IsSlotBelow, directory_at_path}
@@ -108,7 +108,7 @@ module _ (t : ThreadView) (root : ℕ) (rests : CanChangeRecovered t root) (path
         is = on.ends.is;
       }
 
--- ---- what comes of it
+-- ---- the result
 
 ready_from : (t : KeptThread) → IsReadyUnsettled t [] [] → IsReadyImage t
 ready_from t r = record {
@@ -131,7 +131,7 @@ directory_gone old new path above name e is = record {
   completed = λ s given tree given_is. is.completed s given tree (given_is ∙ e);
 }
 
--- a file, whose list is freed behind it
+-- a file, whose list is freed afterwards
 pub file_gone : (old mid new : KeptThread) (path above : Path) (name : List ℕ) (struct : Struct) → path ≡ above ++ name ∷ [] → IsFileRemoved old mid above name struct → ChangesOnlyMap mid new → IsReadyImage new → SameInFlight mid.map new.map → HasRemovedEntry old path new
 file_gone old mid new path above name struct e is only ready flying = record {
   ready = ready;
@@ -169,7 +169,7 @@ module _ (t : ThreadView) (root : ℕ) (rests : CanChangeRecovered t root) (path
         no_fault = quiet;
       }) refl refl
 
--- ---- what it tells
+-- ---- errors
 
 same_err : {X : Type 0} (a b : Error) (r : Result X Error) → r ≡ Err a → r ≡ Err b → a ≡ b
 same_err a b r h k = cc
@@ -194,13 +194,13 @@ steps_both old mid new x result given is t failed w =
       no_fault = λ other. w.no_fault other ∙ same;
     }
 
--- ---- a loss of power on the way
+-- ---- a power loss on the way
 
 -- an entry of a path
 pub removal_survives : (old new : KeptThread) (path above : Path) (name : List ℕ) → path ≡ above ++ name ∷ [] → SurvivesEither old new (tree_removing (above ++ name ∷ []) (disk_tree old.disk old.pairs)) → SurvivesEither old new (tree_removing path (disk_tree old.disk old.pairs))
 removal_survives old new path above name e k = subst (λ p. SurvivesEither old new (tree_removing p (disk_tree old.disk old.pairs))) (sym e) k
 
--- a file, whose list is freed behind it
+-- a file, whose list is freed afterwards
 pub freeing_survives : (old mid new : KeptThread) (path above : Path) (name : List ℕ) (struct : Struct) (bs : List ℕ) → path ≡ above ++ name ∷ [] → ChangesThreadBlocks bs old mid → IsFileRemoved old mid above name struct → ChangesOnlyMap mid new
     → SurvivesEither old mid (tree_removing (above ++ name ∷ []) (disk_tree old.disk old.pairs)) → SurvivesEither old new (tree_removing path (disk_tree old.disk old.pairs))
 freeing_survives old mid new path above name struct bs e w is only k =

@@ -1,4 +1,4 @@
--- Where an entry may come, by what a look-up finds.
+-- The slot of a new entry, from the result of a look-up.
 use Rattle.std.proofs.Common.{◌≡◌, ◌∙◌, true, List, [], ◌∷◌, ◌++◌, map, Some, refl, sym, ap, subst}
 use Rattle.std.specs.Prelude.{is_some}
 use Rattle.lfs_tree.proofs.Common.{option_map, map-append, last_name, BelongsAt, Name, slot_of, Slot, Path, struct_node, struct_list_bytes, all_entries, disk_tree, last_is, KeptThread, IsNewSpot, IsVacantPath, LeadsToResult}

@@ -1,4 +1,4 @@
--- What the checks of an operation have shown, as its steps ask for it.
+-- From the premises that an operation's checks have shown to those of its steps.
 use Rattle.std.proofs.Common.{ℕ, ◌≡◌, ◌≢◌, ◌<◌, ◌∙◌, ◌&&◌, Bool, true, false, zero, suc, [], ◌∷◌, length, Some, refl, sym, ap₂, subst, arith, set, length-set}
 use Rattle.std.specs.Prelude.{slice_get}
 use Rattle.lfs_tree.proofs.Common.{list_all, min-le_right, ltb-false, same_Some, last_name, BlockStates, IsFree, state_in_flight, Free, InFlight, is_component, is_valid_name, profile_name_max, DiskSummary, has_long_name, Path, slice_get-set_other, slice_get-set_same, used_count-AreUsed, HasTwoFree, HasFreeBlocks, KeptThread, HasNeededBlocks, uncached_state, IsSoundState}
@@ -26,7 +26,7 @@ two_free sets a b first second = record { apart = apart; first = first; second =
     apart : a ≢ b
     apart e = let k = same_Some InFlight Free (sym (slice_get-set_same sets a InFlight (within sets a first)) ∙ subst (λ z. slice_get (set sets a InFlight) z ≡ Some Free) (sym e) second) in absurd (cc)
 
--- where there is room for two, two are free
+-- if there is room for two blocks, two are free
 pub no_room : (sets : BlockStates) → HasFreeBlocks 2 sets → (HasTwoFree sets → ⊥) → ⊥
 no_room sets room none = not_none (λ a free. go a free)
   where

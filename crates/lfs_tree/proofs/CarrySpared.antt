@@ -22,7 +22,7 @@ module _ (old : KeptThread) (path : Path) (pair id first : ℕ) (can : CanEditIn
       (about_one (HasPathSlot old.pairs can.stands.pair) (path_or_root given) (can.path ++ can.name ∷ []) (e ∙ is)
       (holds_slot old.pairs can.path can.at can.first can.name pair id can.ready.accepted.thread.distinct can.leads can.begins can.stands))
 
-  -- or goes with it: then the one in front of it doesn't stay as it was
+  -- or is dropped with it: then the one before it is changed
   written : (drops_emptied_pair old pair first ≡ true → Contains now (thread_pair old (pair - 1)) → ⊥) → AreConcerned (removal_written_address old pair first)
   written alters = go (drops_emptied_pair old pair first) refl
     where
@@ -34,7 +34,7 @@ module _ (old : KeptThread) (path : Path) (pair id first : ℕ) (can : CanEditIn
           subst (λ b. AreConcerned (cond b (thread_pair old (pair - 1)).at (thread_pair old pair).at)) (sym whole)
           (concerned_pair old (path_or_root given ∷ []) now pair below (inl holds))
 
--- a file, whose list is freed behind it
+-- a file, whose list is freed afterwards
 pub file_spares : (old mid new : KeptThread) (path : Path) (pair id first : ℕ) (take : CanRemoveIn old pair id first) → path ≡ take.can.path ++ take.can.name ∷ [] → (drops_emptied_pair old pair first ≡ true → IsPairTouched old (pair - 1) mid)
     → ChangesThreadBlocks (address_blocks (removal_written_address old pair first)) old mid → ChangesOnlyMap mid new → SparesInRemoval old path new
 file_spares old mid new path pair id first take is alters w only s given e =

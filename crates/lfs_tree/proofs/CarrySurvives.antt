@@ -1,4 +1,4 @@
--- A loss of power in an operation on a path, behind calls that only read.
+-- A power loss during an operation on a path, after calls that only read.
 use Rattle.std.proofs.Common.{ℕ, ◌≡◌, inl, inr, false, if◌then◌else◌, Option, Some, None, List, [], refl, sym, subst}
 use Rattle.std.specs.Prelude.{is_none, is_some}
 use Rattle.lfs_tree.proofs.Common.{tree_creating, Disk, SameGeometry, CallEvent, AllCallsSince, OnlyReadsSince, HasEitherTree, SurvivesLossSince, with_blocks, FileNode, Node, Path, Tree, IsAccepted, IsWritable, disk_tree, survives_then, HoldsAtLosses-read_count, LeftByLoss-read, KeptThread, ThreadView, ChangesThreadBlocks, CanChangeRecovered, SurvivesEither}
@@ -13,7 +13,7 @@ pub survives_behind : (t : ThreadView) (root : ℕ) → CanChangeRecovered t roo
 survives_behind t root rests h c bs after reads w k =
     survives_then t.kept.disk t.kept.history h c.history (disk_tree t.kept.disk t.kept.pairs) after reads w.at_worst (survives_reading t root rests h reads after) k
 
--- a stop in a call that only reads behind calls that left such a tree leaves it
+-- a power loss in a call that only reads leaves the tree that the calls before it left
 pub survives_left : {P : CallEvent → Type 0} (t c : KeptThread) (h : List CallEvent) (after : Tree) → SameGeometry t.disk c.disk → AllCallsSince P t.history c.history → IsAccepted c.disk c.pairs → IsWritable c.disk c.pairs
     → disk_tree c.disk c.pairs ≡ after → OnlyReadsSince c.disk.blocks c.history h → SurvivesEither t c after → SurvivesLossSince t.disk t.history h (disk_tree t.disk t.pairs) after
 survives_left t c h after geometry since accepted fits shows reads k =
@@ -24,7 +24,7 @@ survives_left t c h after geometry since accepted fits shows reads k =
     same_disk : (disk new : Disk) → SameGeometry disk new → with_blocks new.blocks disk ≡ new
     same_disk disk new g = λ j. record { block_size = sym g.block_size j; page = sym g.page j; order = sym g.order j; profile = sym g.profile j; blocks = new.blocks }
 
--- the tree with an empty file, where nothing was
+-- the tree with a new, empty file
 pub created_shows : (t : Tree) (p q : Path) → q ≡ p → is_some (t p) ≡ false → (if is_none (t q) then tree_creating q (FileNode [] []) t else t) ≡ tree_creating p (FileNode [] []) t
 created_shows t p q e nothing = subst (λ x. (if is_none (t x) then tree_creating x (FileNode [] []) t else t) ≡ tree_creating p (FileNode [] []) t) (sym e) (go (t p) nothing)
   where

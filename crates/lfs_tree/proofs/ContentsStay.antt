@@ -1,4 +1,4 @@
--- The contents of an open writer where only other blocks change.
+-- A writer's contents stay if only other blocks change.
 use Rattle.std.proofs.Common.{ℕ, ◌≡◌, ◌≢◌, ◌<◌, ⊎_elim, inl, inr, List, [], ◌∷◌, ◌++◌, drop, length, take, slice_get, sym, ap, ◌∙◌, subst, arith, length-append}
 use Rattle.std.specs.Prelude.{All, Contains}
 use Rattle.lfs_tree.proofs.Common.{All-from_recursion, Contains-append_left, Contains-append_right, Blocks, block_bytes, BlockStates, IsFree, IsInFlight, blocks_to_head, block_count_for, Contains-number_occurrences, number_occurrences-Contains, each_from_counted, Each, recursion_from_All, AreKnownBlocks, GrowingList, unwritten_block, growing_size_with, IsTakenNotPending, IsListOrEmpty, blocks_of_list, CanEndOver, IsFinishedList, bytes_over_base}
@@ -23,7 +23,7 @@ all_of P bs has = All-from_recursion P bs (each_of P bs has)
 pub of_all : (P : ℕ → Type 0) (bs : List ℕ) → All P bs → (b : ℕ) → Contains bs b → P b
 of_all P bs all b has = of_each P bs (recursion_from_All P bs all) b has
 
--- These blocks are as they were, on the disk and in the map, and no block comes into flight.
+-- These blocks are as they were, on the disk and in the map, and no further block is in flight.
 pub record StayAs (map : BlockStates) (d : Blocks) (bs : List ℕ) (later : BlockStates) (e : Blocks) : Type 0 where
   pub size : length later ≡ length map
   pub count : length e ≡ length d
@@ -76,7 +76,7 @@ module _ (map later : BlockStates) (d e : Blocks) (block_size : ℕ) (s : Stored
     flying = λ b flies. let k = is.flying b (stay.none_comes b flies) in (k.0, subst (λ (bs : List ℕ). Contains bs b) (sym list_stays) k.1);
   }
 
--- ---- a list in hand, over its base
+-- ---- a draft, over its stored list
 
 module _ (map later : BlockStates) (d e : Blocks) (block_size : ℕ) (g : GrowingList) (base : StoredList) (shared : ℕ) (hand : CanEndOver map d block_size g base shared)
     (stay : StayAs map d (lasting_blocks d g ++ blocks_of_list d block_size base.head base.size) later e) where
@@ -98,7 +98,7 @@ module _ (map later : BlockStates) (d e : Blocks) (block_size : ℕ) (g : Growin
   full_back : blocks_to_head e g.full g.head ≡ blocks_to_head d g.full g.head
   full_back = back_same d e g.full g.head full_same
 
-  -- no block is shared with the list that the rest comes from
+  -- no block is shared with the list that has the remaining bytes
   rest_still : (t : RestLocation) → blocks_to_head d g.full g.head ++ rest_block t ≡ blocks_to_head d g.full g.head ++ unwritten_rest_block t → IsRestAt d g.full g.head g.rest t → IsRestAt e g.full g.head g.rest t
   rest_still Closed same is = is
   rest_still (Shared b) same is = absurd (omega (arith, ap length same, length-append (blocks_to_head d g.full g.head) (b ∷ []), length-append (blocks_to_head d g.full g.head) []))

@@ -1,1 +1,1 @@
--- How many reads a creation may take that has no directory above it: six are few, and seven aren't.
+-- How many reads a creation in the root may make: six are within the bound, and seven aren't.

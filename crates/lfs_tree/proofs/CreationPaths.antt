@@ -1,4 +1,4 @@
--- What is found at the path of a file that may be made.
+-- The look-up of the path of a file that may be created.
 use Rattle.std.proofs.Common.{◌≡◌, ◌∙◌, Option, Some, None, Result, Ok, Err, sym, ap, subst}
 use Rattle.std.specs.Prelude.{IfOk, IfSome}
 use Rattle.lfs_device.specs.declared.error.Error.{Error}
@@ -7,7 +7,7 @@ use Rattle.lfs_lookup.specs.declared.paths.PathLookup.{PathLookup}
 use Rattle.lfs_tree.specs.declared.creation_paths.CreationFindings.{CreationFindings}
 use Rattle.lfs_tree.proofs.RenamePaths.{leads_since}
 
--- where the path leads to, after reads
+-- the result of the look-up, after reads
 target_since : (a b : KeptThread) (path : Path) (o : Option PathLookup) → OnlyReadsThread a b → IfSome o (IsCreationResult a path) → IfSome o (IsCreationResult b path)
 target_since a b path None only k = tt
 target_since a b path (Some found) only k = record { settled = ap pairs_gstate only.pairs ∙ k.settled; leads = leads_since a b path found only k.leads }

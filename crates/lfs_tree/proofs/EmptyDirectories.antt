@@ -15,7 +15,7 @@ use Rattle.lfs_model.proofs.Splices as splices
 use Rattle.lfs_lookup.specs.Listed.{joined_pairs}
 use Rattle.lfs_lookup.proofs.Directories.{own_run, run_is}
 
--- entries come of slots that aren't a superblock's
+-- entries are those of slots that aren't a superblock's
 none_first : (xs ys : List Slot) → Each (λ s. is_superblock s ≡ false) xs → entry_slots (xs ++ ys) ≡ [] → (xs ≡ []) × (entry_slots ys ≡ [])
 none_first [] ys plain e = (refl, e)
 none_first (x ∷ xs) ys plain e = absurd (let k = sym (ap (λ b. cond (not b) (x ∷ entry_slots (xs ++ ys)) (entry_slots (xs ++ ys))) plain.0) ∙ e in cc)

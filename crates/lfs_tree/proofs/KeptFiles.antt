@@ -87,7 +87,7 @@ keeps_then a b c path first second = record {
   bytes = λ x has. second.bytes x (subst (λ (l : List ℕ). Contains l x) (sym first.list) has) ∙ first.bytes x has;
 }
 
--- the list of a file whose struct stays, where no block of a list changed
+-- the list of a file whose struct stays, if no block of a list changed
 module _ (disk new : Disk) (ps qs : List Pair) (path : Path) (accepted : IsAccepted disk ps) (geometry : SameGeometry disk new) (keeps : KeepsListBytes disk ps new) where
   abbrev Stays : Slot → Type 0
   Stays s = All (λ b. disk_block new b ≡ disk_block disk b) (struct_blocks disk s.struct)

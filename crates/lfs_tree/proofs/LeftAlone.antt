@@ -59,7 +59,7 @@ among_pairs ps at first index p rest distinct b place = go place.left place.part
     go [] is joined = subst (AnyByRecursion (λ y. y ≡ p)) (sym (pairs_from ps place.front p rest at first distinct is place.begins b)) (head_among p rest)
     go (y ∷ left) is joined = subst (AnyByRecursion (λ z. z ≡ p)) (sym (pairs_from ps place.front y (left ++ p ∷ rest) at first distinct is place.begins b)) (run_has y left p rest joined)
 
--- the pair in which the last name of a path stands holds its slot
+-- the pair with the last name of a path has the path's slot
 pub holds_slot : (ps : List Pair) (above : Path) (at : ℕ × ℕ) (first : ℕ) (name : Name) (index id : ℕ) → IsDistinct nat_eq (pairs_blocks ps) → LeadsTo ps above at → IsPairAt ps at first → (s : IsPlaceOf ps first name index id)
     → HasPathSlot ps s.pair (above ++ name ∷ [])
 holds_slot ps above at first name index id distinct leads b s = (
@@ -130,7 +130,7 @@ module _ (disk new : Disk) (ps qs : List Pair) (path : Path) (ok : IsAccepted di
   pub files_of_alone : KeepsListBytes disk ps new
   files_of_alone = lists_from disk new ps (λ b some. k.others b (Contains-number_occurrences (used_blocks disk ps) b (let u = parts b in omega arith)) (of_file b k.pair.at.0 (first_owned k.pair) some) (of_file b k.pair.at.1 (second_owned k.pair) some))
 
-  -- an operation on the path leaves the rest alone
+  -- an operation on the path leaves the other blocks alone
   pub pair_of_alone : (s : Session) (op : Operation) → changed_paths s op ≡ path ∷ [] → KeepsOthers disk ps s op new qs
   pair_of_alone s op about = record {
     files = files_of_alone;

@@ -18,7 +18,7 @@ use Rattle.lfs_model.specs.declared.order.NameOrder.TheVariants.{LongerFirst}
 use Rattle.lfs_thread.specs.ThreadDevice.{GivesDeviceBack}
 use Rattle.lfs_tree.proofs.SameErrors.{same_error}
 
--- what is sound stays so where it was only read
+-- a sound image stays sound if it is only read
 pub sound_read : (a b : KeptThread) (writable failed now : Bool) → OnlyReadsThread a b → IsSoundState (uncached_state a writable failed) → IsSoundState (uncached_state b writable now)
 sound_read a b writable failed now r s = record {
   accepted = subst (λ (d : Disk). IsAccepted d b.pairs) (sym r.disk) (subst (λ (ps : List Pair). IsAccepted a.disk ps) (sym r.pairs) s.accepted);
@@ -29,7 +29,7 @@ sound_read a b writable failed now r s = record {
   size = ap (λ (sets : BlockStates). length sets) r.map ∙ s.size ∙ ap (λ (d : Disk). block_count d) (sym r.disk);
 }
 
--- none is broken exactly where the image may be written
+-- no rule is broken exactly if the image may be written
 pub none_broken : (disk : Disk) (ps : List Pair) (o : Option ProfileBreach) (none : Bool) → is_some o ≡ not none → IsBreachIfAny disk ps o → IsTrue none ↔ IsWritable disk ps
 none_broken disk ps None true e writable = (λ t. writable, λ w. refl)
 none_broken disk ps None false e writable = absurd (cc)
@@ -65,7 +65,7 @@ module _ (disk : Disk) (history : List CallEvent) (a b : ThreadView) (root : ℕ
     none_in_flight = in_flight_count-AreInFlight b.kept.map [] none_twice (subst (λ (sets : BlockStates). AreInFlight sets []) (sym r.only.map) m.none_in_flight);
   }
 
--- the device comes back with the error of a read
+-- the device is returned with the error of a read
 pub read_back : {D X : Type 0} (g : Ghosts D) (old back : D) (order now : NameOrder) (a b : ThreadView) (r : Result X Error) (e : Error)
     → IsMountedOn (ordered_disk order (disk_of_device g old)) (g.history old) a → r ≡ Err e → ReadsOrReports a b r → ordered_disk now (disk_of_device g back) ≡ b.kept.disk → g.history back ≡ b.kept.history
     → GivesDeviceBack g old back e

@@ -1,4 +1,4 @@
--- A change of a thread, which has failed behind an error; the root directory begins where it did.
+-- A change of a thread, which has failed after an error; the root directory begins with the same pair.
 use Rattle.std.proofs.Common.{ℕ, ◌≡◌, ◌∙◌, ◌||◌, true, Result, Ok, Err, refl, sym, subst}
 use Rattle.std.specs.Prelude.{OnErr, is_err}
 use Rattle.lfs_device.specs.declared.error.Error.{Error}

@@ -27,7 +27,7 @@ use Rattle.lfs_tree.specs.Working.{CanOpenFile}
 use Rattle.lfs_tree.proofs.PutContents.{file_found}
 use Rattle.lfs_tree.proofs.RenamePaths.{shows_found}
 
--- ---- where no block is in flight
+-- ---- if no block is in flight
 
 pub none_flying : (sets : BlockStates) → in_flight_count sets ≡ 0 → (b : ℕ) → ¬ (IsInFlight sets b)
 none_flying sets none b flies = absurd (let e = in_flight-freed sets b flies in omega arith)
@@ -125,7 +125,7 @@ form_of_opened : (t : KeptThread) (s : Struct) (shape : ContentsForm) (r : Resul
 form_of_opened t s shape (Err x) P of o = tt
 form_of_opened t s shape (Ok c) P of o = of (contents_form c) o.holds.has.form
 
--- no file is there, if none is found
+-- if no file is found, the path has none
 pub not_led : (t : KeptThread) (path : Path) (f : PathLookup) → is_file (disk_tree t.disk t.pairs path) ≡ true → LeadsToResult t path f → ((parent : ℕ) (slot : SlotPosition) (contents : FileStorage) → f ≡ found.File parent slot contents → ⊥) → ⊥
 not_led t path f file leads none = go f (file_found t path f file leads) none
   where
@@ -150,7 +150,7 @@ module _ (t : ThreadView) (root : ℕ) (path : Path) (can : CanOpenFile t root p
         marked = λ k d l. not_free t.kept.map _ (marked_there t.kept path led.held sound.accepted sound.used led.at k d l);
       }
 
-  -- ---- behind calls that only read
+  -- ---- after calls that only read
 
   module _ (mid : KeptThread) (read : OnlyReadsThread t.kept mid) where
     can_open : CanOpenSlot mid slot contents led.held

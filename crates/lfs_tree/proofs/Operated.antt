@@ -1,4 +1,4 @@
--- What a call does over a thread, from what it did and told.
+-- The promises of a call on a thread, from its steps and their errors.
 use Rattle.std.proofs.Common.{ℕ, ◌≡◌, ◌∙◌, false, true, List, [], Result, Ok, Err, refl, sym, ap, ap₂, subst}
 use Rattle.std.specs.Prelude.{IfErr, OnOk, is_err, is_some}
 use Rattle.lfs_device.specs.declared.error.Error.{Error}
@@ -31,7 +31,7 @@ does_set P path kind bytes h op d = subst P (sym d.1.0) (h d.0 d.1.1)
 pub does_clear : (P : Operation → Type 0) (path : Path) (kind : ℕ) → ((given : List ℕ) → path_or_root given ≡ path → P (ops.RemoveAttr given kind)) → (op : Operation) → IsOperationCall (call.RemoveAttr path kind) op → P op
 does_clear P path kind h op d = subst P (sym d.1.0) (h d.0 d.1.1)
 
--- what is carried out behind a recovery: a change of its own
+-- an operation after a recovery: a change of its own
 abbrev pub IsPlain : Operation → Type 0
 IsPlain op = (renames_itself op ≡ false) × (is_recover op ≡ false)
 
@@ -77,7 +77,7 @@ module _ (a c : KeptThread) where
   pub clear_stands : (path : Path) (kind : ℕ) (given : List ℕ) → path_or_root given ≡ path → AppliesInPlace a (ops.RemoveAttr given kind) c → KeepsRootNumber a c → HasSoundImage a (tree_after_call (call.RemoveAttr path kind) (disk_tree a.disk a.pairs)) c
   clear_stands path kind given e k root = stands _ (ops.RemoveAttr given kind) k root (k.applied.shows (tree_summary (uncached_state a true false)) [] ∙ ap (λ p. tree_with_attributes p (attributes_without kind) (disk_tree a.disk a.pairs)) e)
 
--- ---- what the steps told
+-- ---- errors
 
 pub works_reported : {X : Type 0} (new : ThreadView) (r : Result X Error) → new.failed ≡ is_err r → OnOk r (new.failed ≡ false)
 works_reported new (Ok x) e = e
@@ -95,7 +95,7 @@ errors_reported : {X : Type 0} (a c : KeptThread) (h : List CallEvent) (r : Resu
 errors_reported a c h (Ok x) same t = tt
 errors_reported {X} a c h (Err e) same t = (let r : Result X Error = Err e in reports_error a c h r e same t refl)
 
--- a change, behind calls that only read
+-- a change after calls that only read
 pub changed : {X : Type 0} (t new : ThreadView) (Done : KeptThread → Type 0) (after : Tree) (h : List CallEvent) (bs : List ℕ) (r : Result X Error) → fault_count h ≡ fault_count t.kept.history → OnlyReadsSince t.kept.disk.blocks t.kept.history h → ChangesThreadBlocks bs (with_history t.kept h) new.kept
     → ReportsFaultsSince h new.kept.history r → OnOk r (new.failed ≡ false) → OnOk r (Done new.kept × HasSoundImage t.kept after new.kept) → SurvivesEither t.kept new.kept after → ChangesTreeOrFails t Done after r new
 changed t new Done after h bs r same reads w reported works both survives = record {

@@ -1,4 +1,4 @@
--- Contents that come into a file's slot.
+-- Contents that are committed to a file's slot.
 use Rattle.std.proofs.Common.{ℕ, ◌≡◌, ◌≤◌, ◌+◌, ◌/◌, ◌∙◌, ne_eqb, true, List, [], ◌∷◌, ◌++◌, length, min, None, Result, Ok, Err, refl, sym, ap, subst, arith}
 use Rattle.lfs_tree.proofs.Common.{min-le_right, GrowingList, is_file, decoded_struct, inline_limit, slot_of, Struct, Inline, Path, branch_address, IsFormedList, struct_blocks, disk_tree, number_occurrences, AreOnThread, ThreadReportsFaults, editable_slot, HasFreeBlocks, HasStoredContents, KeptThread, ThreadView, IsStorage, writer_contents_bytes, LeadsToResult, CanPutContents, IsPathFile, IsFinishedForm, list_in_struct, list_in_storage, finished_struct, directory_at_path, contents_form}
 use Rattle.std.specs.Prelude.{OnOk}
@@ -62,7 +62,7 @@ file_for t path (found.File parent slot contents) file l h =
       list = shown_list contents there.0.stands.stands.slot.struct there.1;
     })
 
--- ---- what comes into it
+-- ---- the new struct
 
 module _ (t : KeptThread) (spot : SlotPosition) (contents : WriterContents) (can : CanPutContents t spot contents) (kind : ℕ) (bytes : List ℕ) (part : IsAllowedPart 2 (kind, bytes)) (is : decoded_struct kind bytes ≡ finished_struct contents) where
   abbrev pub store_of : CanSetStruct t spot.pair spot.id kind bytes
@@ -116,7 +116,7 @@ module _ (t : KeptThread) (spot : SlotPosition) (contents : WriterContents) (lis
 pub held_struct : (contents : WriterContents) (list : GrowingList) (bytes : List ℕ) → contents ≡ InMemory list → bytes ≡ buffered_bytes list → decoded_struct inline_type bytes ≡ finished_struct contents
 held_struct contents list bytes is e = ap (λ b. Inline b) e ∙ sym (ap finished_struct is)
 
--- ---- what it tells
+-- ---- errors
 
 pub reports_put : (old new : ThreadView) (pair : ℕ) (id kind : ℕ) (bytes : List ℕ) (r : Result (Unit {0}) Error) → HasFreeBlocks 2 old.kept.map → ReportsPut old new pair (PutStruct id kind bytes ∷ []) r → ThreadReportsFaults old.kept new.kept r
 reports_put old new pair id kind bytes r room reports =

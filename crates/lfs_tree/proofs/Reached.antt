@@ -1,4 +1,4 @@
--- Which pairs a path leads to, by marks.
+-- Marks of the pairs that a path leads to.
 use Rattle.std.proofs.Common.{ℕ, zero, suc, ◌≡◌, ◌+◌, ◌<◌, ◌⊎◌, ◌∙◌, inl, inr, Bool, true, false, cond, nat_eq, eqb-true, List, [], ◌∷◌, ◌++◌, length, map, get_or, set, slice_get, Option, Some, None, option_and_then, refl, sym, ap, subst, arith, append-nil, append_assoc, length-append, length-set, replicate}
 use Rattle.std.specs.Prelude.{Contains}
 use Rattle.std.specs.List.{IsDistinct}

@@ -21,7 +21,7 @@ abbrev pub size_of_file_contents : FileContents → ℕ
 size_of_file_contents (contents.Inline bytes) = length bytes.items
 size_of_file_contents (contents.List head size) = size
 
--- the file there has as many
+-- the file has as many bytes
 pub contents_sized : (disk : Disk) (ps : List Pair) (path : Path) (c : FileContents) (count : ℕ) → IsAccepted disk ps → (1024 ≤ disk.block_size) × HasBlockSizes disk.block_size count disk.blocks → IsStorageAt ps path c
     → size_of_file_contents c ≡ length (file_bytes (disk_tree disk ps path))
 contents_sized disk ps path c count ok shape h = go (slot_of ps path) h.struct

@@ -89,7 +89,7 @@ can_drop t m numbers can large r reported = subst (λ z. CanDropPairs z numbers)
   reported = reported;
 })
 
--- the lists are freed behind the drop
+-- the lists are freed after the drop
 pub freed : (old mid new : KeptThread) (numbers : List ℕ) → IsAccepted old.disk old.pairs → AreUsed old.map (used_blocks old.disk old.pairs) → HasNoMove (pairs_gstate old.pairs) → HasDroppedRecovered old numbers mid → ChangesThreadBlocks (pairs_blocks old.pairs) old mid → ChangesOnlyMap mid new → IsReadyImage new → SameInFlight mid.map new.map
     → HasDroppedUnreached old new
 freed old mid new numbers accepted used none r w only ready flying = record {
@@ -122,7 +122,7 @@ dropped_behind t h d reads k = record {
 pub dropped : (t m d : KeptThread) → OnlyReadsThread t m → HasDroppedUnreached m d → HasDroppedUnreached t d
 dropped t m d r k = dropped_behind t m.history d r.reads (subst (λ z. HasDroppedUnreached z d) (read_is t m r) k)
 
--- ---- a stop
+-- ---- a power loss
 
 all_some : (events : List CallEvent) → AllCalls (λ e. Unit {0}) events
 all_some [] = tt
@@ -142,7 +142,7 @@ drop_survives t m d can r w k =
     survives_then t.disk t.history m.history d.history (disk_tree t.disk t.pairs) (disk_tree t.disk t.pairs) r.reads w.at_worst (read_survives t m can r)
     (subst₂ (λ (disk : Disk) (ps : List Pair). SurvivesLossSince disk m.history d.history (disk_tree disk ps) (disk_tree disk ps)) r.disk r.pairs k)
 
--- behind the end of a set move
+-- after the end of a pending move
 pub end_survives : (a b : KeptThread) (h : List CallEvent) → ChangesThreadBlocks (pairs_blocks a.pairs) a b → disk_tree b.disk b.pairs ≡ disk_tree a.disk a.pairs → (calls : List CallEvent) → h ≡ calls ++ b.history
     → SurvivesLossSince a.disk a.history b.history (disk_tree a.disk a.pairs) (disk_tree a.disk a.pairs) → SurvivesLossSince b.disk b.history h (disk_tree b.disk b.pairs) (disk_tree b.disk b.pairs)
     → SurvivesLossSince a.disk a.history h (disk_tree a.disk a.pairs) (disk_tree a.disk a.pairs)
@@ -217,7 +217,7 @@ recovered_whole t root b c rooted left e w d called quiet =
       taken = (let k = room_taken a.disk c.disk a.pairs c.pairs (disk_tree a.disk a.pairs) ops.Recover (rooted.sound.fits refl) all.geometry (stays []) in k);
     }
 
--- ---- what it tells
+-- ---- errors
 
 pub reports_reading : {X : Type 0} (t m : KeptThread) (r : Result X Error) (e : Error) → r ≡ Err e → ThreadReportsErrors t m r → HasThreadCause t m e
 reports_reading {X} t m r e is reported = record {
@@ -247,7 +247,7 @@ reports_then a b c e quiet t = record { errors = t.errors; fault = λ io. let k 
 pub reports_given : {Y : Type 0} (a c : KeptThread) (given : Result Y Error) (e f : Error) → given ≡ Err f → f ≡ e → HasThreadCause a c e → IfErr given (HasThreadCause a c)
 reports_given {Y = Y} a c given e f is same t = subst (λ (r : Result Y Error). IfErr r (HasThreadCause a c)) (sym is) (subst (HasThreadCause a c) (sym same) t)
 
--- ---- where nothing is left to recover
+-- ---- if nothing is left to recover
 
 pub recovered_already : (t : TreeState) → t.failed ≡ false → t.writable ≡ true → IsSoundState t → pairs_gstate t.pairs ≡ zero_gstate → IsApplied t ops.Recover t
 recovered_already t works writable sound settled = record {

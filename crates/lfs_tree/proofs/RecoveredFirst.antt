@@ -1,4 +1,4 @@
--- An operation behind a recovery is one on the image from before it.
+-- An operation after a recovery is one on the image from before it.
 use Rattle.std.proofs.Common.{ℕ, suc, ◌≡◌, ◌+◌, ◌≤◌, ◌⊎◌, ◌∙◌, ◌&&◌, inl, inr, true, false, not, cond, List, [], ◌∷◌, length, Option, Some, None, refl, sym, ap, ap₂, subst, arith}
 use Rattle.lfs_tree.proofs.Common.{sum_by-cons, same_Some, node_attributes_of, is_file, last_name, directory_names, same_path, Blocks, attributes_with, Name, BlockStates, BlockState, IsInFlight, in_flight_count, state_in_flight, Free, InFlight, Used, SameGeometry, charge_limit, profile_name_max, IsUnreachedOrRemoved, IsLayoutRecovered, Operation, HasEitherTree, with_blocks, is_recover, renames_itself, Session, has_long_name, Attributes, entry_charge, zero_gstate, Pair, pairs_gstate, count_before_root, Path, Tree, disk_tree, used_blocks, survives_then, Contains-number_occurrences, number_occurrences-Contains, used_count-AreUsed, number_occurrences, HoldsAtLosses-weaker, HasEndedMove, KeepsRootNumber, KeptThread, ThreadView, CanAddEntry, CanRemoveEntry, CanRemoveAttr, CanRenamePath, CanSetAttr, HasNeededBlocks, AppliesInPlace, AppliesOperation, HasFurtherCalls, SparesOutsideOperation, HasSoundImage, SurvivesEither, HasThreadCause, SoundWithRoot, OpenFilesByNumber, uncached_state, KeepsListBytes, HasDroppedUnreached, HasRecovered, IsSoundState, tree_summary, kept_thread}
 use Rattle.std.specs.Prelude.{is_none, is_some, nat_lt}
@@ -49,7 +49,7 @@ settled_already t root r e = record {
   same = λ none. refl;
 }
 
--- ---- an operation behind it
+-- ---- an operation after it
 
 kin_itself : (ps : List Pair) → AreKin ps ps
 kin_itself [] = tt
@@ -160,7 +160,7 @@ module _ (a b : KeptThread) (f : HasRecovered a b) where
   pub spares_after : (c : KeptThread) (op : Operation) → SparesOutsideOperation b op c → SparesOutsideOperation a op c
   spares_after c op k none = subst (λ (z : KeptThread). SparesOutsideOperation z op c) (f.same none) k none
 
-  -- ---- a stop
+  -- ---- a power loss
 
   left_on : (blocks : Blocks) → with_blocks blocks b.disk ≡ with_blocks blocks a.disk
   left_on blocks = λ j. record { block_size = f.carries.geometry.block_size j; page = f.carries.geometry.page j; order = f.carries.geometry.order j; profile = f.carries.geometry.profile j; blocks = blocks }
@@ -251,7 +251,7 @@ module _ (a b : KeptThread) (f : HasRecovered a b) where
     room = room_is 2 can.room;
   }
 
-  -- ---- what it tells
+  -- ---- errors
 
   pub reported_after : (c : KeptThread) (e : Error) → HasThreadCause b c e → HasThreadCause a c e
   reported_after c e reported = record {

@@ -1,4 +1,4 @@
--- A recovery where nothing is left to recover changes no slots, so where they stand behind it they stand behind the one before.
+-- A recovery with nothing left to recover moves no slots, so any layout after it is one after the first recovery.
 use Rattle.std.proofs.Common.{ℕ, ◌≡◌, ◌⊎◌, ◌∙◌, inl, inr, true, false, List, [], ◌∷◌, ◌++◌, length, take, Option, None, refl, sym, ap, subst, append-nil}
 use Rattle.std.specs.Prelude.{is_none, is_some}
 use Rattle.lfs_tree.proofs.Common.{recursion_from_All, Disk, PairsBecome, FitsPair, IsUnreachedOrRemoved, IsLayout, directory_address, continued_address, Session, zero_gstate, Pair, pairs_from_root, pairs_gstate, count_before_root, HasNoEmpties, IsWritable, IsAccepted, recovered_from, Each, each_left, each_right, chain_of_thread, onward_some}
@@ -60,7 +60,7 @@ stays_alike disk ps s new qs ok fits e h =
     goes : ℕ × ℕ → Type 0
     goes = IsUnreachedOrRemoved ps ops.Recover
 
--- so where slots stand behind a further recovery they stand behind the first one
+-- so any layout of slots after a further recovery is one after the first
 pub recovers_through : (disk : Disk) (ps : List Pair) (s : Session) (mid : Disk) (qs : List Pair) (r : Session) (new : Disk) (rs : List Pair) → IsLayout disk ps s ops.Recover mid qs → IsAccepted mid qs → IsWritable mid qs
     → pairs_gstate qs ≡ zero_gstate → IsLayout mid qs r ops.Recover new rs → IsLayout disk ps r ops.Recover new rs
 recovers_through disk ps s mid qs r new rs h ok fits e k =

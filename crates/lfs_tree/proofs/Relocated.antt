@@ -1,4 +1,4 @@
--- A worn pair that moves after an operation: both come to what the operation comes to, with a pair elsewhere.
+-- A worn pair that is relocated after an operation: both together have the operation's result, with a pair in other blocks.
 use Rattle.std.proofs.Common.{ℕ, zero, suc, ◌≡◌, ◌≢◌, ◌≤◌, ◌+◌, ◌⊎◌, ◌∙◌, ◌==◌, ◌&&◌, inl, inr, Bool, true, false, cond, List, [], ◌∷◌, ◌++◌, length, Option, Some, None, refl, sym, ap, subst, arith, eqb-true, append_assoc, flat_map}
 use Rattle.std.specs.Prelude.{Contains, IfSome, nat_eq}
 use Rattle.std.proofs.lemmas.Bool.{and_parts, or_cases}
@@ -47,7 +47,7 @@ same_own a at b same some = go (or_cases (a.0 == at.0 && a.1 == at.1) (a.0 == at
     go (inr h) (inl e) = inr (e ∙ eqb-true a.0 at.1 (and_parts (a.0 == at.1) (a.1 == at.0) h).0)
     go (inr h) (inr e) = inl (e ∙ eqb-true a.1 at.0 (and_parts (a.0 == at.1) (a.1 == at.0) h).1)
 
--- a pair that is in the thread has its blocks there
+-- a pair of the thread has its blocks among the thread's
 at_counted : (at : ℕ × ℕ) (ps : List Pair) → AnyByRecursion (λ (p : Pair). p.at ≡ at) ps → (1 ≤ number_occurrences at.0 (pairs_blocks ps)) × (1 ≤ number_occurrences at.1 (pairs_blocks ps))
 at_counted at [] h = absurd h
 at_counted at (p ∷ ps) (inl e) = subst (λ (a : ℕ × ℕ). (1 ≤ number_occurrences a.0 (pairs_blocks (p ∷ ps))) × (1 ≤ number_occurrences a.1 (pairs_blocks (p ∷ ps)))) e (
@@ -140,7 +140,7 @@ module _ (old mid new : TreeState) (plan : Option MovePlan) (room : ℕ) (planne
   pub keeps_moved : (path : Path) → is_file (shown_tree mid path) ≡ true → KeepsFileAt (kept_thread mid) (kept_thread new) path
   keeps_moved path file = keeps_by (kept_thread mid) (kept_thread new) path file (struct_stays mid.disk mid.pairs new.pairs path file (moved.files.structs path)) moved.geometry (list_bytes path (slot_of mid.pairs path) refl)
 
-  -- ---- where slots are
+  -- ---- the layout of slots
 
   spread_is : IsWearSpread mid.disk mid.pairs new.disk new.pairs
   spread_is = go moved.spread
@@ -216,7 +216,7 @@ module _ (old mid new : TreeState) (plan : Option MovePlan) (room : ℕ) (planne
     taken = few_moved (length (tree_summary old).used + operation_room op) (omega arith) k.taken;
   }
 
--- ---- a stop
+-- ---- a power loss
 
 pub survives_moved : (old mid new : TreeState) (after : Tree) (calls later : List CallEvent) → mid.history ≡ calls ++ old.history → new.history ≡ later ++ mid.history → SameGeometry old.disk mid.disk → shown_tree mid ≡ after
     → SurvivesStops old mid after → SurvivesStops mid new (shown_tree mid) → SurvivesStops old new after
@@ -227,7 +227,7 @@ survives_moved old mid new after calls later called further geometry shows first
     left_on : (blocks : Blocks) → with_blocks blocks mid.disk ≡ with_blocks blocks old.disk
     left_on blocks = λ j. record { block_size = geometry.block_size j; page = geometry.page j; order = geometry.order j; profile = geometry.profile j; blocks = blocks }
 
--- ---- what it tells
+-- ---- errors
 
 pub reports_moved : (old mid new : TreeState) (e : Error) → fault_count mid.history ≡ fault_count old.history → HasErrorCause mid new e → HasErrorCause old new e
 reports_moved old mid new e quiet t = record { errors = t.errors; fault = λ io. (let k = t.fault io in omega (arith, k, quiet)); no_fault = λ other. t.no_fault other ∙ quiet }

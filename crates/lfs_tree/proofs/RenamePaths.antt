@@ -1,4 +1,4 @@
--- What is found at the two paths of a rename.
+-- The look-ups of a rename's two paths.
 use Rattle.std.proofs.Common.{ℕ, ◌≡◌, ◌≤◌, ◌+◌, ◌∙◌, ◌++◌, List, [], ◌∷◌, Option, Some, None, Result, Ok, Err, sym, ap, subst, arith}
 use Rattle.std.specs.Prelude.{IfOk, IfSome, sum_by}
 use Rattle.lfs_tree.proofs.Common.{sum_by-append, sum_by-cons, Disk, directory_pair_count, ancestor_paths, CallEvent, read_count, Name, slot_of, zero_gstate, Pair, pairs_gstate, Path, IsAccepted, disk_tree, KeptThread, ThreadView, OnlyReadsThread, LeadsToPair, IsSlotBelow, LeadsToResult, AreRenameResults, rename_parents, TreeState, kept_thread}
@@ -15,7 +15,7 @@ use Rattle.lfs_tree.specs.declared.rename_paths.RenameFindings.{RenameFindings}
 use Rattle.lfs_tree.specs.declared.rename_paths.RenameTargets.{RenameTargets}
 use Rattle.lfs_tree.proofs.Carried.{read_is, with_history}
 
--- ---- where the paths lead to, after reads
+-- ---- the results of the look-ups, after reads
 
 leads_on : (t : KeptThread) (h : List CallEvent) (path : Path) (f : PathLookup) → LeadsToResult t path f → LeadsToResult (with_history t h) path f
 leads_on t h path found.Root l = record { parents = l.parents; there = l.there }
@@ -53,7 +53,7 @@ pub known_behind : (old mid : TreeState) (t : ThreadView) (from to : Path) (o : 
 known_behind old mid t from to None idle is k = tt
 known_behind old mid t from to (Some x) idle is k = subst (λ z. AreRenameResults z from to x) (sym (is ∙ ap kept_thread (idle k.settled))) k
 
--- ---- what is there
+-- ---- the entries at the paths
 
 -- no slot counts as deleted
 not_deleted : (id : ℕ) → ◌≡◌ {A = Option ℕ} None (Some id) → ⊥
@@ -84,7 +84,7 @@ pub shows_found : (t : KeptThread) (path : Path) (f : PathLookup) (s : VisiblePa
 shows_found t path f s ok settled l is =
     subst (λ z. IsLookupResult t path z) (sym is) (record { moved = None; hides = (hiding_none t (record { accepted = ok; settled = settled })).hides; shows = shows_to t path f l })
 
--- ---- how many reads that takes
+-- ---- how many reads they make
 
 pub sum_of_rename : (f : Path → ℕ) (from to : Path) → sum_by f (rename_parents from to) ≡ sum_by f (ancestor_paths from) + (sum_by f (ancestor_paths from) + (sum_by f (ancestor_paths to) + f to))
 sum_of_rename f from to =

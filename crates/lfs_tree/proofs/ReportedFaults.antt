@@ -1,4 +1,4 @@
--- What an operation tells, and which calls it makes, behind calls that only read.
+-- The errors and the device calls of an operation, after calls that only read.
 use Rattle.std.proofs.Common.{ℕ, ◌≡◌, ◌<◌, ◌⊎◌, inl, inr, ◌∙◌, List, ◌++◌, Result, Ok, Err, refl, sym, ap, subst, append_assoc, arith}
 use Rattle.std.specs.Prelude.{IfErr, IsErrOf}
 use Rattle.lfs_device.specs.declared.error.Error.{Error}
@@ -23,7 +23,7 @@ called_by_writing a h c bs reads w = record {
   called = w.at_worst.extends ∙ ap (λ z. w.at_worst.events ++ z) reads.extends ∙ sym (append_assoc w.at_worst.events reads.events a.history);
 }
 
--- what steps tell
+-- the errors of steps
 pub record ReportsFaultsSince {X : Type 0} (old new : List CallEvent) (result : Result X Error) : Type 0 where
   pub errors : IfErr result (λ e. (e ≡ Io) ⊎ (e ≡ NoMemory))
   pub fault : IsErrOf result Io → fault_count old < fault_count new
@@ -32,7 +32,7 @@ pub record ReportsFaultsSince {X : Type 0} (old new : List CallEvent) (result : 
 pub reported_by_reading : {X : Type 0} (a b : KeptThread) (result : Result X Error) → ThreadReportsErrors a b result → ReportsFaultsSince a.history b.history result
 reported_by_reading a b result t = record { errors = t.errors; fault = t.fault; no_fault = t.no_fault }
 
--- there was room, so NoSpace doesn't come
+-- there was room, so it never returns NoSpace
 pub reported_with_room : {X : Type 0} (old new : KeptThread) (result : Result X Error) → HasFreeBlocks 2 old.map → ReportsSpaceErrors old new result → ReportsFaultsSince old.history new.history result
 reported_with_room {X} old new result room t = record { errors = go result refl t.errors; fault = t.fault; no_fault = t.no_fault }
   where

@@ -4,7 +4,7 @@ use Rattle.std.proofs.lemmas.List.{get_or-append-add, get_or_append_left}
 use Rattle.lfs_tree.proofs.Common.{same_Some, Disk, IsPairAt, IsDirectoryPair, HasHardTail, same_pair, Pair, is_hard_tail, count_before_root, Path, IsAccepted, LeadsTo, Each, chain_of_thread, pair_back, pair_on, IsDirectory, begins_directory}
 use Rattle.lfs_model.proofs.Listings.{Ends}
 
--- whether the pair of a number goes on with the next one
+-- whether the pair of an index continues in the next one
 abbrev hard_at : List Pair → ℕ → Pair → Type 0
 hard_at ps n d = is_hard_tail (get_or ps n d).content.tail ≡ true
 

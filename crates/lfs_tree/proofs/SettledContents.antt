@@ -1,4 +1,4 @@
--- What stands behind a commit of contents, before and after their lists are settled.
+-- The image after a commit of contents, before and after their lists are settled.
 use Rattle.std.proofs.Common.{ℕ, ◌≡◌, ◌≢◌, ◌<◌, ◌≤◌, ◌+◌, ◌∙◌, inl, inr, ⊎_elim, List, [], ◌∷◌, ◌++◌, length, None, Some, true, false, refl, sym, ap, subst, arith, append_assoc}
 use Rattle.std.specs.Prelude.{All, Contains}
 use Rattle.lfs_tree.proofs.Common.{cases_lt, All-contains, All-from_recursion, same_Some, AreByteBlocks, AnyByRecursion, among_right, HasPathSlot, tree_with_change, same_path, AreUsed, IsFree, IsInFlight, IsUsedBlock, Free, InFlight, Used, Disk, SameGeometry, disk_block, block_count, CallEvent, OnlyReadsSince, IsLayout, Name, struct_at, Session, HasEitherTree, with_blocks, slot_of, Slot, node_with_bytes, Pair, pairs_blocks, pairs_gstate, count_before_root, Path, IsAccepted, IsWritable, struct_blocks, disk_tree, used_blocks, survives_then, Contains-number_occurrences, number_occurrences-Contains, number_occurrences, count_append, each_from_counted, each_weaker, once_from_distinct, SameFileBlocks, file_blocks_same, is_list_same, HoldsAtLosses-read_count, HoldsAtLosses-trans, HoldsAtLosses-weaker, HoldsAtLosses-worst, LeftByLoss-read, IsContentsStruct, CanSettleLists, ChangesOnlyMap, IsListSettled, stored_list_blocks, here, WritesPairTwo, HasStoredContents, tree_with_contents, KeptThread, ThreadView, thread_pair, ChangesThreadBlocks, HasFurtherCalls, CanChangeRecovered, SurvivesEither, writer_contents_bytes, CanCommitContents, CanPutContents, HasCommittedBytes, IsPathFile, finished_list, list_in_struct, finished_struct, ChangesPathPair, SizedLists}
@@ -158,7 +158,7 @@ pub committed_read : (t : KeptThread) (h : List CallEvent) (path : Path) (bytes 
 committed_read t h path bytes later k =
     record { sound = k.sound; fits = k.fits; settled = k.settled; root = k.root; shows = k.shows; others = k.others; synced = k.synced; closed = k.closed; alone = k.alone; none_in_flight = k.none_in_flight }
 
--- ---- behind calls that only read
+-- ---- after calls that only read
 
 module _ (t : ThreadView) (root : ℕ) (rests : CanChangeRecovered t root) (path : Path) (large : 1024 ≤ t.kept.disk.block_size) (bytes : AreByteBlocks t.kept.disk.blocks) (c : WriterContents) (can : CanCommitContents t.kept path c)
     (file : FileSlot) (slot : IsPathFile t.kept.pairs path file) (sized : SizedLists t.kept.disk) (h : List CallEvent) where

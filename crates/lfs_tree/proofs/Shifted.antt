@@ -151,7 +151,7 @@ module _ (t : ThreadView) (root : ℕ) (rests : CanChangeRecovered t root) (from
   shift_found (found.File parent slot contents) name target = shift_onto parent slot contents name target
   shift_found (found.Directory parent slot first) name target = shift_over parent slot first name target
 
--- ---- what comes of it
+-- ---- the result
 
 module _ (t : ThreadView) (root : ℕ) (rests : CanChangeRecovered t root) (from to : Path) (other : same_path from to ≡ false) (h : List CallEvent) (c : KeptThread) (reads : OnlyReadsSince t.kept.disk.blocks t.kept.history h) (w : WritesThreadFree (with_history t.kept h) c) where
   shifted_at : (given to_given : List ℕ) → HasMovedEntry (with_history t.kept h) from to c → fault_count c.history ≡ fault_count t.kept.history → path_or_root given ≡ from → path_or_root to_given ≡ to → AppliesInPlace t.kept (ops.Rename given to_given) c
@@ -202,7 +202,7 @@ rests_still t mid root rests only works = record {
   settled = ap pairs_gstate only.pairs ∙ rests.settled;
 }
 
--- a move behind calls that only read
+-- a move after calls that only read
 pub move_does : (t mid new : ThreadView) (root : ℕ) → CanChangeRecovered t root → (from to : Path) → same_path from to ≡ false → HasRead t mid → (given to_given : List ℕ) × (path_or_root given ≡ from) × (path_or_root to_given ≡ to) → (r : Result (Unit {0}) Error)
     → OnOk r (HasMovedEntry mid.kept from to new.kept) → ThreadWorksOrReports mid new r → WritesThreadFree mid.kept new.kept → SurvivesEither mid.kept new.kept (tree_renaming from to (disk_tree mid.kept.disk mid.kept.pairs)) → AppliesOrFails t (call.Rename from to) r new
 move_does t mid new root rests from to other read paths r shifted told w survives =
@@ -219,7 +219,7 @@ leads_back t h path (found.Nothing parent place) l = record { parents = l.parent
 leads_back t h path (found.Directory parent slot first) l = record { parents = l.parents; there = l.there }
 leads_back t h path (found.File parent slot contents) l = record { parents = l.parents; there = l.there }
 
--- what is found behind calls that only read
+-- the result of a look-up after calls that only read
 pub target_back : (a b : KeptThread) (path : Path) (f : PathLookup) (name : Name) → OnlyReadsThread a b → IsNamedResult b path f name → IsNamedResult a path f name
 target_back a b path f name only target =
     let k = subst (λ z. IsNamedResult z path f name) (read_is a b only) target in

@@ -70,7 +70,7 @@ module _ (t new : KeptThread) (from to : Path) (source : RenameSource) (name : N
       )
       w.writes
 
-  -- pairs that don't stay are written beside the two
+  -- the written blocks are ones that the rename concerns, or were free
   rest_alone : (bs : List ℕ) → ((b : ℕ) → Contains bs b → Concerned b) → WritesTouchedFree t bs new → KeepsOthers t.disk t.pairs s (ops.Rename given to_given) new.disk new.pairs
   rest_alone bs known w = concerned_alone t new s (ops.Rename given to_given) w.blocks can.old.ready.accepted can.old.ready.used
       (each_weaker (λ b. Contains bs b ⊎ (IsTouchedBlock t new b ⊎ IsFree t.map b)) (IsConcernedOrFree t (path_or_root given ∷ path_or_root to_given ∷ []) new.pairs) each w.blocks w.each) w.writes

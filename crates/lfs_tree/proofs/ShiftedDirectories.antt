@@ -1,4 +1,4 @@
--- An entry that takes the place of a directory without entries: what the operations on slots ask for, and what they come to.
+-- An entry that replaces a directory without entries: the premises and the results of the operations on slots.
 use Rattle.std.proofs.Common.{ℕ, ◌≡◌, ◌≢◌, ◌⊎◌, inl, inr, ◌-◌, ◌∙◌, ◌++◌, false, [], ◌∷◌, Result, Ok, Err, refl, sym, ap₂, subst, arith, true}
 use Rattle.std.specs.Prelude.{OnOk, is_err}
 use Rattle.lfs_device.specs.declared.error.Error.{Error}
@@ -12,7 +12,7 @@ use Rattle.lfs_tree.proofs.ShiftedAlone.{route_to, spares_one, spares_two}
 use Rattle.lfs_tree.proofs.ShiftedPlaces.{IsPairOf, one_place, other_name, target_path}
 use Rattle.lfs_tree.proofs.ShiftedSlots.{none_gone, survives_at}
 
--- what stands there, seen in the directory of another number
+-- the slot there, seen in the directory of another index
 record IsDirectoryAt (t : KeptThread) (first index id : ℕ) (name : Name) (at : ℕ × ℕ) : Type 0 where
   target : IsPlaceOf t.pairs first name index id
   branch : target.stands.slot.struct ≡ Branch at
@@ -120,7 +120,7 @@ module _ (t : KeptThread) (from to : Path) (source : RenameSource) (slot : SlotP
         alone = spares_two t new from to source name shift slot can.target alters;
       }
 
--- ---- what is told
+-- ---- errors
 
 pub reported_over : {X : Type 0} (old new : ThreadView) (r : Result X Error) → ReportsReadCommits old new r → ThreadWorksOrReports old new r
 reported_over {X} old new r t = record { works = works r t.failed; errors = t.errors; fault = t.fault; no_fault = t.no_fault }

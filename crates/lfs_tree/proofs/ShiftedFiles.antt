@@ -1,4 +1,4 @@
--- An entry that takes the place of a file, whose list is freed behind it.
+-- An entry that replaces a file, whose list is freed afterwards.
 use Rattle.std.proofs.Common.{ℕ, ◌≡◌, ◌⊎◌, ◌≤◌, ◌+◌, ◌∙◌, false, List, [], Result, Ok, Err, sym, ap, subst, arith}
 use Rattle.std.specs.Prelude.{IfErr, OnOk, is_err}
 use Rattle.lfs_device.specs.declared.error.Error.{Error}
@@ -37,7 +37,7 @@ module _ (t : KeptThread) (from to : Path) (source : RenameSource) (slot : SlotP
       (subst (λ z. IsReadyUnsettled mid z []) (sym can.onto.target.blocks) is.ready)
       (subst (λ z. (b : ℕ) → number_occurrences b (used_blocks mid.disk mid.pairs) + number_occurrences b z ≤ 1) (sym can.onto.target.blocks) is.once)
 
--- ---- the file's list is freed behind it
+-- ---- the file's list is freed afterwards
 
 pub onto_done : (t mid new : KeptThread) (from to : Path) (gone : List ℕ) → HasMovedTo t from to gone mid → ChangesOnlyMap mid new → IsReadyImage new → SameInFlight mid.map new.map → HasMovedEntry t from to new
 onto_done t mid new from to gone is only ready flying = record {

@@ -1,4 +1,4 @@
--- An entry that goes to a place of its own pair.
+-- An entry that is renamed within its pair.
 use Rattle.std.proofs.Common.{ℕ, Bool, true, false, List, ◌≡◌, ◌≢◌, ◌∙◌, ◌++◌, [], ◌∷◌, append-nil, Some, None, sym, ap, subst}
 use Rattle.lfs_tree.proofs.Common.{without_prefix, IsDirectoryPair, IsTargetPlace, Name, Pair, Path, KeptThread, CanMoveEntry}
 use Rattle.lfs_model.proofs.Paths.{rest_itself}
@@ -6,7 +6,7 @@ use Rattle.lfs_tree.specs.declared.renames_at.RenameSource.{RenameSource}
 use Rattle.lfs_lookup.specs.declared.search.SlotPosition.{SlotPosition}
 use Rattle.lfs_tree.proofs.SameDirectory.{same_above, same_first}
 
--- a pair of the directory that begins with the pair of number `first`
+-- a pair of the directory that begins with the pair of index `first`
 pub record IsPairOf (ps : List Pair) (first index : ℕ) : Type 0 where
   pub pair : Pair
   pub rest : List Pair

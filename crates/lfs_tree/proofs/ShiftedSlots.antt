@@ -1,4 +1,4 @@
--- An entry that gets another path: what the operations on slots ask for, and what they come to.
+-- An entry that is renamed: the premises and the results of the operations on slots.
 use Rattle.std.proofs.Common.{ℕ, ◌≡◌, ◌≢◌, ◌⊎◌, inl, inr, ◌<◌, ◌≤◌, ◌∙◌, ◌++◌, Bool, true, false, List, [], ◌∷◌, length, Result, Ok, Err, sym, ap, ap₂, subst, arith}
 use Rattle.std.specs.Prelude.{IfErr, OnOk, slice_get}
 use Rattle.lfs_tree.proofs.Common.{All-from_recursion, same_Some, tree_renaming, without_prefix, IsUsedBlock, Free, Used, ContentChange, disk_block, Name, Slot, pairs_blocks, Path, all_unmoved_slots, struct_blocks, disk_tree, used_blocks, Contains-number_occurrences, number_occurrences-Contains, number_occurrences, count_append, each_from_counted, each_weaker, SameFileBlocks, file_blocks, WritesTouchedFree, HasTwoFree, WritesPairTwo, has_failed_after, CanEditIn, editable_slot, HasFreeBlocks, WritesPairsTwo, second_step_pair, WritesThreadFree, IsRenamedAcross, tree_moved, IsReadyImage, IsReadyUnsettled, drops_emptied_pair, tree_renamed, KeptThread, ThreadView, SurvivesEither, CanMoveEntry, CanMoveTo, HasMovedEntry, HasMovedTo, IsTargetPlace, route_blocks, ThreadWorksOrReports}
@@ -18,7 +18,7 @@ use Rattle.lfs_tree.proofs.CarryRooms.{no_room}
 use Rattle.lfs_tree.proofs.ShiftedAlone.{route_to, spares_apart, spares_within}
 use Rattle.lfs_tree.proofs.ShiftedPlaces.{IsPairOf, one_place, other_name, pair_of_target, target_path}
 
--- ---- what is told
+-- ---- errors
 
 pub if_done : {X P Q : Type 0} (r : Result X Error) → OnOk r P → (P → Q) → OnOk r Q
 if_done (Ok x) h f = f h
@@ -28,7 +28,7 @@ pub if_both : {X P Q R : Type 0} (r : Result X Error) → OnOk r P → OnOk r Q 
 if_both (Ok x) h k f = f h k
 if_both (Err e) h k f = tt
 
--- there was room, so NoSpace doesn't come
+-- there was room, so it never returns NoSpace
 reported_errors : {X : Type 0} (old : KeptThread) (r : Result X Error) → HasFreeBlocks 2 old.map → ((r ≡ Err NoSpace) → (HasTwoFree old.map → ⊥)) → IfErr r (λ e. (e ≡ Io) ⊎ ((e ≡ NoMemory) ⊎ (e ≡ NoSpace))) → IfErr r (λ e. (e ≡ Io) ⊎ (e ≡ NoMemory))
 reported_errors old (Ok x) room none h = tt
 reported_errors old (Err e) room none (inl io) = inl io
@@ -209,6 +209,6 @@ module _ (replaces : Bool) (t : KeptThread) (from to : Path) (source : RenameSou
   pub writes_apart : (new : KeptThread) → WritesPairsTwo t (second_step_pair t source.slot.pair source.first) place.pair new → WritesThreadFree t new
   writes_apart new w = apart_across t from to source name place.pair new shift (behind_below t.pairs shift.first place.pair there.pair there.rest there.place) w
 
--- no file was there
+-- the path had no file
 pub moved_new : (t new : KeptThread) (from to : Path) (gone : List ℕ) → gone ≡ [] → HasMovedTo t from to gone new → HasMovedEntry t from to new
 moved_new t new from to gone none is = record { ready = none_gone new (subst (λ z. IsReadyUnsettled new z []) none is.ready); flying = is.flying; root = is.root; completed = is.completed; alone = is.alone }

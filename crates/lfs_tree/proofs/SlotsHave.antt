@@ -1,4 +1,4 @@
--- What holds of each slot of an image holds of the one at a path.
+-- A property of each slot of an image is one of the slot at a path.
 use Rattle.std.proofs.Common.{◌≡◌, ◌∙◌, List, [], ◌∷◌, ◌++◌, Option, Some, None, refl, sym, ap, subst}
 use Rattle.lfs_tree.proofs.Common.{option_and_then, same_Some, Disk, Name, slot_of, Slot, Struct, Inline, Ctz, Branch, Pair, root_address, Path, branch_address, entry_named, root_slot, slot_at_path, IsAccepted, LeadsTo, all_unmoved_slots, all_entries, Each}
 use Rattle.lfs_model.specs.tree.Tree.{child_slot}
@@ -28,6 +28,6 @@ module _ (P : Slot → Type 0) (disk : Disk) (ps : List Pair) (ok : IsAccepted d
       go None k on h = absurd (cc)
       go (Some c) k on h = on c k h
 
-  -- the root's own slot stands in no directory
+  -- the root's own slot is in no directory
   pub slot_has : P (root_slot (root_address ps)) → (path : Path) (u : Slot) → slot_of ps path ≡ Some u → P u
   slot_has root path u e = below_has path [] (root_slot (root_address ps)) u refl root e

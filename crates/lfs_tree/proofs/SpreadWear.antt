@@ -51,7 +51,7 @@ spreads_nothing now plan ready sound works may newest = record {
   survives = none_survives now (shown_tree now);
 }
 
--- where the change itself didn't fail
+-- if the change itself didn't fail
 pub spreads_behind : (now : TreeState) (plan : Option MovePlan) (done result : Result (Unit {0}) Error) (u : Unit {0}) (new : TreeState) → done ≡ Ok u → SpreadsOrFails now plan result new → SpreadsAfter now plan done result new
 spreads_behind now plan done result u new is k = subst (λ d. SpreadsAfter now plan d result new) (sym is) k
 
@@ -146,7 +146,7 @@ module _ (t : ThreadView) (root : ℕ) (writable : Bool) (now : TreeState) (kept
             survives = survives;
           })
 
-      -- the root directory begins where it is said
+      -- the root directory begins with the pair of the returned index
       pub relocated_held : (root_now : ℕ) → r ≡ Ok root_now → SoundUnlessFailed new root_now writable
       relocated_held root_now is works = record {
         works = works;

@@ -32,7 +32,7 @@ module _ {D : Type 0} (g : Ghosts D) (t : KeptThread) (device : D) (map : BlockS
       (subst (λ (d : Blocks). AreSoundContents t.map d (g.geometry device) contents) (sym blocks_here)
       (subst (λ (x : Geometry). AreSoundContents t.map t.disk.blocks x contents) (sym (geometry_here is.geometry is.divided)) is.stands))
 
-  -- contents that a call left there
+  -- contents after a call
   pub holds_here : (x : Geometry) (contents : WriterContents) (bytes : List ℕ) (form : ContentsForm) → x ≡ g.geometry device → HaveBytesInForm map (g.blocks device) x contents bytes form → HaveThreadForm t contents bytes form
   holds_here x contents bytes form is has = record {
     geometry = g.geometry device;
@@ -42,7 +42,7 @@ module _ {D : Type 0} (g : Ghosts D) (t : KeptThread) (device : D) (map : BlockS
         (subst (λ (d : Blocks). HaveBytesInForm map d x contents bytes form) blocks_here has));
   }
 
-  -- a write there
+  -- a write of the contents
   pub write_here : (contents : WriterContents) (place count : ℕ) → CanWrite t contents place count → CanWriteContents map (g.blocks device) (g.geometry device) contents place count
   write_here contents place count can = record {
     stands = stands_here contents can.stands;
@@ -64,7 +64,7 @@ module _ {D : Type 0} (g : Ghosts D) (t : KeptThread) (device : D) (map : BlockS
       limit : ℕ
       limit = inline_limit t.disk.profile t.disk.block_size
 
-  -- the end of a list in hand
+  -- the end of a draft
   pub finish_here : (contents : WriterContents) → CanFinish t contents → CanFinishContents map (g.blocks device) (g.geometry device) contents
   finish_here contents can = record {
     stands = stands_here contents can.stands;
@@ -72,7 +72,7 @@ module _ {D : Type 0} (g : Ghosts D) (t : KeptThread) (device : D) (map : BlockS
         (subst (λ (m : BlockStates). used_count m + finish_room t.disk.block_size (contents_form contents) ≤ length m) (sym shows.map) can.room);
   }
 
--- what a call answers, seen from the thread
+-- the result of a call, seen from the thread
 pub holds_after : {D : Type 0} (g : Ghosts D) (old new : KeptThread) (d e : D) (m n : BlockStates) → BelongToThread g old d m → BelongToThread g new e n → HasBlockSizes (g.geometry d).block_size (g.geometry d).block_count (g.blocks d)
     → HasBlockSizes (g.geometry e).block_size (g.geometry e).block_count (g.blocks e) → g.geometry e ≡ g.geometry d → (bytes : Blocks → ℕ → List ℕ) (form : ℕ → ContentsForm) (r : Result WriterContents Error)
     → IfOk r (λ c. HaveBytesInForm n (g.blocks e) (g.geometry d) c (bytes (g.blocks d) (g.geometry d).block_size) (form (memory_limit (g.geometry d))))
@@ -84,7 +84,7 @@ holds_after g old new d e m n before after shape later geometry bytes form (Ok c
     (holds_here g new e n after later (g.geometry d) c (bytes (g.blocks d) (g.geometry d).block_size) (form (memory_limit (g.geometry d))) (sym geometry) has)))
 holds_after g old new d e m n before after shape later geometry bytes form (Err x) has = tt
 
--- no used block comes into the lists
+-- no used block is added to the lists
 pub owned_after : {D : Type 0} (g : Ghosts D) (old new : KeptThread) (d e : D) (m n : BlockStates) → BelongToThread g old d m → BelongToThread g new e n → HasBlockSizes (g.geometry d).block_size (g.geometry d).block_count (g.blocks d)
     → HasBlockSizes (g.geometry e).block_size (g.geometry e).block_count (g.blocks e) → g.geometry e ≡ g.geometry d → (contents : WriterContents) (r : Result WriterContents Error)
     → IfOk r (λ c. AreUsedAmong n (contents_blocks (g.blocks d) (g.geometry d).block_size contents) (contents_blocks (g.blocks e) (g.geometry d).block_size c)) → IfOk r (λ c. AreUsedAmong new.map (contents_list_blocks old contents) (contents_list_blocks new c))

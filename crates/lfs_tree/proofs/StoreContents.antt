@@ -1,4 +1,4 @@
--- Contents of a writer that are ended and committed, behind one another.
+-- A writer's contents that are finished and then committed.
 use Rattle.std.proofs.Common.{ℕ, ◌≡◌, ◌≤◌, ◌+◌, ◌∙◌, Bool, true, false, List, [], ◌∷◌, ◌++◌, length, Result, Ok, Err, refl, sym, ap, ap₂, subst, arith, append_assoc}
 use Rattle.std.specs.Prelude.{IfErr, OnOk, Contains}
 use Rattle.lfs_device.specs.declared.error.Error.{Error}
@@ -57,7 +57,7 @@ module _ (t : ThreadView) (root : ℕ) (rests : CanChangeRecovered t root) (path
   pub can_finish : CanFinish t.kept contents
   can_finish = record { stands = can.over.stands; room = room_on t.kept sound (finish_room t.kept.disk.block_size (contents_form contents)) can.end }
 
-  -- the list in hand was ended
+  -- the draft was finished
   module _ (b : ThreadView) (still : b.failed ≡ false) (leaves : KeepsPairs t.kept b.kept) where
     pub rests_beside : CanChangeRecovered b root
     rests_beside = record { held = rooted_beside t b root true rests.held still leaves; settled = ap pairs_gstate leaves.pairs ∙ rests.settled }

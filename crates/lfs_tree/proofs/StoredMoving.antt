@@ -20,7 +20,7 @@ use Rattle.lfs_tree.proofs.TreeCalls.{breaks, reports}
 -- ---- the image
 
 module _ (old mid new : TreeState) (plan : Option MovePlan) (planned : IsPlanned old 2 plan) (path : Path) (bytes : List ℕ) (k : AreBytesStored old path bytes mid) (m : HasSpreadWear mid plan new) where
-  -- another file is there still
+  -- another file stays
   file_mid : (q : Path) → is_file (shown_tree old q) ≡ true → same_path path q ≡ false → is_file (shown_tree mid q) ≡ true
   file_mid q file apart = ap (λ (t : Tree). is_file (t q)) k.shows ∙ ap (λ b. is_file (if b then option_map (node_with_bytes bytes) (shown_tree old q) else shown_tree old q)) apart ∙ file
 
@@ -86,7 +86,7 @@ module _ (t : ThreadView) (root : ℕ) (writable : Bool) (now : TreeState) (kept
       go (Err e) k = tt
       go (Ok u) k = can_spread now seen plan 2 planned.plan planned.sound k.sound k.geometry k.works k.writable k.recovered
 
-  -- where the slots are, seen from the tree
+  -- the layout of slots, seen from the tree
   laid : (op : ℕ → Operation) → IsWriterLayoutRecovered (uncached_state t.kept true false) path (writer_contents_bytes t.kept contents) op (uncached_state new.kept true false) → IsWriterLayoutRecovered now path bytes op seen
   laid op k = subst (λ (s : TreeState). IsWriterLayoutRecovered s path (writer_contents_bytes (kept_thread s) contents) op seen) view k
 

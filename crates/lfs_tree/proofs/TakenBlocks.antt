@@ -1,4 +1,4 @@
--- How many blocks an operation takes, by where the slots stand that it leaves.
+-- How many blocks an operation allocates, by the layout of the slots that it leaves.
 use Rattle.std.proofs.Common.{ℕ, zero, suc, ◌≡◌, ◌≤◌, ◌+◌, ◌*◌, ◌⊎◌, ⊎_elim, inl, inr, Bool, true, false, if◌then◌else◌, List, [], ◌∷◌, ◌++◌, length, map, Option, None, refl, ap, arith, drop, flat_map, length-append, remove, take}
 use Rattle.std.specs.Prelude.{is_none, sum_by}
 use Rattle.lfs_tree.proofs.Common.{length-map, sum_by-append, sum_by-cons, Disk, PairsBecome, FitsPair, directory_address, continued_address, block_count_for, pair_with_slots, pairs_without_moved, Gstate, Slot, Struct, Inline, Ctz, Branch, slot_size, Pair, pairs_blocks, pairs_gstate, all_unmoved_slots, struct_blocks, used_blocks, Each, each_append, length_back, file_blocks}
@@ -125,7 +125,7 @@ module _ (disk : Disk) where
   some_fit k [] ys h f = f
   some_fit k (x ∷ xs) ys h f = inl (h.0, some_fit k xs ys h.1 f)
 
-  -- what stands for a pair
+  -- the pairs that replace a pair
   stands_few : (first : Bool) (goes : Type 0) (d : Pair) (now : List Pair) → PairBecomes disk first goes d now → (total size now ≤ 2 + lists_in size d.content.slots) ⊎ ((FitsPair disk d → ⊥) × (total size now ≤ 4 + lists_in size d.content.slots))
   stands_few first goes d [] h = inl (omega arith)
   stands_few first goes d (q ∷ []) h = inl (let e = ap (lists_in size) h.1 in omega arith)

@@ -1,4 +1,4 @@
--- How many blocks an operation takes: by its edits, and on the whole.
+-- How many blocks an operation allocates: for its edits, and in all.
 use Rattle.std.proofs.Common.{ℕ, ◌≡◌, ◌≤◌, ◌+◌, ◌*◌, ◌∙◌, inr, List, [], ◌∷◌, ◌++◌, length, Option, Some, None, refl, sym, ap, subst, arith, flat_map, length-append}
 use Rattle.std.specs.Prelude.{sum_by}
 use Rattle.lfs_tree.proofs.Common.{recursion_from_All, sum_by-append, sum_by-cons, last_name, attributes_with, attributes_without, Disk, FitsPair, IsUnreachedOrRemoved, IsLayoutRecovered, IsLayout, Name, Operation, Session, slot_of, pair_with_slots, pairs_without_moved, FitsInPair, Slot, slot_size, path_or_root, Pair, pairs_gstate, count_before_root, Node, Path, Tree, Each, each_append, each_left, each_right, IsWritable, SameGeometry, used_blocks}
@@ -51,11 +51,11 @@ module _ (disk : Disk) (olds news : List Slot) (old new : List Pair) (s : Replac
   rest_fits : Each (FitsPair disk) old → FitsPair disk s.pair × Each (FitsPair disk) s.after
   rest_fits h = each_right (FitsPair disk) s.before (s.pair ∷ s.after) (subst (Each (FitsPair disk)) s.was h)
 
-  -- one pair may have to be cut
+  -- one pair may have to be split
   pub splice_cut : Each (FitsPair disk) old → FitBut disk 1 new
   splice_cut h = subst (FitBut disk 1) (sym s.is) (some_fit disk 1 s.before (now ∷ s.after) (front_fits h) (inr (0, (refl, all_fit disk 0 s.after (rest_fits h).1))))
 
-  -- or none, where what comes is no larger
+  -- or none, if the new slot is no larger
   pub splice_fits : sum_by slot_size news ≤ sum_by slot_size olds → length news ≤ length olds → Each (FitsPair disk) old → Each (FitsPair disk) new
   splice_fits less few h = subst (Each (FitsPair disk)) (sym s.is) (each_append (FitsPair disk) s.before (now ∷ s.after) (front_fits h) (here, (rest_fits h).1))
     where
@@ -67,7 +67,7 @@ module _ (disk : Disk) (olds news : List Slot) (old new : List Pair) (s : Replac
 
 -- ---- what an operation makes of the slots
 
--- So many pairs may have to be cut for the drafts, and all takes at most so many blocks.
+-- At most `cuts` of the drafted pairs have to be split, and all pairs together need at most `most` more blocks.
 record IsDrafted (disk : Disk) (old fresh drafts : List Pair) (most : ℕ) : Type 0 where
   cuts : ℕ
   few : FitBut disk cuts drafts

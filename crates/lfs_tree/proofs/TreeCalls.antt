@@ -1,4 +1,4 @@
--- A call of a tree: what a loss of power left is ended first.
+-- A call of a tree: what a power loss left is ended first.
 use Rattle.std.proofs.Common.{ℕ, ◌≡◌, ◌∙◌, ◌||◌, Bool, false, true, Result, Ok, Err, refl, sym, ap, ap₂, subst}
 use Rattle.std.specs.Prelude.{Option, IfErr, OnErr, OnOk, is_err}
 use Rattle.lfs_device.specs.declared.error.Error.{Error}
@@ -61,7 +61,7 @@ module _ (t : ThreadView) (writable : Bool) (now : TreeState) (view : thread_sta
   pub settles_seen : OnOk r (HasRecovered (kept_thread now) new.kept)
   settles_seen = subst (λ (s : TreeState). OnOk r (HasRecovered (kept_thread s) new.kept)) view w.done
 
--- where nothing is left nothing is done
+-- if nothing is left to recover, nothing is done
 leaves_itself : (t : TreeState) (op : Operation) → KeepsOthersIfRecovered t op t
 leaves_itself t op none files = record {
   files = lists_from t.disk t.disk t.pairs (λ b some. refl);
@@ -84,7 +84,7 @@ recovers_with {X} {Y} old mid r x y is k = go (subst (λ (z : Result X Error). A
     go : (let z : Result X Error = Ok x in AppliesCallOrFails old calls.Recover z mid) → (let s : Result Y Error = Ok y in AppliesCallOrFails old calls.Recover s mid)
     go k = record { done = k.done; alone = k.alone; broken = tt; errors = tt; survives = k.survives }
 
--- where it failed, so did the call
+-- if it failed, so did the call
 pub recovery_failed : {X Y : Type 0} (old mid : TreeState) (call : TreeCall) (r : Result X Error) (s : Result Y Error) (e f : Error) → r ≡ Err e → s ≡ Err f → f ≡ e → AppliesCallOrFails old calls.Recover r mid → AppliesCallOrFails old call s mid
 recovery_failed {X} {Y} old mid call r s e f was is same k =
     subst (λ (z : Result Y Error). AppliesCallOrFails old call z mid) (sym (is ∙ ap Err same)) (go (subst (λ (z : Result X Error). AppliesCallOrFails old calls.Recover z mid) was k))
@@ -92,7 +92,7 @@ recovery_failed {X} {Y} old mid call r s e f was is same k =
     go : (let z : Result X Error = Err e in AppliesCallOrFails old calls.Recover z mid) → (let z : Result Y Error = Err e in AppliesCallOrFails old call z mid)
     go k = record { done = tt; alone = tt; broken = k.broken; errors = k.errors; survives = survives_before (kept_thread old) (kept_thread mid) (tree_after_call call (shown_tree old)) k.survives }
 
--- ---- how many blocks it takes
+-- ---- how many blocks it allocates
 
 abbrev pub call_room : TreeCall → ℕ
 call_room (calls.Mkdir path) = 4
@@ -112,7 +112,7 @@ room_of_call (calls.SetAttr path kind bytes) op d = ap operation_room d.1.0
 room_of_call (calls.RemoveAttr path kind) op d = ap operation_room d.1.0
 room_of_call calls.Recover op d = ap operation_room d
 
--- ---- what comes behind it
+-- ---- what is done after it
 
 module _ (old mid : TreeState) (works : old.failed ≡ false) (may : old.writable ≡ true) (done : IsApplied old ops.Recover mid) (settled : HasRecovered (kept_thread old) (kept_thread mid))
     (t : ThreadView) (root : ℕ) (writable : Bool) (held : SoundUnlessFailed t root writable) (view : thread_state t writable ≡ mid) where

@@ -1,4 +1,4 @@
--- Which blocks an image uses, and how many.
+-- The blocks that an image uses, and their number.
 use Rattle.std.proofs.Common.{ℕ, ◌≡◌, ◌⊎◌, ◌==◌, ◌||◌, Bool, true, false, List, [], ◌∷◌, length, refl, sym, subst, eqb-true, inl, inr, arith}
 use Rattle.std.specs.Prelude.{◌↔◌, Contains, IsTrue}
 use Rattle.lfs_tree.proofs.Common.{list_any, eqb-false, AreUsed, BlockStates, IsUsedBlock, used_count, used_blocks, Contains-cons, Contains-head, Contains-tail, used_count-AreUsed, TreeState, IsSoundState}

@@ -1,4 +1,4 @@
--- What stands at a path, by what a look-up finds.
+-- The node at a path, from the result of a look-up.
 use Rattle.std.proofs.Common.{ℕ, ◌≡◌, ◌≤◌, ◌∙◌, Bool, true, false, cond, List, [], ◌∷◌, ◌++◌, length, Option, Some, None, refl, sym, ap, subst, append_assoc}
 use Rattle.std.specs.Prelude.{is_none}
 use Rattle.lfs_lookup.proofs.Common.{option_and_then, option_map, option_or, same_Some, sorted_names, is_file, Disk, ordered_disk, Name, directory_refusal, parents_refusal, slot_of, Attributes, Slot, Struct, Inline, Ctz, Branch, node_file_size, Pair, root_address, Path, Tree, branch_address, entry_named, names_at, struct_node, root_slot, slot_at_path, IsAccepted, IsFormedList, LeadsTo, all_unmoved_slots, struct_list_bytes, all_entries, disk_tree, KeptThread, disk_of_device, walk_append, IsStorage, IsFoundNode, IsUnhiddenResult, recursion_from_All, same_name, Each}
@@ -57,7 +57,7 @@ module _ (disk : Disk) (ps : List Pair) where
   abbrev node_shown : Option Slot → Option Node
   node_shown o = option_map (λ (f : Slot). struct_node (struct_list_bytes disk) (all_entries ps) f.attributes f.struct) o
 
-  -- nothing stands beneath what isn't a directory
+  -- nothing is beneath what isn't a directory
   none_below : (p : Path) (n : Name) (q : Path) (r : ops.Refusal) → directory_refusal (disk_tree disk ps p) ≡ Some r → slot_of ps (p ++ n ∷ q) ≡ None
   none_below p n q r h = walk_append (all_entries ps) (root_slot (root_address ps)) p (n ∷ q) ∙ go (slot_of ps p) h
     where

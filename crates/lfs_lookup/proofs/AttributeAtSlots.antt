@@ -1,4 +1,4 @@
--- What a slot says of its attributes.
+-- The attributes of a slot, as its log has them.
 use Rattle.std.proofs.Common.{ℕ, zero, suc, ◌≡◌, ◌+◌, ◌/◌, ◌%◌, ◌^◌, ◌<◌, ◌≤◌, ◌==◌, ◌∙◌, Bool, true, false, cond, List, [], ◌∷◌, length, slice_get, slice_index_or, Option, Some, None, Result, Ok, Err, Vec, Global, Bor, refl, sym, ap, ap₂, subst, arith}
 use Rattle.std.specs.Prelude.{IfOk, IfSome, IsSome, find}
 use Rattle.lfs_lookup.proofs.Common.{option_and_then, option_copied, option_map, same_Some, node_attributes_of, RawSlot, attribute_bytes, complete_slot, kind_of_type, slot_of_id, decoded_struct, Disk, AttributesInOrder, IsFormedSlot, AreWellFormed, slot_bytes, part_bytes, Attributes, Slot, Struct, Inline, Ctz, Branch, slot_of, Pair, Path, struct_node, struct_list_bytes, all_entries, disk_tree, KeptThread, ThreadView, cached_log, empty_anchor, IsLookupResult, AreAttributesAt, IsFoundCached, IsUnhiddenSpot}

@@ -1,4 +1,4 @@
--- How many bytes attributes take, and how many where one is put.
+-- How many bytes attributes use, before and after one is set.
 use Rattle.std.proofs.Common.{Fits, w64, ℕ, zero, suc, drop, map, get_or, ◌≡◌, ◌+◌, ◌-◌, ◌*◌, ◌<◌, ◌≤◌, ◌==◌, Bool, true, false, cond, List, [], ◌∷◌, length, None, Some, nat_lt, refl, sym, ap, arith, eqb-true}
 use Rattle.std.specs.Prelude.{find}
 use Rattle.lfs_lookup.proofs.Common.{option_map, option_map_or, sum_by-cons, attribute_bytes, AttributesInOrder, Attributes, attributes_size, attribute_view, IsAttributesSize}

@@ -1,4 +1,4 @@
--- What a file's slot says of its bytes.
+-- The bytes of a file, as its slot has them.
 use Rattle.std.proofs.Common.{ℕ, zero, suc, ◌≡◌, ◌+◌, ◌^◌, ◌<◌, ◌==◌, ◌∙◌, Bool, true, false, cond, List, [], ◌∷◌, ◌++◌, length, length-append, Option, Some, None, refl, sym, ap, ap₂, subst, slice_get, get_or, arith, append_assoc}
 use Rattle.std.specs.List.{enumerate_from, flat_map}
 use Rattle.lfs_lookup.proofs.Common.{option_and_then, option_map, length-take, same_Some, is_file, RawSlot, complete_slot, complete_slots, kind_of_type, slot_of_id, decoded_struct, inline_type, directory_type, decoded_address, Disk, IsDirectoryPair, IsPlaceOf, slot_bytes, part_bytes, Name, Slot, Struct, Inline, Ctz, Branch, slot_of, Pair, Path, struct_node, recursion_from_All, Each, each_right, IsWritableSlot, IsWritable, IsAccepted, IsFormedList, struct_list_bytes, all_entries, disk_tree, complete_parts, KeptThread, empty_anchor, IsLookupResult, spot_and_storage, IsStorage, IsUnhiddenSpot}
@@ -117,7 +117,7 @@ is_file_of shown.Nothing slot contents e = absurd (cc)
 is_file_of shown.ParentIsFile slot contents e = absurd (cc)
 is_file_of shown.ParentIsMissing slot contents e = absurd (cc)
 
--- no file is there where none is found
+-- if no file is found, there is none
 module _ (t : KeptThread) (path : Path) where
   pub not_file : (x : VisiblePathLookup) → IsLookupResult t path x → spot_and_storage x ≡ None → is_file (disk_tree t.disk t.pairs path) ≡ false
   not_file shown.Root s e = ap (λ p. is_file (disk_tree t.disk t.pairs p)) s.shows

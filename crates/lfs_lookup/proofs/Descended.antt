@@ -134,7 +134,7 @@ some_at f [] i l = absurd (omega arith)
 some_at f (y ∷ xs) zero l = (f y, refl)
 some_at f (y ∷ xs) (suc i) l = some_at f xs i (omega arith)
 
--- ---- behind calls that only read
+-- ---- after calls that only read
 
 pub begins_same : (a b : KeptThread) → OnlyReadsThread a b → (path : Path) (first : ℕ) → LeadsToPair a.pairs path first → LeadsToPair b.pairs path first
 begins_same a b r path first on = subst (λ ps. LeadsToPair ps path first) (sym r.pairs) on

@@ -1,4 +1,4 @@
--- The pairs of a directory, by the number of the first, show what stands in it.
+-- The pairs of a directory, from the index of the first, have its entries.
 use Rattle.std.proofs.Common.{ℕ, zero, suc, ◌≡◌, ◌<◌, ◌≤◌, ◌+◌, ◌∙◌, Bool, true, false, cond, List, [], ◌∷◌, ◌++◌, length, map, flat_map, take, drop, get_or, slice_get, Option, Some, None, refl, sym, ap, ap₂, subst, arith, append_assoc, nat_eq}
 use Rattle.std.specs.Prelude.{IfNone, IfSome, IsSome}
 use Rattle.std.specs.List.{IsDistinct}
@@ -15,7 +15,7 @@ run_on (p ∷ ps) (suc index) d l =
     let e : suc index + 1 ≡ suc (index + 1) = omega arith in
     run_on ps index d (omega arith) ∙ ap (λ n. get_or ps index d ∷ cond (is_hard_tail (get_or ps index d).content.tail) (joined_pairs (drop n (p ∷ ps))) []) (sym e)
 
--- where it has a hard tail, the next ones follow
+-- if it has a hard tail, the next ones follow
 pub run_hard_on : (ps : List Pair) (index next : ℕ) (d : Pair) → index < length ps → is_hard_tail (get_or ps index d).content.tail ≡ true → next ≡ index + 1 →
     joined_pairs (drop index ps) ≡ get_or ps index d ∷ joined_pairs (drop next ps)
 run_hard_on ps index next d l hard e =
@@ -104,7 +104,7 @@ each_at P (y ∷ xs) (suc i) x h e = each_at P xs i x h.1 e
 
 -- ---- in an accepted image
 
--- where a path leads, the pairs in front of the directory, its pairs and those behind it
+-- if a path leads to a directory: the pairs before it, its own and those behind it
 pub record IsCutAt (ps : List Pair) (a : ℕ × ℕ) : Type 0 where
   pub chain : List Pair
   pub directory : HasDirectory (pairs_from_root ps) a

@@ -19,7 +19,7 @@ module _ (t : KeptThread) (ok : IsAcceptedRecovered t) (path : Path) (first : �
       let i = begins_directory t.disk t.pairs path on.at first ok.accepted on.leads on.begins in
       plain_behind t.disk t.pairs first ok.accepted (let n = i.number in omega (arith, n))
 
-  -- ---- a name that stands there
+  -- ---- a name that is found
 
   module _ (name : Name) (pair id : ℕ) (s : IsPlaceOf t.pairs first name pair id) where
     pub slot_is : slot_of t.pairs (path ++ name ∷ []) ≡ Some s.stands.slot
@@ -63,7 +63,7 @@ module _ (t : KeptThread) (path : Path) (slot : Slot) (is : slot_of t.pairs path
 pub nothing_by : (t : KeptThread) (path : Path) → slot_of t.pairs path ≡ None → directory_refusal (disk_tree t.disk t.pairs path) ≡ Some NoEnt
 nothing_by t path is = ap directory_refusal (ap (option_map (λ (f : Slot). struct_node (struct_list_bytes t.disk) (all_entries t.pairs) f.attributes f.struct)) is)
 
--- ---- where a slot counts as deleted
+-- ---- if a slot counts as deleted
 
 module _ (t : KeptThread) (moved : Option SlotPosition) (h : HidesMovedSlot t moved) (path : Path) (first : ℕ) (on : LeadsToPair t.pairs path first) (name : Name) where
   pub shown_slot : (spot : SlotPosition) (entry : FileOrDirectory) (s : IsNameAt t.pairs moved first name spot entry) → slot_of t.pairs (path ++ name ∷ []) ≡ Some s.stands.stands.slot

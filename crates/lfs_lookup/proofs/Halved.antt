@@ -1,4 +1,4 @@
--- A search by halves among the pairs of a directory: what is known of the pairs before and behind those that are left.
+-- A binary search among the pairs of a directory: its invariant on the pairs before and behind those that are left.
 use Rattle.std.proofs.Common.{ℕ, zero, suc, ◌≡◌, ◌≢◌, ◌⊎◌, inl, inr, ◌+◌, ◌-◌, ◌<◌, ◌≤◌, Bool, true, false, cond, not, List, [], ◌∷◌, ◌++◌, length, take, drop, refl, sym, ap, ap₂, subst, ◌∙◌, arith, append_assoc, append-nil, length-append, get_or, Less}
 use Rattle.lfs_lookup.proofs.Common.{AllByRecursion, get_or-drop, length-take, take-append-drop, flat_map-append, filter-append, drop-append_seam, BelongsAt, FirstIsGreater, HaveNoSuperblock, HasHardTail, BelongsAtId, AreJoined, IsPlaceOf, HasName, entry_slots, last_joins, joined_count, all_slots, Name, name_cmp, Slot, is_superblock, Pair, is_hard_tail, superblock_first, each_left, each_right, IsStructEntry, EndsWithoutTail, joined_pairs}
 use Rattle.std.proofs.lemmas.List.{get_or_append_left}
@@ -152,7 +152,7 @@ empty_list (x ∷ xs) l = absurd (omega arith)
 
 -- ---- before and behind
 
--- The pair of number `at` was looked at, and has lesser names alone. The pairs from it to before number `low` have no slots.
+-- the pair of index `at` was looked at, and has lesser names alone. The pairs from it to before number `low` have no slots.
 pub record HasLess (by : NameOrder) (run : List Pair) (first : ℕ) (name : Name) (at id low : ℕ) : Type 0 where
   pub left : List Pair
   pub pair : Pair
@@ -170,7 +170,7 @@ pub data IsLow (by : NameOrder) (run : List Pair) (first : ℕ) (name : Name) (a
   begun : low ≡ first → at ≡ first → id ≡ 0 → IsLow by run first name at id low
   passed : HasLess by run first name at id low → IsLow by run first name at id low
 
--- the pair of number `high` begins with a greater name
+-- the pair of index `high` begins with a greater name
 pub record HasGreater (by : NameOrder) (run : List Pair) (first : ℕ) (name : Name) (high : ℕ) : Type 0 where
   pub before : List Pair
   pub pair : Pair
@@ -191,7 +191,7 @@ module _ (by : NameOrder) (ps : List Pair) (first : ℕ) (name : Name) (index : 
   joined_here : AllByRecursion HasHardTail a.before
   joined_here = (chain_left a.before q a.behind (subst Chained a.parts (run_chained (drop first ps)))).0
 
-  -- the name stands here
+  -- the name is in this pair
   pub stands_at : (below : first < length ps) (id : ℕ) (entry : FileOrDirectory) (s : HasName q.content.slots name id) → IsStructEntry entry s.slot.struct → (t : IsPlaceOf ps first name index id) × IsStructEntry entry t.stands.slot.struct
   stands_at below id entry s shows = (
     record {

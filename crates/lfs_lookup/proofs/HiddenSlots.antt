@@ -1,4 +1,4 @@
--- Which slot counts as deleted, by the number of its pair.
+-- The slot that counts as deleted, by the index of its pair.
 use Rattle.std.proofs.Common.{ℕ, zero, suc, ◌≡◌, ◌+◌, ◌==◌, ◌&&◌, Bool, true, false, cond, List, [], ◌∷◌, Option, Some, None, refl, sym, ap, ap₂, subst, ◌∙◌, arith, slice_get, nat_eq}
 use Rattle.lfs_lookup.proofs.Common.{AllByRecursion, same_Some, ne_eqb, false_from_ne_true, IsPairAt, Gstate, same_pair, Pair, pairs_blocks, moved_id, pair_back, pair_on, same_number, HidesOnlySlot, skipped_id}
 use Rattle.std.specs.List.{IsDistinct}

@@ -1,4 +1,4 @@
--- A directory whose names rise: a name that belongs at a place in it is nowhere in it. In an accepted image names rise.
+-- A directory whose names rise doesn't have a name that belongs before one of its slots. In an accepted image names rise.
 use Rattle.std.proofs.Common.{ℕ, zero, suc, ◌≡◌, ◌≢◌, ◌⊎◌, inl, inr, ◌+◌, ◌==◌, ◌&&◌, Bool, true, false, cond, not, List, [], ◌∷◌, ◌++◌, filter, flat_map, take, drop, remove, slice_get, Option, Some, None, refl, sym, ap, ap₂, subst, ◌∙◌, arith, append_assoc, Less}
 use Rattle.lfs_lookup.proofs.Common.{AllByRecursion, take-append-drop, flat_map-append, filter-append, same_Some, drop-append_seam, FirstIsGreater, BelongsAt, HasHardTail, AreJoined, entry_slots, last_joins, all_slots, Name, name_cmp, Gstate, Slot, is_superblock, same_pair, Pair, pairs_gstate, is_hard_tail, unmoved_entries, moved_id, Path, Each, each_append, each_left, each_right, each_weaker, begins_directory, plain_behind, KeptThread, joined_pairs, LeadsToPair, HidesMovedSlot, HidesOnlySlot, IsAbsent, IsNameAt, FindsInDirectory, skipped_id}
 use Rattle.lfs_model.specs.declared.order.NameOrder.{NameOrder}
@@ -28,7 +28,7 @@ joined_through : (p : Pair) (later rest : List Pair) → AreJoined p later → j
 joined_through p [] rest h = refl
 joined_through p (q ∷ later) rest h = ap (λ b. p ∷ cond b (joined_pairs (q ∷ (later ++ rest))) []) h.0 ∙ ap (λ z. p ∷ z) (joined_through q later rest h.1)
 
--- ---- a name that belongs at a place is absent
+-- ---- a name that belongs before a slot is absent
 
 abbrev IsOther : Name → Slot → Type 0
 IsOther name s = s.name ≡ name → ⊥

@@ -1,4 +1,4 @@
--- What the slots of a log show.
+-- The entries of a log's slots.
 use Rattle.std.proofs.Common.{ℕ, zero, suc, ◌≡◌, ◌<◌, ◌∙◌, Bool, true, false, cond, not, List, [], ◌∷◌, ◌++◌, length, map, filter, get_or, remove, Option, Some, None, refl, sym, ap, ap₂, subst, arith}
 use Rattle.lfs_lookup.proofs.Common.{same_Some, Slot, is_superblock, RawSlot, complete_slots, IsFormedSlot, AreWellFormed, complete_parts, NamedStruct, named_struct, raw_entries, slots_except}
 use Rattle.lfs_model.proofs.Completed.{complete_remove}

@@ -1,4 +1,4 @@
--- What a list says of the entries of a directory is what the tree says.
+-- A listing returns the entries of the tree's directory.
 use Rattle.std.proofs.Common.{ℕ, suc, slice_get, ◌≡◌, ◌∙◌, List, [], ◌∷◌, ◌++◌, map, Some, option_map, refl, sym, ap, ap₂, subst}
 use Rattle.lfs_lookup.proofs.Common.{recursion_from_All, AreByteBlocks, directory_names, Disk, ordered_disk, slot_of, Slot, Struct, Inline, Ctz, Branch, items_at, node_file_size, Pair, Path, struct_node, IsAccepted, IsFormedList, LeadsTo, all_unmoved_slots, struct_list_bytes, all_entries, disk_tree, Each, slot_there, KeptThread, disk_of_device, AreShorterFirst, NamedStruct, named_struct, AreInLimits, IsInLimits, name_and_size, pair_entries_from, LeadsToPair}
 use Rattle.lfs_device.specs.declared.device.BlockDevice.{Ghosts}

@@ -1,4 +1,4 @@
--- Contents that stand in an entry are short.
+-- Inline contents are short.
 use Rattle.std.proofs.Common.{ℕ, zero, suc, ◌≡◌, ◌<◌, ◌==◌, ◌&&◌, Bool, true, false, cond, not, List, [], ◌∷◌, length, map, Option, Some, None, option_and_then, option_map, refl, sym, subst}
 use Rattle.lfs_lookup.proofs.Common.{remove, same_Some, recursion_from_All, RawContent, RawSlot, complete_slot, complete_slots, complete_content, kind_of_type, decoded_struct, directory_type, inline_type, decoded_address, Disk, disk_block, IsFormedSlot, AreWellFormed, AllowedIfAny, Gstate, Slot, Inline, Ctz, Branch, same_pair, Pair, pairs_gstate, slots_not_moved, Path, IsAccepted, LeadsTo, all_entries, complete_parts, completed_parts, Each, each_joined, each_weaker, logged, AreByteBlocks, named_struct, AreInLimits, IsInLimits}
 use Rattle.lfs_model.specs.format.Content.{content_after, content_at, has_commit, current_of_two, current_block, is_later, empty_raw_content}

@@ -26,7 +26,7 @@ length-pairs_on ps path = go (address_at_path (all_entries ps) (root_address ps)
 pub run_on_path : (t : KeptThread) (path : Path) (first : ℕ) → IsAccepted t.disk t.pairs → LeadsToPair t.pairs path first → joined_pairs (drop first t.pairs) ≡ pairs_at t.pairs path
 run_on_path t path first ok on = own_pairs t.disk t.pairs path on.at first ok on.leads on.begins ∙ sym (ap (λ o. option_map_or (directory_pairs t.pairs) o []) on.leads)
 
--- and behind calls that only read
+-- and after calls that only read
 pub run_same : (a b : KeptThread) (path : Path) (first : ℕ) → IsAccepted a.disk a.pairs → OnlyReadsThread a b → LeadsToPair a.pairs path first → joined_pairs (drop first b.pairs) ≡ pairs_at a.pairs path
 run_same a b path first ok r on = ap (λ ps. joined_pairs (drop first ps)) r.pairs ∙ run_on_path a path first ok on
 

@@ -1,4 +1,4 @@
--- What a search among the slots of a log says of the slots of its content.
+-- A search among the slots of a log, as one among the slots of its content.
 use Rattle.std.proofs.Common.{ℕ, zero, suc, ◌≡◌, ◌⊎◌, inl, inr, ◌<◌, ◌==◌, ◌&&◌, Bool, true, false, cond, not, List, [], ◌∷◌, ◌++◌, length, length-append, rules, Option, Some, None, T, refl, sym, ap, ap₂, slice_get, subst, ◌∙◌, arith, eqb-true, Ordering, Less, Equal, Greater}
 use Rattle.std.specs.Prelude.{IsSome}
 use Rattle.lfs_lookup.proofs.Common.{option_and_then, option_map, option_map_or, AllByRecursion, ne_eqb, same_Some, Name, name_cmp, same_name, is_less, Slot, PairContent, is_superblock, is_superblock_kind, RawSlot, RawContent, complete_content, complete_slot, complete_slots, slot_of_id, kind_of_type, decoded_struct, superblock_first, IsAllowedPart, AllowedIfAny, IsFormedSlot, AreWellFormed, IsWellFormed, complete_parts, completed_parts, entry_slots, HasName, FirstIsGreater, BelongsAtId, IsAbsentExcept}

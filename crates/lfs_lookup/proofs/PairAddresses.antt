@@ -26,7 +26,7 @@ next_apart ps index d below distinct =
     subst (λ xs. IsDistinct nat_eq (blocks_of_addresses xs)) (sym (next_added ps index d below))
     (distinct_from_once (blocks_of_addresses (pairs_addresses (take (index + 1) ps))) (λ b. let o = once_from_distinct (pairs_blocks ps) distinct b in let n = first_count b (index + 1) ps in omega arith))
 
--- ---- the place of an address is the number of its pair
+-- ---- the list index of an address is the index of its pair
 
 begins_from : (ps : List Pair) (at a : ℕ × ℕ) (i : ℕ) (o : Option Pair) → slice_get ps i ≡ o → option_map (λ (p : Pair). p.at) o ≡ Some a → same_pair a at ≡ true → IsPairAt ps at i
 begins_from ps at a i None is f same = absurd (cc)

@@ -147,7 +147,7 @@ fits_more disk root ps n h f i l = go (below_or_not i n)
         let same : n ≡ i = omega (arith, a, l) in
         subst (λ k. IsWritablePair disk.profile disk.block_size disk.page (follows_tail_at root ps k) (slice_index_or ps k empty_anchor).content) same f
 
--- ---- which of two answers is told
+-- ---- which of two breaches is reported
 
 at_some : (N : Type 0) (S : ProfileBreach → Type 0) (o : Option ProfileBreach) (b : ProfileBreach) → o ≡ Some b → MatchOption o N S → S b
 at_some N S o b e h = subst (λ x. MatchOption x N S) e h

@@ -1,4 +1,4 @@
--- The root directory's entries stand in the pairs that hard tails join from the first pair of the thread on.
+-- The root directory's entries are in the pairs along hard tails from the first pair of the thread on.
 use Rattle.std.proofs.Common.{ℕ, zero, suc, ◌≡◌, ◌<◌, ◌+◌, ◌∙◌, Bool, true, false, cond, not, ◌&&◌, ◌==◌, List, [], ◌∷◌, ◌++◌, length, map, filter, flat_map, drop, remove, slice_get, Some, refl, sym, ap, subst, arith}
 use Rattle.std.proofs.lemmas.Bool.{and_parts}
 use Rattle.lfs_lookup.proofs.Common.{Disk, Slot, Gstate, is_superblock, same_pair, Pair, pairs_from_root, pairs_gstate, has_no_entry, is_hard_tail, chain_may_continue, has_superblock, root_address, count_before_root, unmoved_entries, IsPairAt, IsAccepted, all_entries, led_directory, named_struct, joined_pairs, pair_entries_from, LeadsToPair}

@@ -1,4 +1,4 @@
--- A search along all pairs of a directory, where a slot may be passed over.
+-- A search along all pairs of a directory that may skip a slot.
 use Rattle.std.proofs.Common.{ℕ, zero, suc, ◌≡◌, ◌<◌, ◌+◌, false, List, [], ◌∷◌, ◌++◌, length, drop, Option, refl, sym, ap, subst, ◌∙◌, arith, append_assoc, length-append, get_or}
 use Rattle.lfs_lookup.proofs.Common.{IsDirectoryPair, HasHardTail, Name, Pair, is_hard_tail, each_append, IsAbsent, IsAbsentExcept, IsNameAt, HasNameUnskipped, skipped_id}
 use Rattle.lfs_lookup.specs.declared.entry.FileOrDirectory.{FileOrDirectory}
@@ -47,7 +47,7 @@ reached_next ps first index q d r hard below = go r.rest r.behind
           };
         })
 
--- it stands here
+-- it is in this pair
 pub shown_here : (ps : List Pair) (moved : Option SlotPosition) (first : ℕ) (name : Name) (spot : SlotPosition) (q : Pair) (entry : FileOrDirectory) → LeadsFromFresh ps first spot.pair q
     → HasNameUnskipped (skipped_id moved spot.pair) q.content.slots name spot.id entry → IsNameAt ps moved first name spot entry
 shown_here ps moved first name spot q entry r s = record { stands = record { pair = q; rest = r.rest; place = r.behind; stands = s.stands }; shows = s.shows; kept = s.kept }

@@ -1,4 +1,4 @@
--- What a look-up says of what is shown at a path.
+-- The result of a look-up, as a finding.
 use Rattle.std.proofs.Common.{ℕ, ◌≡◌, ◌<◌, ◌≤◌, ◌+◌, ◌∙◌, Bool, nat_lt, List, [], ◌∷◌, ◌++◌, length, drop, map, Option, Some, None, Ok, Err, option_map, sym, ap, subst, arith}
 use Rattle.std.specs.Prelude.{IfOk, IfSome, Result, sum_by}
 use Rattle.lfs_lookup.proofs.Common.{length-map, sum_by-append, sum_by-cons, AreByteBlocks, sorted_names, directory_pair_count, ancestor_paths, items_at, node_file_size, joined_count, Name, parents_refusal, slot_of, Gstate, Slot, Struct, Pair, pairs_gstate, count_before_root, Path, names_at, struct_node, directory_names, IsAccepted, struct_list_bytes, all_entries, disk_tree, run_length_is, KeptThread, IsLookupResult, IsStorage, IsFoundNode, IsPermutation, AreShorterFirst, NamedStruct, named_struct, AreInLimits, name_and_size, joined_count_from, pair_entries_from, LeadsToPair, IsUnhiddenResult, HidesOnlySlot}
@@ -39,7 +39,7 @@ shows_at t names path g moved (Ok x) e is hides shows = record {
 }
 shows_at t names path g moved (Err x) e is hides shows = tt
 
--- inline bytes stand in the entry
+-- inline bytes are in the entry
 pub in_entry : (t : KeptThread) (path : Path) (s : VisiblePathLookup) → IsLookupResult t path s → FoundInlineFits s
 in_entry t path shown.Root h = tt
 in_entry t path (shown.Directory spot first) h = tt
@@ -99,7 +99,7 @@ module _ (t : KeptThread) (path : Path) (ok : IsAccepted t.disk t.pairs) where
       let k = ap (λ ps. joined_count (drop first ps)) e ∙ run_length_is t.disk t.pairs path on.at first ok on.leads on.begins in
       omega (arith, k)
 
-  -- ---- what stands there
+  -- ---- the entry at the path
 
   pub has_beneath : (now : List Pair) (from : Option ℕ) (has : Bool) → now ≡ t.pairs → IsFirstAt t path from → has ≡ has_entries_from now from → has ≡ has_entry_beneath (disk_tree t.disk t.pairs) path
   has_beneath now None has e h k = k ∙ ap (λ (z : List Name). nat_lt 0 (length z)) (sym h)

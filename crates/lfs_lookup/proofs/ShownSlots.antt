@@ -1,4 +1,4 @@
--- What a search that passes over a moved slot says of an accepted image.
+-- A search that skips a moved slot, in an accepted image.
 use Rattle.std.proofs.Common.{ℕ, zero, suc, ◌≡◌, ◌+◌, ◌==◌, ◌&&◌, Bool, true, false, cond, not, List, [], ◌∷◌, ◌++◌, length, drop, Option, Some, None, refl, sym, ap, ap₂, subst, ◌∙◌, arith, append_assoc, length-append, slice_get, filter, flat_map, remove, take, nat_eq}
 use Rattle.std.specs.List.{IsDistinct}
 use Rattle.lfs_lookup.proofs.Common.{option_and_then, same_Some, Disk, IsPairAt, IsDirectoryPair, Name, slot_of, Slot, Gstate, is_superblock, same_pair, Pair, pairs_gstate, unmoved_entries, pairs_blocks, pair_directories, pairs_from_root, directory_slots, root_address, count_before_root, moved_id, Path, entry_named, root_slot, IsAccepted, LeadsTo, all_entries, Each, each_append, listing, IsRun, run_directories, Apart, distinct_apart, distinct_right, entries_own, slot_there, begins_directory, HasDirectory, chain_of_thread, HidesOnlySlot, IsAbsent, IsAbsentExcept, IsNameAt, skipped_id}

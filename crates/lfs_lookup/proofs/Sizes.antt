@@ -1,4 +1,4 @@
--- The walk ends: there are no more levels of directories than pairs, so what stands beneath a directory can be counted.
+-- The walk ends: there are no more levels of directories than pairs, so the entries beneath a directory can be counted.
 use Rattle.std.proofs.Common.{ℕ, zero, suc, ◌≡◌, ◌<◌, ◌≤◌, ◌+◌, ◌∙◌, true, false, nat_eq, eqb-true, List, [], ◌∷◌, ◌++◌, length, map, reverse, Option, Some, None, option_and_then, refl, sym, ap, ap₂, subst, arith, length-append, ⊎_elim}
 use Rattle.std.specs.List.{IsDistinct, list_any, sum_by}
 use Rattle.lfs_lookup.proofs.Common.{false_from_ne_true, append-nil, reverse-append, sum_by-cons, same_Some, Disk, Name, Slot, Struct, Inline, Ctz, Branch, same_pair, Pair, root_address, Path, EntryMap, branch_address, entry_named, root_slot, slot_at_path, IsPairAt, slot_of, IsAccepted, LeadsTo, all_entries, Each, each_weaker, pair_back, pair_on, walk_append, PushesEntriesBelow, PathStruct}
@@ -11,7 +11,7 @@ use Rattle.lfs_lookup.proofs.ByName.{AreRows}
 use Rattle.lfs_lookup.proofs.Directories.{begins_with, within}
 use Rattle.lfs_lookup.proofs.Visits.{IsNext, IsVisit, Visit, below, child, children, children_visited, each_both, leads_to, place_at, pushed_children}
 
--- ---- how deep directories stand
+-- ---- the depth of directories
 
 -- a path that goes on leads somewhere on its way
 leads_before : (E : EntryMap) (s : Slot) (p : Path) (n : Name) (r : Path) (a : ℕ × ℕ) → address_from_slot E s (p ++ n ∷ r) ≡ Some a → (y : ℕ × ℕ) × (address_from_slot E s p ≡ Some y)
@@ -93,7 +93,7 @@ few_names disk ps path a ok leads =
     let few = length-le_from_distinct_below s.numbers (length ps) s.distinct (below_any (length ps) s.numbers (each_weaker (IsStop ps 0) (λ x. x < length ps) (λ m t. within ps t.at m t.begins) s.numbers s.each)) in
     omega arith
 
--- ---- how many entries stand beneath one
+-- ---- how many entries are beneath one
 
 abbrev pub total : (Slot → ℕ) → List Slot → ℕ
 total f [] = 0

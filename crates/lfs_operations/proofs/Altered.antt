@@ -1,4 +1,4 @@
--- A pair that gets more slots or fewer, or is cut, doesn't stay with what it held.
+-- A pair that gets more slots or fewer, or is split, counts as changed.
 use Rattle.lfs_operations.proofs.Common.{ℕ, zero, suc, ◌≡◌, ◌≢◌, ◌⊎◌, inl, inr, ◌+◌, true, false, List, [], ◌∷◌, ◌++◌, length, Option, Some, refl, sym, ap, subst, ◌∙◌, arith, append-nil, append_assoc, length-append, IsDistinct, same_Some, Disk, Slot, same_pair, AreLinked, Pair, anchor_address, pairs_blocks, tail_target, IsAccepted, pair_with_slots, Became, IsCommit, Each, pair_itself, avoids_behind, avoids_front, all_slots, AnyByRecursion, Site, among_parts, thread_at, Contains}
 use Rattle.std.proofs.Common.{nat_eq}
 

@@ -1,4 +1,4 @@
--- What the steps of a rename across pairs leave with what it held.
+-- The pairs that the steps of a rename across pairs leave as they were.
 use Rattle.lfs_operations.proofs.Common.{ℕ, ◌≡◌, ◌-◌, ◌<◌, ◌≤◌, ◌⊎◌, inl, Bool, true, false, List, [], ◌∷◌, ◌++◌, length, None, refl, sym, ap, subst, ◌∙◌, arith, append_assoc, IsFree, ContentChange, Name, pair_with_slots, Slot, gstate_xor, Pair, pairs_blocks, address_blocks, Path, IsAccepted, all_unmoved_slots, used_blocks, SameSlots, Each, number_occurrences, count_append, count_here, once_from_distinct, AnyByRecursion, Site, among_right, dirs_at, file_blocks, two, KeptThread, thread_pair, Contains, IsTouchedBlock, IsPairTouched, HasEndedMoveAt, gstate_naming, CanEndAfterPut, number_after_insertion}
 use Rattle.lfs_model.proofs.BlockSets.{Contains-head, Contains-tail}
 use Rattle.lfs_operations.proofs.AlteredBehind.{entered_alters, gone_alters}
@@ -9,7 +9,7 @@ use Rattle.lfs_model.proofs.UsedCounts.{not_used}
 
 -- ---- the pair of the new slot
 
--- a pair stands there, and those of its second half
+-- a pair is there, and those of its second half
 record IsWithin (xs : List Pair) (q : Pair) (more : List Pair) : Type 0 where
   before : List Pair
   behind : List Pair
@@ -37,7 +37,7 @@ module _ {t : KeptThread} {sync : Bool} {old_pair : ℕ} {goes : Bool} {new_pair
   place : IsWithin (w.chain ++ two a.b a.front left.os a.mid (x.q ∷ x.more) a.back) x.q x.more
   place = within_two a.b w.chain a.front left.os a.mid x.q x.more a.back
 
-  -- it has one slot more, or is cut
+  -- it has one slot more, or is split
   pub moved_alters : IsPairTouched t new_pair last
   moved_alters has = entered_alters t last t.disk p (pair_with_slots (l ++ v ∷ r) p) x.q x.more place.before place.behind l r v k.ready.accepted
       (last_taken k mid x last e).follows.accepted

@@ -1,4 +1,4 @@
--- Pairs that don't stay with what they held, as tails and slots tell.
+-- Pairs that are changed or dropped, from their tails and slots.
 use Rattle.lfs_operations.proofs.Common.{ℕ, ◌≡◌, ◌+◌, ◌-◌, ◌<◌, ◌≤◌, inl, inr, nat_eq, List, [], ◌∷◌, ◌++◌, length, Option, Some, refl, sym, ap, subst, ◌∙◌, arith, append-nil, length-append, IsDistinct, same_Some, Disk, Slot, AreLinked, Pair, anchor_address, pairs_blocks, tail_target, address_blocks, IsAccepted, SameSlots, Became, number_occurrences, count_append, count_here, AnyByRecursion, all_slots, KeptThread, thread_pair, Contains, IsPairTouched}
 use Rattle.lfs_operations.proofs.Altered.{among_contains, links_behind, only_there}
 use Rattle.lfs_operations.proofs.DroppedTails.{front_is, gone_is, two_at}
@@ -67,13 +67,13 @@ names_next t front low links =
     ap (λ (z : Pair). tail_target z.content.tail) (front_is t front two.ahead two.one two.other two.back two.is two.number) ∙ k.1.0
     ∙ ap (λ (z : Pair). Some z.at) (sym (gone_is t front two.ahead two.one two.other two.back two.is two.number))
 
--- the pair behind it is gone
+-- the pair behind it was dropped
 pub gone_alters : (t new : KeptThread) (index : ℕ) → 0 < index → index < length t.pairs → IsAccepted t.disk t.pairs → IsAccepted new.disk new.pairs → number_occurrences (thread_pair t index).at.0 (pairs_blocks new.pairs) ≡ 0 → IsPairTouched t (index - 1) new
 gone_alters t new index some low ok now none =
     let same : index - 1 + 1 ≡ index = omega (arith, some) in
     tail_goes t new (index - 1) (thread_pair t index).at (names_next t (index - 1) (omega (arith, some, low)) ok.thread.links ∙ ap (λ (i : ℕ). Some (thread_pair t i).at) same) now.thread.links none
 
--- ---- a pair has another slot, or is cut
+-- ---- a pair has another slot, or is split
 
 -- what stands where that pair did
 record IsSplitAt (q : Pair) (ys rs : List Pair) : Type 0 where

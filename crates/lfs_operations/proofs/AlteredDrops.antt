@@ -1,4 +1,4 @@
--- A pair that is dropped: no block of it is in the thread any more, and the pair in front of it doesn't stay with what it held.
+-- A pair that is dropped: no block of it is in the thread any more, and the pair in front of it is changed or dropped.
 use Rattle.lfs_operations.proofs.Common.{refl, ℕ, ◌≡◌, ◌+◌, ◌-◌, ◌≤◌, [], ◌∷◌, Some, ap, ◌∙◌, arith, Gstate, AreLinked, Pair, anchor_address, pairs_blocks, address_blocks, number_occurrences, count_here, once_from_distinct, KeptThread, thread_pair, IsPairTouched, CanDropAt, IsPairDropped, content_after_drop}
 use Rattle.lfs_model.proofs.WithoutPair.{blocks_dropped}
 use Rattle.lfs_operations.proofs.DroppedTails.{gone_is, two_at, without_is}
@@ -19,7 +19,7 @@ fewer_blocks t index state new can d b =
     let e = blocks_dropped two.ahead two.one two.other q two.back refl b in
     omega (arith, now, was, gone, e)
 
--- so the pair in front of it doesn't stay with what it held, nor after another step that takes no block
+-- so the pair in front of it is changed or dropped, also after another step that allocates no block
 pub drop_alters : (t : KeptThread) (index : ℕ) (state : Gstate) (m : KeptThread) → CanDropAt t index state → IsPairDropped t (index - 1) state m
     → (new : KeptThread) → AreLinked (Some anchor_address) new.pairs → ((b : ℕ) → number_occurrences b (pairs_blocks new.pairs) ≤ number_occurrences b (pairs_blocks m.pairs)) → IsPairTouched t (index - 1) new
 drop_alters t index state m can d new links fewer =

@@ -1,4 +1,4 @@
--- What a rename across pairs onto a directory leaves with what it held.
+-- The pairs that a rename across pairs over a directory leaves as they were.
 use Rattle.lfs_operations.proofs.Common.{ℕ, ◌-◌, ◌<◌, ◌≤◌, ◌⊎◌, inl, inr, true, ◌∷◌, ◌++◌, arith, cases_lt, IsFree, IsPairAt, Name, zero_gstate, pairs_blocks, address_blocks, Contains-number_occurrences, number_occurrences-Contains, number_occurrences, count_append, each_counted, KeptThread, ChangesThreadBlocks, empty_anchor, thread_pair, Contains, WritesTouchedFree, IsPairDropped, WritesPairsTwo, second_step_pair, CanReplaceDirectoryAcross, IsMovedAcross, Route, route_blocks}
 use Rattle.lfs_operations.proofs.AlteredAcross.{each_known}
 use Rattle.lfs_operations.proofs.AlteredLater.{onto_known}

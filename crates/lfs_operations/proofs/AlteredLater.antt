@@ -1,4 +1,4 @@
--- What a rename across pairs leaves with what it held.
+-- The pairs that a rename across pairs leaves as they were.
 use Rattle.lfs_operations.proofs.Common.{ℕ, ◌≡◌, ◌-◌, ◌<◌, ◌≤◌, inl, inr, Bool, false, true, List, ◌∷◌, length, Option, subst, arith, Name, Pair, Path, Site, Slot, used_blocks, IsAccepted, Contains-number_occurrences, number_occurrences-Contains, number_occurrences, count_append, KeptThread, thread_pair, address_blocks, addresses_blocks, Contains, WritesTouchedFree, HasEndedMoveAt, CanEndAfterPut, ArePutAndEnded, WritesPairsTwo, second_step_pair, number_after_insertion, CanEditIn, moving_changes, CanMoveAcross, IsMovedAcross, route_blocks, drops_emptied_pair, refl, IsFree, Each, each_weaker, ending_written_pair, Route}
 use Rattle.lfs_operations.proofs.AlteredAcross.{IsKnown, ended_alters, each_known}
 use Rattle.lfs_operations.proofs.Held.{below}
@@ -23,7 +23,7 @@ module _ {t m : KeptThread} {route : Route} {name : Name} {replaces sync : Bool}
     (begins : old.first ≡ route.first) (a : IsAimed replaces sync t route name old path w p l target r) (is : ArePutAndEnded t route.old_pair route.old_id (drops_emptied_pair t route.old_pair route.first) route.new_pair (moving_changes replaces sync t route name) m)
     {new : KeptThread} (now : IsAccepted new.disk new.pairs) (fewer : (b : ℕ) → number_occurrences b (used_blocks new.disk new.pairs) ≤ number_occurrences b (used_blocks m.disk m.pairs))
     (bs : List ℕ) (within : (b : ℕ) → Contains (address_blocks (thread_pair t route.old_pair).at) b → Contains bs b) (entered : (b : ℕ) → Contains (address_blocks (thread_pair t route.new_pair).at) b → IsKnown t new bs b) where
-  -- the pair in front of the old one doesn't stay, where the old one is dropped
+  -- the pair before the old one is changed if the old one is dropped
   front_known : (b : ℕ) → Contains (address_blocks (thread_pair t (second_step_pair t route.old_pair route.first)).at) b → IsKnown t new bs b
   front_known b = go (drops_emptied_pair t route.old_pair route.first) refl
     where

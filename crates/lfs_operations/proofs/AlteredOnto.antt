@@ -1,4 +1,4 @@
--- What the last step of a rename onto a directory leaves with what it held: the directory's pair goes.
+-- The pairs that the last step of a rename over a directory leaves as they were; it drops the directory's pair.
 use Rattle.lfs_operations.proofs.Common.{ℕ, zero, suc, ◌≡◌, ◌+◌, ◌-◌, ◌<◌, ◌≤◌, ◌⊎◌, inl, inr, List, [], ◌∷◌, ◌++◌, length, Some, refl, sym, ap, subst, ◌∙◌, arith, get_or, cases_lt, IsFree, all_unmoved_slots, used_blocks, zero_gstate, Pair, anchor_address, pairs_blocks, tail_target, address_blocks, addresses_blocks, Tree, IsAccepted, Contains-number_occurrences, number_occurrences-Contains, number_occurrences, count_append, count_here, once_from_distinct, AnyByRecursion, among_right, file_blocks, KeptThread, ChangesThreadBlocks, empty_anchor, thread_pair, PathAddresses, Contains, WritesTouchedFree, IsPairTouched, IsPairDropped}
 use Rattle.lfs_operations.proofs.Altered.{among_contains}
 use Rattle.lfs_operations.proofs.AlteredAcross.{IsKnown, each_known}

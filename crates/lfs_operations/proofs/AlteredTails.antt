@@ -1,4 +1,4 @@
--- A pair whose tail named a pair that goes, or names one that comes, doesn't stay with what it held.
+-- A pair whose tail named a dropped pair, or names a new one, is changed or dropped.
 use Rattle.lfs_operations.proofs.Common.{ℕ, ◌≡◌, ◌⊎◌, inl, inr, true, false, nat_eq, List, [], ◌∷◌, ◌++◌, Some, sym, ap, subst, ◌∙◌, arith, IsDistinct, AreUsed, IsFree, all_unmoved_slots, used_blocks, AreLinked, Pair, anchor_address, pairs_blocks, is_hard_tail, tail_target, count_append, AnyByRecursion, file_blocks, KeptThread, Contains, IsReadyImage}
 use Rattle.lfs_operations.proofs.Altered.{only_there}
 use Rattle.lfs_model.proofs.UsedCounts.{not_used}

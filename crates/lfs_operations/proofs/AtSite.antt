@@ -1,8 +1,8 @@
--- What holds of pairs at a site, and of those that come in their place.
+-- Properties of pairs at a site, and of those that replace them.
 use Rattle.lfs_operations.proofs.Common.{ℕ, ◌≡◌, ◌+◌, ◌∙◌, sym, length, length-append, HasSite, KeptThread, thread_pair, List, [], ◌∷◌, ◌++◌, inl, inr, ⊎_elim, Pair, Each, each_right, AnyByRecursion, Site, among_left, among_parts, among_right, dirs_at, thread_at}
 use Rattle.lfs_operations.proofs.Threads.{pair_is}
 
--- what holds of each pair holds of those at a site, and of those behind them
+-- a property of each pair is one of those at a site, and of those behind them
 pub each_from : (P : Pair → Type 0) (w : Site) (ps : List Pair) → Each P (thread_at w ps) → Each P (ps ++ (w.right ++ w.after))
 each_from P w ps h = each_right P (w.before ++ w.left) (ps ++ (w.right ++ w.after)) (each_right P w.chain (dirs_at w ps) h)
 
@@ -11,7 +11,7 @@ among_behind P [] ys zs f h = f h
 among_behind P (x ∷ xs) ys zs f (inl h) = inl h
 among_behind P (x ∷ xs) ys zs f (inr h) = inr (among_behind P xs ys zs f h)
 
--- what holds of one still does, where others come in place of those at the site
+-- a property of some pair still holds if others replace those at the site
 pub among_turned : (P : Pair → Type 0) (w : Site) (ps qs : List Pair) → (AnyByRecursion P ps → AnyByRecursion P qs) → AnyByRecursion P (thread_at w ps) → AnyByRecursion P (thread_at w qs)
 among_turned P w ps qs f h = among_behind P w.chain (dirs_at w ps) (dirs_at w qs) (λ a. among_behind P (w.before ++ w.left) (ps ++ (w.right ++ w.after)) (qs ++ (w.right ++ w.after)) front a) h
   where

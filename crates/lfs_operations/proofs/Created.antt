@@ -1,4 +1,4 @@
--- A file that comes, as a step of the thread.
+-- The creation of a file, as a step of the thread.
 use Rattle.lfs_operations.proofs.Common.{ℕ, ◌≡◌, ◌≤◌, List, [], ◌∷◌, ◌++◌, length, refl, sym, ap, ap₂, subst, ◌∙◌, arith, length-append, insert, ne_eqb, tree_creating, file_name_type, Disk, CallEvent, BelongsAt, IsAllowedPart, Name, SurvivesLossSince, Slot, path_or_root, Pair, pairs_blocks, Session, Tree, FileNode, IsAccepted, all_entries, disk_tree, IsChangedImage, CompletesOperation, no_move_from, recovered_from, commit_step, does_nothing, nothing_there, place_at, insert_here, IsPlace, some_filled, site, place_of_belongs, Site, thread_at, tag_type-make_tag, tag_length-make_tag, CleanLossLeaves, KeptThread, Contains, file_comes, create_completed, IsPairTouched, CanPut, LeftByPut, ArePut, CanCreateIn, IsFileCreated, creation_changes, tree_with_file}
 use Rattle.lfs_model.specs.format.EntryTypes.{inline_type}
 use Rattle.lfs_model.specs.session.Operations as ops
@@ -118,7 +118,7 @@ module _ (t : KeptThread) (index id : ℕ) (name : Name) (can : CanCreateIn t in
                 (subst (λ x. CompletesOperation t.disk (thread_at w (p ∷ [])) z (ops.Open given flags) new.disk x) (sym s.pairs) (done z given flags tree is_path));
           }
 
-  -- the pair has one slot more, or is cut
+  -- the pair has one slot more, or is split
   pub alters : (new : KeptThread) → ArePut t index (creation_changes id name) new → IsPairTouched t index new
   alters new is has = go (put_step t index (creation_changes id name) w p b.left [] (u ∷ []) b.right [] [] splicing new is)
     where

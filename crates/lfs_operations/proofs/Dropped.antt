@@ -172,7 +172,7 @@ module _ {t : KeptThread} {index : ℕ} {state : Gstate} {w : Site} {x o : Pair}
       → IsDevice t.disk disk (thread_at w (x ∷ o ∷ [])) (thread_at w (record { at = x.at; content = content_after_drop t (index - 1) state } ∷ []))
   device_left disk written = subst₂ (IsDevice t.disk disk) (sym (grouped (x ∷ o ∷ []))) (sym (grouped (pair_left ∷ []))) (device_grouped disk written)
 
-  -- a stop leaves the pairs as they were, or without that one
+  -- a power loss leaves the pairs as they were, or without that one
   pub left_dropped : {before after : Tree} → (disk_tree t.disk t.pairs ≡ before) ⊎ (disk_tree t.disk t.pairs ≡ after)
       → ((disk : Disk) → IsPairWritten t (index - 1) (content_after_drop t (index - 1) state) disk → HasEitherTree disk before after)
       → (left : Blocks) → LeftByDrop t (index - 1) state left → HasEitherTree (with_blocks left t.disk) before after

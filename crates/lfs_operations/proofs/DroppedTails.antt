@@ -1,4 +1,4 @@
--- What a pair that goes leaves to the one in front of it, as changes of that one.
+-- The tail and the delta that a dropped pair leaves to the one before it, as changes of that one.
 use Rattle.lfs_operations.proofs.Common.{ℕ, zero, suc, ◌≡◌, ◌+◌, ◌<◌, false, cond, inl, inr, ◌⊎◌, List, [], ◌∷◌, ◌++◌, length, Option, Some, None, refl, sym, ap, ap₂, subst, ◌∙◌, arith, get_or, set, remove, xor_lt, same_Some, Blocks, PutMove, PutTail, content_with_changes, RawContent, complete_content, content_at, raw_content, Disk, MoveStateFits, PairContent, FitsInPair, Gstate, Tail, gstate_xor, zero_gstate, Pair, pairs_gstate, tail_target, completed_from, completed_parts, Each, each_right, each_weaker, Does, does_first, does_nothing, puts_move, puts_tail, gstate_assoc, gstate_comm, gstate_cons, gstate_moved, gstate_right, gstate_self, KeptThread, CanDropNext, IsNextDropped, LossLeavesPair, RefusesChanges, IsPairWritten, complete_after, empty_anchor, thread_pair, tail_change, pairs_with_content, option_and_then, AreByteBlocks, IsAllowedTail, ends_tail, IsPairDropped, LeftByDrop, delta_after_drop, tail_after_drop, tail_past_drop, dropping_changes, content_after_drop, append_assoc, length-append, recursion_from_All, ◌-◌, CanDropAt, ContentChange}
 use Rattle.lfs_operations.proofs.Held.{completes_to}
 use Rattle.lfs_model.proofs.PairLists.{get_at, set_at}

@@ -9,7 +9,7 @@ use Rattle.lfs_operations.proofs.Stepped.{ready_again}
 use Rattle.lfs_model.specs.tree.Tree.{Node}
 use Rattle.lfs_operations.specs.Editing.{HasAttributesChanged}
 
--- the change gives the slot at the id those attributes
+-- the change sets the attributes of the slot with the id
 abbrev pub ChangesAttributes : ContentChange → ℕ → (Attributes → Attributes) → Type 0
 ChangesAttributes change id f = Makes change id (λ s. record s { attributes = f s.attributes })
 
@@ -77,7 +77,7 @@ module _ (t : KeptThread) (index id kind : ℕ) (bytes : List ℕ) (low : kind <
       → SurvivesLossSince t.disk t.history new (disk_tree t.disk t.pairs) (tree_setting_attributes t set.can.path set.can.name (attributes_with kind bytes))
   set_survives new stops = edit_survives set.can (attributes_with kind bytes) change set_does set.fits new stops
 
--- ---- an attribute goes
+-- ---- an attribute is removed
 
 module _ (t : KeptThread) (index id kind : ℕ) (low : kind < 2 ^ 8) (can : CanEditIn t index id) where
   abbrev change_back : ContentChange
@@ -86,7 +86,7 @@ module _ (t : KeptThread) (index id kind : ℕ) (low : kind < 2 ^ 8) (can : CanE
   remove_does : ChangesAttributes (RemoveAttribute id kind) id (attributes_without kind)
   remove_does c small named = removes_attribute c id kind small (omega arith) named
 
-  -- the entry takes no more than it did
+  -- the entry uses no more bytes than before
   still_fits : IsWritableEntry t.disk.profile t.disk.block_size t.disk.page (record (editable_slot can) { attributes = attributes_without kind (editable_slot can).attributes })
   still_fits = record {
     charge = let e = (fits_was can).charge in let n = fewer_attributes kind (editable_slot can).attributes in omega arith;

@@ -1,4 +1,4 @@
--- A step that writes one pair and two free blocks: what is on the device then, and that the image stays where the pair does.
+-- A step that writes one pair and two free blocks: the device afterwards, and that the image stays if the pair does.
 use Rattle.std.proofs.Common.{ℕ, ◌≡◌, ◌+◌, List, [], ◌∷◌, ◌++◌, length, Some, inl, refl, sym, ap, subst, ◌∙◌, arith, ◌<◌, ◌≤◌, subst₂}
 use Rattle.std.specs.Prelude.{Contains, All}
 use Rattle.lfs_operations.proofs.Common.{All-from_recursion, Each, recursion_from_All, number_occurrences-Contains, Blocks, IsFree, IsInFlight, content_at, current_block, Disk, HasEitherTree, with_blocks, PairContent, FitsInPair, Pair, pairs_gstate, zero_gstate, BeginsWith, superblock_entry, IsAccepted, IsWritable, disk_tree, used_blocks, HasNoMove, no_move_from, Site, HasFirst, KeepsOutsideBoth, KeptThread, SameGeometryAs, HasOldPair, BeginWithSuperblock, map_using, thread_pair, KeepsSuperblockFirst, AreTwoFree, map_taking_two, SameInFlight, IsReadyImage, AreUsed, block_count, addresses_blocks, all_unmoved_slots, thread_at, AreFree, IsDevice, Tree, IsSameWritable, KeepsStruct, slot_of, ChangesThreadBlocks}

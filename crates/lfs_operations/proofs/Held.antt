@@ -1,4 +1,4 @@
--- What a pair of an accepted image holds, as its log has it.
+-- The content of a pair of an accepted image, as its log has it.
 use Rattle.lfs_model.specs.declared.limits.AcceptedVersions.{AcceptedVersions}
 use Rattle.lfs_operations.proofs.Common.{ℕ, ◌≡◌, ◌+◌, ◌<◌, false, take, drop, List, [], ◌∷◌, ◌++◌, length, Option, Some, None, refl, sym, ap, subst, ◌∙◌, arith, append_assoc, length-append, get_or, block_entries, logged, recursion_from_All, RawContent, raw_content, content_after, content_at, complete_content, current_block, empty_raw_content, Disk, IsDirectoryPair, PairContent, FitsInPair, Slot, is_superblock, BeginsWithSuperblock, IsAccepted, IsTreeEntry, take-append-drop, Pair, count_before_root, Each, each_append, each_right, each_weaker, KeptThread, thread_pair, empty_anchor, option_and_then, slice_index, All, IsRawFormed, IsReadyImage}
 

@@ -102,7 +102,7 @@ module _ {t m : KeptThread} {o : Pair} {n : ℕ} {change : Tree → Tree} {walk 
           root = h.root ∙ k.root;
         }
 
-  -- ---- at a stop
+  -- ---- at a power loss
 
   same_shape : (left : Blocks) → with_blocks left m.disk ≡ with_blocks left t.disk
   same_shape left = λ j. record { block_size = k.shape.block_size j; page = k.shape.page j; order = k.shape.order j; profile = k.shape.profile j; blocks = left }

@@ -1,4 +1,4 @@
--- What the two steps of a mkdir make of a pair.
+-- The contents of pairs after the two steps of a mkdir.
 use Rattle.lfs_operations.proofs.Common.{ℕ, ◌≡◌, ◌≢◌, ◌≤◌, ◌<◌, ◌==◌, ◌&&◌, not, Bool, true, false, cond, eqb-true, List, [], ◌∷◌, length, Option, Some, None, refl, sym, ap, ap₂, subst, ◌∙◌, arith, insert, and_parts, ne_eqb, PutMove, PutTail, content_with_changes, RawContent, raw_content, content_at, content_after, complete_content, complete_slot, has_commit, current_of_two, current_block, is_later, empty_raw_content, directory_name_type, directory_type, Disk, disk_block, charge_limit, block_entries, block_revision, AreWords, IsWellFormed, MoveStateFits, IsAllowedPart, Name, PairContent, FitsInPair, Gstate, Tail, slot_size, directory_slot, Pair, tail_target, address_bytes, IsCompleted, complete_insert, complete_length, completed_parts, completed_from, creates_with_struct, does_first, puts_move, puts_tail, slot_with, with_sync_inverted, insert_cut, logged_changed, tag_type-make_tag, tag_length-make_tag, changed_pair_content, KeptThread, thread_pair, complete_after, slice_index, option_and_then, AreByteBlocks, null_address, CanPut, threading_changes, IsRawFormed, ContentChange, PutStruct, Slot}
 use Rattle.lfs_model.specs.format.EntryTypes.{tail_if_any}
 use Rattle.lfs_model.proofs.WrittenAnew.{decoded_address-address_bytes}
@@ -105,7 +105,7 @@ module _ (t : KeptThread) (index : ℕ) (p : Pair) (here : thread_pair t index �
       ∙ completed_from (raw_threaded fresh) p.content.slots parts.slots
       ∙ ap (λ m. Some (record { slots = p.content.slots; tail = Some (record { hard = false; to = fresh }); move = m })) delta_is
 
-  -- ---- an entry comes
+  -- ---- an entry is created
 
   module _ {id kind : ℕ} {name : Name} {struct : ℕ} {bytes : List ℕ} {u : Slot} {more : List ContentChange} {move : Gstate} (e : IsNewEntry t p id kind name struct bytes u more move) where
     abbrev changes : List ContentChange
@@ -146,7 +146,7 @@ module _ (t : KeptThread) (index : ℕ) (p : Pair) (here : thread_pair t index �
           (logged_changed c.raw changes raw_now (logged c.raw c.is) enters) now_complete refl e.small e.fits;
     }
 
-  -- a directory's, and the sync bit is turned
+  -- a directory's, and the sync bit is flipped
   pub directory_entry : (id : ℕ) (name : Name) (to : ℕ × ℕ) → length name ≤ 255 → AreWords to → id ≤ length p.content.slots → FitsInPair t.disk.block_size t.disk.page p.content
       → slot_size (directory_slot name to) ≤ charge_limit t.disk.block_size t.disk.page
       → IsNewEntry t p id directory_name_type name directory_type (address_bytes to) (directory_slot name to) (PutMove (with_sync_inverted (thread_pair t index).content.move) ∷ []) (with_sync_inverted p.content.move)

@@ -1,4 +1,4 @@
--- Which blocks an image uses after a step in which no file came or went, and how many are free.
+-- The blocks that an image uses after a step that neither creates nor removes a file, and how many are free.
 use Rattle.lfs_operations.proofs.Common.{ℕ, ◌≡◌, ◌+◌, List, [], ◌∷◌, ◌++◌, refl, sym, subst, ◌∙◌, arith, length-set, set, Bool, true, false, eqb-true, eq-eqb, nat_eq, BlockStates, IsFree, IsInFlight, Free, InFlight, Used, Disk, Slot, Pair, pairs_blocks, pairs_gstate, used_blocks, slice_get-set_other, number_occurrences, HasNoMove, Site, thread_at, IsDevice, file_blocks, all_slots, map_using, AreTwoFree, HasTwoFree, map_taking_two, HasFreeBlocks}
 use Rattle.lfs_model.specs.layers.BlockSets.{is_used, state_in_flight}
 use Rattle.lfs_model.proofs.BlockSets.{count_by-set, counts_from_none_free}

@@ -1,4 +1,4 @@
--- What the steps of a mkdir tell, together.
+-- The errors of a mkdir, from those of its steps.
 use Rattle.lfs_operations.proofs.Common.{ℕ, ◌≡◌, ◌⊎◌, inl, inr, List, Result, Ok, Err, arith, refl, sym, ap, subst, ◌∙◌, BlockStates, fault_count, KeptThread, ThreadView, ThreadReportsKeepingOthers, IfErr, is_err, Error, Io, NoMemory, NoSpace, ReportsTakingCommit, has_failed_after, ReportsMaking, err_from_is_err_and}
 use Rattle.lfs_operations.proofs.Putting.{not_both, with_map, same_err}
 use Rattle.std.proofs.Common.{IsErrAnd}
@@ -47,7 +47,7 @@ makes_done old new x y result is reported = record {
   no_fault = λ other. reported.no_fault (not_both result x Io is);
 }
 
--- the second one tells, and never that there is no space
+-- the errors of the second step, never `NoSpace`
 pub reports_second : {X : Type 0} (old mid new : ThreadView) (result : Result X Error) → fault_count mid.kept.history ≡ fault_count old.kept.history → (result ≡ Err NoSpace → ⊥) → ReportsTakingCommit mid new result → ReportsMaking old new result
 reports_second {X = X} old mid new result same room reported = record {
   failed = reported.failed ∙ failing result room reported.reports.errors;

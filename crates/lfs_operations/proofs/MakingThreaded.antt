@@ -1,4 +1,5 @@
--- A fresh pair is threaded behind the last one of a directory, and the sync bit set: what that comes to, and what a stop in it leaves.
+-- A fresh pair is inserted behind the last one of a directory, and the sync bit is set: the result, and what a power loss in it
+-- leaves.
 use Rattle.lfs_operations.proofs.Common.{ℕ, ◌≡◌, ◌≢◌, ◌⊎◌, inl, inr, Bool, true, false, nat_eq, List, [], ◌∷◌, ◌++◌, length, Some, refl, sym, ap, ap₂, subst, ◌∙◌, ◌≤◌, arith, append-nil, flat_map, IsDistinct, same_Some, recursion_from_All, Blocks, SameExceptBlocks, AreUsed, content_at, current_of_two, Disk, disk_block, block_count, HasEitherTree, with_blocks, PairContent, FitsInPair, Gstate, zero_gstate, gstate_xor, same_pair, Pair, pairs_blocks, pairs_gstate, is_hard_tail, address_blocks, addresses_blocks, Path, Tree, BeginsWith, superblock_entry, IsAccepted, HasNoEmpties, IsWritable, LeadsTo, all_unmoved_slots, all_entries, struct_blocks, disk_tree, used_blocks, fits_same, last_site, threaded, number_occurrences, count_append, count_here, once_from_distinct, HasNoMove, gstate_assoc, gstate_cons, gstate_left, gstate_right, sync_bit_delta, with_sync_inverted, turned_is, shown_before, shown_behind, pair_itself, Site, begin_of, dirs_at, thread_at, IsWritableChange, beside_taken, taken_before, within_at, pairs_behind, ends_joined, KeptThread, HasOldPair, IsThreadedIn, LossLeavesThreaded, ChangesThreadBlocks, complete_after, thread_pair, map_using, ThreadedInOnDisk, KeepsSuperblockFirst, fresh_with_tail, AreTwoFree, map_taking_two, threading_changes, IsReadyImage, content_same, ◌+◌, site_gstate_moved}
 use Rattle.lfs_model.proofs.Beside.{beside_shape, other_entries, own_entries}
 use Rattle.lfs_model.proofs.Pairs.{put_at}
@@ -91,7 +92,7 @@ module _ (t : KeptThread) (ready : IsReadyImage t) (last : ℕ) (chain before le
   made_same : (c : PairContent) → complete_after t last (threading_changes t last fresh) ≡ Some c → c ≡ y.content
   made_same c m = same_Some c y.content (sym m ∙ made)
 
-  -- what is made takes no more than what the pair held
+  -- the result uses no more bytes than the pair's old content
   pub fits_now : (c : PairContent) → complete_after t last (threading_changes t last fresh) ≡ Some c → FitsInPair t.disk.block_size t.disk.page c
   fits_now c m = subst (FitsInPair t.disk.block_size t.disk.page) (sym (made_same c m)) (fits_same t.disk x y refl (within_at t.disk w x [] writable_there).pair)
 
@@ -172,7 +173,7 @@ module _ (t : KeptThread) (ready : IsReadyImage t) (last : ℕ) (chain before le
         ∙ put_at (all_entries (thread_at w (x ∷ []))) a (shown_before w x.content.slots ++ ([] ++ shown_behind w [])) a (pair_itself a)
         ∙ sym (own_entries t.disk disk chain before left after x [] y [] f (fresh.0 ∷ fresh.1 ∷ []) [] x.content.slots [] [] [] step P a leads same)
 
-    -- a stop leaves the tree from before it
+    -- a power loss leaves the tree from before it
     pub left_threading : (left_blocks : Blocks) (tree : Tree) → LossLeavesThreaded (with_map t (map_taking_two t.map fresh)) last fresh (threading_changes t last fresh) left_blocks
         → HasEitherTree (with_blocks left_blocks t.disk) (disk_tree t.disk t.pairs) tree
     left_threading blocks tree is = go is.content

@@ -1,4 +1,4 @@
--- Which blocks the two steps of a mkdir write, together.
+-- The blocks that the two steps of a mkdir write.
 use Rattle.lfs_operations.proofs.Common.{ℕ, ◌≡◌, ◌≢◌, List, [], ◌∷◌, subst, arith, All-from_recursion, recursion_from_All, IsFree, SurvivesLossSince, Tree, survives_then, each_weaker, KeptThread, ChangesThreadBlocks, thread_pair, addresses_blocks, All, WritesPairTwo, map_taking_two, WritesPairsFour, Name}
 use Rattle.lfs_operations.proofs.MakingCounts.{freed}
 use Rattle.lfs_operations.proofs.Putting.{with_map, writes_trans, writes_wider}
@@ -50,6 +50,6 @@ module _ {t : KeptThread} {index id : ℕ} {name : Name} (mk : IsMaking t index 
           (subst (λ (a : ℕ × ℕ). ChangesThreadBlocks (a.0 ∷ a.1 ∷ second.fresh) mid new) (at_still mk h) second.writes));
     }
 
-    -- a stop in either step
+    -- a power loss in either step
     pub survives_both : {before after : Tree} → SurvivesLossSince t.disk t.history mid.history before after → SurvivesLossSince t.disk mid.history new.history before after → SurvivesLossSince t.disk t.history new.history before after
     survives_both {before = before} {after = after} a b = survives_then t.disk t.history mid.history new.history before after h.writes.at_worst second.writes.at_worst a b

@@ -1,4 +1,4 @@
--- A directory that comes, as two steps of the thread.
+-- The making of a directory, as two steps of the thread.
 use Rattle.lfs_operations.proofs.Common.{ℕ, ◌≡◌, ◌+◌, ◌<◌, ◌≤◌, ◌^◌, ◌⊎◌, inl, inr, true, List, [], ◌∷◌, ◌++◌, length, Some, refl, sym, ap, ap₂, subst, ◌∙◌, arith, length-append, insert, slice_get, recursion_from_All, tree_creating, Blocks, SameExceptBlocks, IsFree, IsInFlight, Free, content_at, Disk, block_count, charge_limit, BelongsAt, AreWords, Name, HasEitherTree as IsLeftOf, with_blocks, FitsInPair, Gstate, Slot, zero_gstate, gstate_xor, same_pair, directory_slot, pair_with_slots, Pair, pairs_blocks, pairs_gstate, is_hard_tail, tail_target, count_before_root, address_blocks, addresses_blocks, DirectoryNode, IsWritableEntry, IsWritable, IsAccepted, LeadsTo, all_entries, disk_tree, Became, last_site, chain_now, InTwo, mkdir_in_two, CompletesOperation, no_move_from, recovered_from, HasNoMove, gstate_cons, gstate_self, sync_bit_delta, with_sync_inverted, turned_is, entry_small, place_at, insert_here, IsPlace, step_writable, site, place_of_belongs, AnyByRecursion, Site, among_left, among_right, begin_of, dirs_at, thread_at, IsSite, IsChain, KeptThread, IsThreadedIn, LossLeavesThreaded, ChangesThreadBlocks, thread_pair, complete_after, All, Contains, AreByteBlocks, entry_charge, IsPairTouched, AreTwoFree, CanPut, HasTwoFree, LeftByPut, ArePut, map_taking_two, AreBothTouched, CanMakeAt, HasFreeBlocks, IsDirectoryEnd, IsDirectoryMade, directory_entry_changes, threading_changes, tree_with_directory, SameGeometryAs, CallEvent, CanLinkPairAfter, CleanLossLeaves, SurvivesLossSince, PutMove, address_bytes, directory_name_type, directory_type, AreUsed, BeginWithSuperblock, ContentChange, IsStep, append-nil, became_front, became_shape, count_append, gstate_right, number_occurrences, site_gstate_moved, some_filled, superblock_first, used_blocks}
 use Rattle.lfs_model.specs.declared.limits.Profile.{Profile}
 use Rattle.lfs_model.specs.session.Operations as ops
@@ -103,7 +103,7 @@ module _ {t : KeptThread} {index id : ℕ} {name : Name} (mk : IsMaking t index 
       (λ left is. left_threading t mk.can.ready mk.last w.chain w.before way.left w.after x way.end mk.fresh mk.two made mk.can.path mk.can.at leads_here same_here left (tree_with_directory t mk.can.path name) is)
       (subst (λ (s : KeptThread). CleanLossLeaves s.history new (LossLeavesThreaded s mk.last mk.fresh (threading_changes s mk.last mk.fresh))) taken stops)
 
-  -- where there was no memory for the step
+  -- if memory for the step couldn't be allocated
   pub left_unthreaded : {s new : KeptThread} → s ≡ with_map t (map_taking_two t.map mk.fresh) → ChangesThreadBlocks (addresses_blocks (thread_pair s mk.last).at mk.fresh) s new → SameExceptBlocks (address_blocks mk.fresh) s.disk.blocks new.disk.blocks
       → IsLeftOf new.disk (disk_tree t.disk t.pairs) (tree_with_directory t mk.can.path name)
   left_unthreaded {s = s} {new = new} taken writes others = subst (λ (d : Disk). IsLeftOf d (disk_tree t.disk t.pairs) (tree_with_directory t mk.can.path name)) same_disk
@@ -116,7 +116,7 @@ module _ {t : KeptThread} {index id : ℕ} {name : Name} (mk : IsMaking t index 
       same_disk : with_blocks new.disk.blocks t.disk ≡ new.disk
       same_disk = λ j. record { block_size = sym shape.block_size j; page = sym shape.page j; order = sym shape.order j; profile = sym shape.profile j; blocks = new.disk.blocks }
 
-  -- ---- the entry comes
+  -- ---- the entry is created
 
   -- after the first step
   pub record HasLinked (m : KeptThread) : Type 0 where
@@ -269,7 +269,7 @@ module _ {t : KeptThread} {index id : ℕ} {name : Name} (mk : IsMaking t index 
 
     -- the pair became that on the disk, or that and a new one behind it
     module _ (disk : Disk) (q : Pair) (more : List Pair) (e : HasTurned m.disk v way.p2 slots move disk q more) where
-      -- the sync bit goes
+      -- the sync bit is cleared
       still_now : pairs_gstate (thread_at v (q ∷ more)) ≡ zero_gstate
       still_now = site_gstate_moved sync_bit_delta v (way.p2 ∷ []) (q ∷ more) (e.delta ∙ sym (turned_is way.p2.content.move) ∙ ap (gstate_xor sync_bit_delta) (sym (gstate_cons way.p2 [] ∙ gstate_right way.p2.content.move)))
           ∙ ap (gstate_xor sync_bit_delta) (ap pairs_gstate (sym there_now) ∙ state_is) ∙ gstate_self sync_bit_delta
@@ -406,7 +406,7 @@ module _ {t : KeptThread} {index id : ℕ} {name : Name} (mk : IsMaking t index 
                 entry has = put_alters m.disk new.disk v way.p2 e.q [] b.left [] (u ∷ []) b.right (λ k. absurd (omega arith)) e.more ok e.turned.at was e.turned.is e.turned.became
                     (subst (Contains (thread_at v (e.q ∷ e.more))) (sym h.stays) (subst (λ ps. Contains ps p) e.pairs has))
 
-    -- a stop leaves the tree from before it or from after it
+    -- a power loss leaves the tree from before it or from after it
     pub left_by_entering : (left : Blocks) → LeftByPut m index (directory_entry_changes m index id name mk.fresh) left → IsLeftOf (with_blocks left t.disk) (disk_tree t.disk t.pairs) (tree_with_directory t mk.can.path name)
     left_by_entering left is = subst (λ (d : Disk). IsLeftOf d (disk_tree t.disk t.pairs) (tree_with_directory t mk.can.path name)) same_disk
         (go (left_put m index changes v way.p2 slots move turn mapped left is))

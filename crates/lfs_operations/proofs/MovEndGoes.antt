@@ -1,4 +1,4 @@
--- The end of a set move where the pair goes with the slot, as a step of the thread.
+-- The end of a pending move that drops the pair with its slot, as a step of the thread.
 use Rattle.lfs_operations.proofs.Common.{ℕ, ◌≡◌, ◌≢◌, inl, inr, ◌-◌, true, false, List, [], ◌∷◌, ◌++◌, length, refl, sym, ap, ap₂, subst, ◌∙◌, arith, append-nil, length-append, remove, subst₂, Disk, CallEvent, MoveStateFits, SurvivesLossSince, PairContent, Gstate, Slot, same_pair, Pair, pairs_gstate, is_hard_tail, count_before_root, IsAccepted, IsWritable, all_directories, disk_tree, used_blocks, SameSlots, alike_append, alike_itself, number_occurrences, HoldsAtLosses-weaker, HasSite, site_of_number, directory_addresses, AnyByRecursion, Site, thread_at, IsWritableChange, ends_joined, CleanLossLeaves, KeptThread, IsPairWritten, thread_pair, map_freeing, CanDropAt, IsPairDropped, LeftByDrop, content_after_drop, CanEndMoveAt, HasEndedMoveAt, continues_directory, gstate_without_move}
 use Rattle.lfs_operations.proofs.Dropped.{IsToBeDropped, can_drop_pair, device_left, grouped, is, left_dropped, pairs_left, slots_left, state_left, tail_left}
 use Rattle.lfs_operations.proofs.DroppedTails.{remove_next}
@@ -139,7 +139,7 @@ module _ (t : KeptThread) (index id : ℕ) (can : CanEndMoveAt t index id true) 
         kept = λ z none soft among. subst (AnyByRecursion (λ y. y ≡ z)) (sym pairs) (still_there z none soft among);
       }
 
-  -- ---- at a stop
+  -- ---- at a power loss
 
   pub goes_survives : (new : List CallEvent) → CleanLossLeaves t.history new (LeftByDrop t (index - 1) (gstate_without_move (pairs_gstate t.pairs))) → SurvivesLossSince t.disk t.history new (disk_tree t.disk t.pairs) (disk_tree t.disk t.pairs)
   goes_survives new stops clean = HoldsAtLosses-weaker

@@ -1,4 +1,4 @@
--- The end of a set move, as a step of the thread.
+-- The end of a pending move, as a step of the thread.
 use Rattle.lfs_operations.proofs.Common.{ℕ, ◌≡◌, ◌≢◌, ◌-◌, ◌<◌, ◌⊎◌, inl, inr, true, false, take, List, [], ◌∷◌, Option, ◌++◌, length, Some, refl, sym, ap, ap₂, subst, ◌∙◌, arith, length-append, remove, subst₂, xor_lt, same_Some, recursion_from_All, Blocks, Delete, PutMove, content_with_changes, RawContent, content_at, raw_content, complete_content, Disk, CallEvent, AreWords, MoveStateFits, HasEitherTree as IsLeftOf, SurvivesLossSince, with_blocks, Slot, FitsInPair, Gstate, Tail, gstate_xor, same_pair, Pair, pairs_gstate, tail_target, count_before_root, IsAccepted, IsWritable, all_directories, disk_tree, used_blocks, SameSlots, alike_itself, IsCompleted, complete_length, complete_remove, completed_parts, completed_from, Each, number_occurrences, deletes, does_first, does_nothing, puts_move, HoldsAtLosses-weaker, HasSite, site_of_number, directory_addresses, remove_here, AnyByRecursion, Site, dirs_at, thread_at, IsWritableChange, pairs_behind, ends_joined, CleanLossLeaves, KeptThread, CanChangePair, IsPairCommitted, LossLeavesPair, RefusesChanges, BeginWithSuperblock, complete_after, thread_pair, pairs_with_content, option_and_then, CanEndMoveAt, HasEndedMoveAt, content_move_ended, ending_changes, continues_directory, gstate_without_sync, delta_without_move, gstate_without_move}
 use Rattle.lfs_operations.proofs.Held.{CompletesTo, completes_to}
 use Rattle.lfs_model.proofs.MoveEnds.{IsEnding, ended, ended_count, ended_firsts, ended_state, ended_chain, ended_leads}
@@ -201,7 +201,7 @@ module _ (t : KeptThread) (pair id : ℕ) (can : CanEndMoveAt t pair id false) (
             kept = λ z none soft among. subst (AnyByRecursion (λ y. y ≡ z)) (sym x.pairs) (still_there z none (subst (AnyByRecursion (λ y. y ≡ z)) h.is among));
           }
 
-  -- ---- at a stop
+  -- ---- at a power loss
 
   left_tree : (left : Blocks) → LossLeavesPair t pair (ending_changes t pair id) left → IsLeftOf (with_blocks left t.disk) (disk_tree t.disk t.pairs) (disk_tree t.disk t.pairs)
   left_tree left is = go (left_alone t pair (ending_changes t pair id) w p (l ++ r) move turn left is)

@@ -50,7 +50,7 @@ module _ {t mid new : KeptThread} (only : OnlyReadsThread t mid) {new_pair : ℕ
       (λ calls stops clean. HoldsAtLosses-weaker (λ blocks l. left blocks (left_earlier t mid.history only.reads new_pair changes blocks l)) (stops clean))
       (λ last is. shows last (put_earlier t mid.history only.reads new_pair changes last is)))
 
--- ---- where the entry comes
+-- ---- where the entry moves to
 
 pub address_before : {t mid : KeptThread} → OnlyReadsThread t mid → (pair : ℕ) → AreWords (thread_pair mid pair).at → AreWords (thread_pair t pair).at
 address_before {t = t} {mid = mid} only pair address = subst (λ k. AreWords (thread_pair k pair).at) (read_is t mid only) address
@@ -83,7 +83,7 @@ renamed_across {replaces = replaces} {t = t} {new = new} {route = route} {name =
     subst (IsRenamedAcross t new rename.old.path rename.old.name rename.path name) at.blocks
     (record { now = shows_moved at.aimed h.done refl; once = once_moved at.aimed h.done; completed = completed_moved at.aimed h.done refl })
 
--- ---- what it tells
+-- ---- errors
 
 only_then : (a b c : KeptThread) → OnlyReadsThread a b → OnlyReadsThread b c → OnlyReadsThread a c
 only_then a b c x y = record {

@@ -1,4 +1,4 @@
--- An entry that goes to a place in another pair, by a move that is set first.
+-- An entry that moves to another pair, by a move that is set first.
 use Rattle.lfs_operations.proofs.Common.{◌≢◌, nat_eq, Bool, ℕ, ◌≡◌, ◌+◌, ◌<◌, ◌⊎◌, inl, inr, true, false, List, [], ◌∷◌, ◌++◌, length, Some, refl, sym, ap, subst, ◌∙◌, arith, append-nil, Option, ◌-◌, ◌≤◌, IsDistinct, ContentChange, Disk, IsPairAt, Name, is_valid_name, Slot, gstate_xor, Pair, pairs_blocks, superblock_first, count_before_root, Path, tree_renaming, IsWritableEntry, slot_of, IsChangedImage, no_move_from, last_is, slot_of_stands, Site, thread_at, ends_joined, KeptThread, BeginWithSuperblock, complete_after, thread_pair, IsNoDirectory, target_slots, CanEditIn, gstate_naming, IsRawFormed, drops_emptied_pair, CanPut, ArePut, moving_changes, CanEndMoveAt, HasEndedMoveAt, CanEndAfterPut, ArePutAndEnded, number_after_insertion, tree_moved, disk_tree, ShowsDroppedTree, file_blocks, used_blocks, number_occurrences, Session, path_or_root, CompletesOperation, is_some, ap₂, subst₂, xor_lt, length-append, PutMove, FitsInPair, Gstate, MoveStateFits, AreWords, removal_changes, HasName, Route}
 use Rattle.lfs_operations.proofs.Held.{here}
 use Rattle.lfs_model.proofs.SetMoves.{HasTurned, IsSetting, chain_same, walk_by}

@@ -1,4 +1,4 @@
--- A rename across pairs to a name that is new, from where the entry stands and where the name belongs.
+-- A rename across pairs to a new name, from the entry's slot and the one at which the name belongs.
 use Rattle.lfs_operations.proofs.Common.{Bool, false, List, [], ◌∷◌, ◌++◌, length, None, refl, ap, subst, ◌∙◌, Disk, BelongsAt, AreWords, Name, gstate_xor, Pair, Path, tree_renaming, without_prefix, LeadsTo, all_entries, IsChangedImage, no_move_from, nothing_there, place_at, IsPlace, place_of_belongs, site, Site, thread_at, KeptThread, thread_pair, IsPairTouched, CanEditIn, gstate_naming, CanMoveAcross, IsMovedAcross, Route}
 use Rattle.lfs_operations.proofs.AlteredAcross.{moved_alters}
 use Rattle.lfs_model.proofs.SetMoves.{HasTurned, set_new, walk_by}
@@ -55,7 +55,7 @@ module _ (sync : Bool) (t : KeptThread) (route : Route) (name : Name) (rename : 
   pub aimed_new : IsAimed false sync t route name rename.old rename.path w p rename.target.belongs.left None rename.target.belongs.right
   aimed_new = aimed rename.begins_old aim sync address follows (nothing_there t.disk t.pairs rename.path rename.at (place_at w b.left) name rename.leads place).0 (λ e. tt)
 
--- the pair doesn't stay with what it held
+-- the pair is changed or dropped
 pub across_alters : {t : KeptThread} {route : Route} {name : Name} (rename : CanMoveAcross false false t route name) {new : KeptThread} → IsMovedAcross false false t route name new → IsPairTouched t route.new_pair new
 across_alters {t = t} {route = route} {name = name} rename {new = new} h =
     let a = aimed_new false t route name rename h.address in

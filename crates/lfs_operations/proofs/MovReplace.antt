@@ -1,4 +1,4 @@
--- A rename across pairs onto an entry, from where both stand.
+-- A rename across pairs over an entry, from the slots of both.
 use Rattle.lfs_operations.proofs.Common.{Bool, true, List, [], ◌∷◌, ◌++◌, length, Some, sym, ap, subst, ◌∙◌, Disk, IsPlaceOf, AreWords, Name, Slot, gstate_xor, Pair, Path, tree_renaming, without_prefix, LeadsTo, IsChangedImage, no_move_from, site, slot_of_stands, Site, thread_at, KeptThread, thread_pair, CanEditIn, gstate_naming, CanMoveAcross, Route}
 use Rattle.lfs_model.proofs.SetMoves.{HasTurned, set_onto, walk_by}
 use Rattle.lfs_operations.proofs.RenameMade.{name_at, site_of, stand_of}
@@ -15,7 +15,7 @@ module _ (sync : Bool) (t : KeptThread) (route : Route) (name : Name) (rename : 
   abbrev p : Pair
   p = b.pair
 
-  -- the entry that goes
+  -- the entry that is replaced
   abbrev g : Slot
   g = b.stands.slot
 

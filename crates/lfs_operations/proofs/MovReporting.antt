@@ -1,9 +1,9 @@
--- What two steps tell, one after the other, and what a stop in them leaves.
+-- The errors of two steps, one after the other, and what a stop in them leaves.
 use Rattle.lfs_operations.proofs.Common.{ℕ, zero, suc, ◌≡◌, ◌≢◌, ◌+◌, ◌-◌, ◌<◌, ◌≤◌, ◌⊎◌, inl, inr, Bool, true, false, cond, List, [], ◌∷◌, length, Result, Ok, Err, refl, sym, ap, subst, ◌∙◌, arith, get_or, insert, length-set, set, cases_lt, le-ltb, lt-ltb, ContentChange, Disk, CallEvent, AllCallsSince, fault_count, Blocks, HasEitherTree as IsLeftOf, SurvivesLossSince, with_blocks, Pair, address_blocks, disk_tree, survives_then, HoldsAtLosses-weaker, CleanLossLeaves, KeptThread, ThreadView, SameGeometryAs, IsPairCommitted, ChangesThreadBlocks, back_pair, front_pair, empty_anchor, thread_pair, IfErr, IsErrOf, is_err, Error, Io, NoMemory, NoSpace, IsSplitInto, LeftByPut, ArePut, WritesPairTwo, has_failed_after, ending_written_pair, CanEndAfterPut, SurvivesCommits, ReportsTakingCommits, WritesPairsTwo, number_after_insertion, ReportsCommit, ⊎_elim, OnlyReadsThread}
 use Rattle.lfs_operations.proofs.Putting.{writes_trans, writes_among}
 use Rattle.std.proofs.lemmas.List.Edits.{get_or-insert_above, get_or-insert_at, get_or-insert_below, length-insert}
 
--- what an operation tells that doesn't lack blocks
+-- the errors of an operation that has enough free blocks
 pub reports_spaced : {X : Type 0} (old new : ThreadView) (index : ℕ) (changes : List ContentChange) (r : Result X Error) → (new.failed ≡ has_failed_after r) ⊎ ((new.failed ≡ false) × OnlyReadsThread old.kept new.kept)
     → IfErr r (λ e. (e ≡ Io) ⊎ (e ≡ NoMemory)) → (IsErrOf r Io → fault_count old.kept.history < fault_count new.kept.history) → (¬ IsErrOf r Io → fault_count new.kept.history ≡ fault_count old.kept.history) → ReportsTakingCommits old new index changes r
 reports_spaced {X = X} old new index changes r failed errors fault no_fault = record {
@@ -61,7 +61,7 @@ get_set (x ∷ xs) zero (suc j) p d e = refl
 get_set (x ∷ xs) (suc i) zero p d e = refl
 get_set (x ∷ xs) (suc i) (suc j) p d e = get_set xs i j p d e
 
--- the number of a pair, after so many were put in behind another one
+-- the index of a pair after so many were inserted behind another one
 abbrev IsNumbered : ℕ → ℕ → ℕ → Type 0
 IsNumbered i o n = ((i < o) × (number_after_insertion i o n ≡ i)) ⊎ ((o < i) × (number_after_insertion i o n ≡ i + n))
 
@@ -133,7 +133,7 @@ writes_at_end old mid new old_pair old_id false new_pair changes put below ends 
 writes_at_end old mid new old_pair old_id true new_pair changes put below ends first second =
     writes_in_front old mid new old_pair new_pair changes below first second (numbered old_pair new_pair (length mid.pairs - length old.pairs) ends.apart) put
 
--- ---- at a stop
+-- ---- at a power loss
 
 same_disk : (old new : Disk) (blocks : Blocks) → SameGeometryAs old new → with_blocks blocks new ≡ with_blocks blocks old
 same_disk old new blocks h = λ j. record { block_size = h.block_size j; page = h.page j; order = h.order j; profile = h.profile j; blocks = blocks }

@@ -90,7 +90,7 @@ module _ {t : KeptThread} {sync : Bool} {old_pair : ℕ} {goes : Bool} {new_pair
       → IsWritableChange t.disk (thread_at w (p ∷ [])) disk (thread_at w (q ∷ more)) (tree_renaming old_path new_path) (walk_by old_path new_path)
   first_taken disk q more x = taken_by t.disk wo o lo u ro w p l (target_slots target) v r k.setting sync disk q more x (tree_renaming old_path new_path) (walk_by old_path new_path) (k.follows disk q more x)
 
-  -- ---- at a stop in the first step
+  -- ---- at a power loss in the first step
 
   pub left_tree : (left : Blocks) → LeftByPut t new_pair changes left → IsLeftOf (with_blocks left t.disk) (disk_tree t.disk t.pairs) (tree_renaming old_path new_path (disk_tree t.disk t.pairs))
   left_tree left is = go (left_put t new_pair changes w p slots move k.turn (record { used = k.ready.used; size = k.ready.size }) left is)
@@ -340,7 +340,7 @@ module _ {t : KeptThread} {sync : Bool} {old_pair : ℕ} {goes : Bool} {new_pair
         (λ h. (map_is.flying b).1 (x.stays b (λ free. absurd (let z : Some InFlight ≡ Some Free = sym h ∙ free in cc)) ∙ h)),
       )
 
-      -- the root directory begins where it did
+      -- the root directory begins with the same pair
       pub last_root : KeepsRootNumber t last
       last_root = e.root ∙ ap count_before_root mid_is ∙ mid_chain ∙ sym (ap count_before_root k.turn.there ∙ k.setting.site.chain)
 

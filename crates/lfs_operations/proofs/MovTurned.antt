@@ -8,7 +8,7 @@ use Rattle.lfs_model.proofs.SetMoves.{HasTurned}
 
 -- ---- what is known before
 
--- the two parts of a pair that is cut
+-- the two parts of a pair that is split
 abbrev pub cut_front : ℕ × ℕ → PairContent → ℕ → ℕ × ℕ → Pair
 cut_front at c cut fresh = record { at = at; content = record { slots = take cut c.slots; tail = Some (record { hard = true; to = fresh }); move = c.move } }
 
@@ -105,7 +105,7 @@ module _ (t : KeptThread) (index : ℕ) (changes : List ContentChange) (w : Site
   all_distinct : IsMapped t → (fresh : ℕ × ℕ) → AreTwoFree t.map fresh → IsDistinct nat_eq (fresh.0 ∷ fresh.1 ∷ used_blocks t.disk ps)
   all_distinct m fresh two = fresh_distinct t index w p k.there k.place m.used k.accepted.owned_once fresh two
 
-  -- ---- what it comes to
+  -- ---- the result
 
   turned_one : (disk : Disk) → IsPairWritten t index c disk → FitsInPair t.disk.block_size t.disk.page c → HasTurned t.disk w p slots move disk (record { at = p.at; content = c }) []
   turned_one disk is fits = record {
@@ -201,7 +201,7 @@ module _ (t : KeptThread) (index : ℕ) (changes : List ContentChange) (w : Site
   put_turned m new (inl is) = changed_turned new is
   put_turned m new (inr (large, (fresh, is))) = cut_turned m new fresh large is
 
-  -- ---- at a stop
+  -- ---- at a power loss
 
   abbrev pub Stays : Disk → Type 0
   Stays disk = IsDevice t.disk disk (thread_at w (p ∷ [])) (thread_at w (p ∷ []))

@@ -1,4 +1,5 @@
--- A rename across pairs onto an empty directory: where the directory's pair stands after the move, and what the last step comes to.
+-- A rename across pairs over an empty directory: the index of the directory's pair after the move, and the result of the last
+-- step.
 use Rattle.lfs_operations.proofs.Common.{ℕ, zero, suc, ◌≡◌, ◌<◌, ◌⊎◌, inl, inr, ◌-◌, Bool, true, false, cond, nat_eq, slice_get, take, List, [], ◌∷◌, ◌++◌, length, map, Some, None, sym, ap, ap₂, subst, ◌∙◌, arith, append_assoc, append-nil, refl, AllByRecursion, IsDistinct, recursion_from_All, same_Some, last_name, tree_renaming, without_prefix, Blocks, IsPairAt, IsPlaceOf, FitsPair, IsUnreachedOrRemoved, Name, HasEitherTree as IsLeftOf, with_blocks, slot_of, pair_with_slots, Branch, Ctz, Inline, Slot, Struct, gstate_xor, zero_gstate, same_pair, path_or_root, ThreadDirectory, Pair, anchor_address, pairs_blocks, pairs_from_root, first_address, pairs_gstate, root_address, count_before_root, Path, branch_address, address_at_path, HasNoEmpties, IsWritable, IsAccepted, IsReachedBySome, LeadsTo, all_directories, all_entries, disk_tree, used_blocks, SameSlots, IsChangedImage, CompletesOperation, no_move_from, recovered_from, Each, number_occurrences, count_append, each_right, each_weaker, HasDirectory, chain_of_thread, site_shows, NoneGoes, joined_parts, none_where, rest_all, entry_only, get_here, place_at, shown_before, shown_behind, some_filled, pair_itself, pair_on, last_is, Gains, Keeps, Piece, Stays, olds_of, segment_of, renamed_addresses, IsReplaced, avoids_behind, avoids_front, same, site, drafts_of, parts_of, AnyByRecursion, Site, dirs_at, thread_at, file_blocks, IsWritableChange, IsChain, pairs_behind, OldStays, from_old, two, KeptThread, empty_anchor, thread_pair, HasNoMove, Any, all_at_firsts, begins_at_firsts, CanDropAt, IsPairDropped, LeftByDrop, CanEditIn, HasEndedMoveAt, gstate_naming, ArePutAndEnded, number_after_insertion, IsRenamedAcross, tree_moved, CanReplaceDirectoryAcross, CanMoveAcross, IsMovedAcross, moving_changes, drops_emptied_pair, WritesPairsTwo, WritesThreadTwo, second_step_pair, once_from_distinct, Route}
 use Rattle.lfs_model.specs.session.TreeEdits.{same_path}
 use Rattle.lfs_model.specs.session.Layout.{branch_addresses, removed_addresses}
@@ -209,7 +210,7 @@ module _ {t : KeptThread} {route : Route} {name : Name} {gone : ℕ} (rename : C
       shape = last_shape first_step is.mid x m e;
     }
 
-    -- ---- where the slots stand
+    -- ---- the layout of the slots
 
     module _ {new : KeptThread} (d : IsPairDropped m (n - 1) zero_gstate new) where
       abbrev a : Arranged t.disk wo q0 w p x.q x.more

@@ -1,4 +1,4 @@
--- The pair of a replaced directory goes, to which no path leads any more.
+-- The pair of a replaced directory, now an orphan, is dropped.
 use Rattle.lfs_operations.proofs.Common.{ℕ, ◌≡◌, false, true, List, [], ◌∷◌, ◌++◌, Some, None, sym, ap, subst, ◌∙◌, append-nil, slice_get, same_Some, tree_renaming, without_prefix, Disk, Branch, Slot, same_pair, Pair, pairs_gstate, is_hard_tail, root_address, Path, branch_address, address_at_path, IsAccepted, IsWritable, LeadsTo, all_directories, all_entries, recovered_from, HasNoMove, renamed_addresses, IsReplaced, IsGone, IsWritableChange, IsChain, KeptThread, option_and_then, All, IsReadyImage}
 use Rattle.lfs_model.specs.tree.Tree.{address_from_slot, root_slot}
 use Rattle.lfs_model.proofs.Names.{found_at}

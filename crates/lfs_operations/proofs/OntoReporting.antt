@@ -1,4 +1,4 @@
--- What the steps of a rename onto a directory tell, write and leave, one after the other.
+-- The errors of the steps of a rename over a directory, the blocks that they write, and what a power loss in them leaves.
 use Rattle.lfs_operations.proofs.Common.{ℕ, ◌≡◌, ◌<◌, inl, false, List, Result, Ok, sym, ap, subst, ◌∙◌, fault_count, ContentChange, ThreadView, Error, has_failed_after, ReportsTakingCommits, ReportsCommit, ReportsReadCommit, ReportsReadCommits, ⊎_elim}
 
 pub over_from : {X : Type 0} (old new : ThreadView) (result : Result X Error) → ReportsReadCommit old new result → ReportsReadCommits old new result

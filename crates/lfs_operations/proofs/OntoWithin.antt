@@ -1,4 +1,4 @@
--- A rename onto an empty directory within a pair: where the directory's pair stands, and what the two steps come to.
+-- A rename over an empty directory within a pair: the index of the directory's pair, and the result of the two steps.
 use Rattle.lfs_operations.proofs.Common.{ℕ, ◌≡◌, ◌-◌, slice_get, [], ◌∷◌, ◌++◌, length, Some, None, refl, sym, ap, subst, ◌∙◌, arith, append-nil, length-append, recursion_from_All, tree_renaming, without_prefix, AreUsed, Blocks, Name, HasEitherTree as IsLeftOf, with_blocks, slot_of, pair_with_slots, Slot, gstate_xor, zero_gstate, Pair, pairs_gstate, root_address, count_before_root, Path, address_at_path, IsAccepted, IsWritable, all_unmoved_slots, all_directories, all_entries, disk_tree, used_blocks, SameSlots, fits_same, IsChangedImage, SameFiles, SameFileBlocks, CompletesOperation, no_move_from, number_occurrences, IsStep, entry_only, get_here, place_at, shown_before, shown_behind, site_shows, last_is, renamed_addresses, sibling_apart, IsReplaced, step_chain, slot_of_stands, Site, dirs_at, thread_at, file_blocks, IsWritableChange, IsChain, KeptThread, IsPairCommitted, thread_pair, sync_bit_delta, HasNoMove, some_filled, All, step_each, IsPairDropped, LeftByDrop, SameInFlight, CanEditIn, tree_renamed, CanRenameOver, CanReplaceDirectory, IsRenamedOver, replace_directory_changes, HasName}
 use Rattle.lfs_model.specs.session.Operations as ops
 use Rattle.lfs_model.proofs.RenamedWithinOnto.{IsRenameWithinOnto, within_onto_completed}
@@ -48,7 +48,7 @@ module _ (t : KeptThread) (index id place : ℕ) (name : Name) (gone : ℕ) (ren
   apart : without_prefix (can.path ++ can.name ∷ []) (can.path ++ name ∷ []) ≡ None
   apart = sibling_apart can.path can.name name over.differs
 
-  -- ---- the pair that goes
+  -- ---- the pair that is dropped
 
   held : p.content.slots ≡ onto.left ++ onto.slot ∷ onto.right
   held = target_held t index id place name can over.target over.differs over.fits

@@ -64,7 +64,7 @@ writes_of_pair t m index l w = record {
       ) w.writes;
 }
 
--- those of a pair that is changed, or cut in two
+-- those of a pair that is changed, or split in two
 pub put_within : (old mid : KeptThread) (index : ℕ) (changes : List ContentChange) → index < length old.pairs → ArePut old index changes mid → WritesPairTwo old index mid → TakesAtMostTwo old mid
 unfolding writes_of_pair
 put_within old mid index changes l (inl is) w = record {

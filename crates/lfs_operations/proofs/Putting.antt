@@ -34,7 +34,7 @@ writes_trans first second = record {
 
 -- ---- atomic steps, one after another
 
--- a step that leaves one of two trees at a stop
+-- a step that leaves one of two trees at a power loss
 pub survives_step : (disk : Disk) {old new : List CallEvent} {before after : Tree} {P : Blocks → Type 0} → ((left : Blocks) → P left → HasEitherTree (with_blocks left disk) before after) → CleanLossLeaves old new P → SurvivesLossSince disk old new before after
 survives_step disk left stops clean = HoldsAtLosses-weaker left (stops clean)
 
@@ -82,7 +82,7 @@ can_split t index fresh changes can two = record {
   cut = can.cut;
 }
 
--- ---- what it comes to
+-- ---- the result
 
 module _ (t : KeptThread) (index : ℕ) (fresh : ℕ × ℕ) (changes : List ContentChange) (two : AreTwoFree t.map fresh) where
   abbrev mid : KeptThread
@@ -114,7 +114,7 @@ module _ (t : KeptThread) (index : ℕ) (fresh : ℕ × ℕ) (changes : List Con
     writes = record { others = w.others; elsewhere = w.elsewhere; shape = w.shape; at_worst = w.at_worst };
   }
 
--- ---- what it tells
+-- ---- errors
 
 pub same_err : {A : Type 0} (a b : Error) (r : Result A Error) → r ≡ Err a → r ≡ Err b → a ≡ b
 same_err a b r h k = cc

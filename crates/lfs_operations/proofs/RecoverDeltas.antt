@@ -1,4 +1,4 @@
--- What a commit makes of a pair that sets the global state.
+-- The content of a pair after a commit that sets the global state.
 use Rattle.lfs_operations.proofs.Common.{ℕ, ◌≡◌, ◌<◌, List, [], ◌∷◌, Some, refl, sym, ap, subst, ◌∙◌, arith, get_or, length, zero, suc, same_Some, recursion_from_All, PutMove, content_with_changes, RawContent, complete_content, content_at, raw_content, MoveStateFits, FitsInPair, Gstate, gstate_xor, Pair, pairs_gstate, completed_from, completed_parts, Each, each_weaker, does_first, does_nothing, puts_move, KeptThread, CanChangePair, RefusesChanges, complete_after, empty_anchor, thread_pair, option_and_then, CanSetGstate, gstate_changes, delta_reaching_gstate, content_reaching_gstate, AreByteBlocks}
 use Rattle.lfs_operations.proofs.Held.{completes_to}
 use Rattle.lfs_operations.proofs.DroppedTails.{all_again, move_xor, moves_joined, IsWritableAgain}

@@ -106,7 +106,7 @@ module _ (old now : KeptThread) (dropped : ℕ) (u : IsUnderWay old now dropped 
       m : HasMap new u.gone
       m = map_stays now new c.alike can_end.none still geometry files u.gone c.map u.map
 
-  -- a stop in the last step leaves the tree too
+  -- a power loss in the last step leaves the tree too
   pub end_survives : (new : KeptThread) → StaysOn now new → SurvivesLossSince now.disk now.history new.history (disk_tree now.disk now.pairs) (disk_tree now.disk now.pairs)
       → SurvivesLossSince old.disk old.history new.history (disk_tree old.disk old.pairs) (disk_tree old.disk old.pairs)
   end_survives new on last = survives_behind old now new u.device on shows_now u.survives last
@@ -124,7 +124,7 @@ reports_steps old mid new e result given quiet is same t =
       no_fault = λ other. k.reported.no_fault other ∙ quiet;
     }
 
--- ---- where nothing is to be recovered
+-- ---- if nothing is to recover
 
 reported_none : (R : ℕ × ℕ → Type 0) (n : ℕ) (from : Option (ℕ × ℕ)) (xs : List Pair) (numbers : List ℕ) → NoneGoes (λ a. R a → ⊥) from xs → AreUnreachedFrom R n from xs numbers → numbers ≡ []
 reported_none R n from [] numbers h reported = reported

@@ -1,4 +1,4 @@
--- A recovery ends a set move: which pair the step is about, and what it comes to.
+-- A recovery ends a pending move: the pair of the step, and its result.
 use Rattle.lfs_operations.proofs.Common.{ℕ, ◌≡◌, ◌≢◌, ◌≤◌, ◌<◌, ◌+◌, ◌-◌, ◌⊎◌, inl, inr, ◌&&◌, ◌==◌, Bool, true, false, List, [], ◌∷◌, ◌++◌, length, take, refl, sym, ap, ap₂, subst, ◌∙◌, arith, append_assoc, length-append, eqb-true, eq-eqb, nat_lt, and_parts, cases_lt, lt-ltb, recursion_from_All, used_blocks, Pair, pairs_gstate, is_hard_tail, count_before_root, BeginsWithSuperblock, once_from_distinct, HasNoMove, HasSite, site_of_number, pair_back, ends_joined, KeptThread, thread_pair, tail_is_hard, CanEndMove, HasEndedMove, HasMovedSlot, drops_when_emptied, CanEndMoveAt, HasEndedMoveAt, continues_directory, ending_written_pair, IsRawFormed}
 use Rattle.lfs_operations.proofs.Dropped.{HasMapWithout, map_ended}
 use Rattle.lfs_operations.proofs.DroppedTails.{front_is}
@@ -106,7 +106,7 @@ module _ (t : KeptThread) (can : CanEndMove t) (index : ℕ) (m : HasMovedSlot t
     alone = alone;
   }
 
-  -- ---- what it comes to
+  -- ---- the result
 
   pub ended_at : (new : KeptThread) → HasEndedMoveAt t index (pairs_gstate t.pairs).id (drops_when_emptied t index) new → HasEndedMove t new
   ended_at new e = record {

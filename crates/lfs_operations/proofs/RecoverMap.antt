@@ -1,4 +1,4 @@
--- Which blocks the map has on the way: those of the image, and those of lists that only pairs had that are gone.
+-- The used blocks of the map during a recovery: those of the image, and those of lists that only dropped pairs named.
 use Rattle.lfs_operations.proofs.Common.{ℕ, ◌-◌, ◌≡◌, ◌+◌, ◌≤◌, List, [], ◌∷◌, ◌++◌, length, refl, sym, ap, ap₂, subst, ◌∙◌, arith, AreUsed, SameGeometry, block_count, Gstate, Pair, address_blocks, pairs_gstate, all_unmoved_slots, used_blocks, SameSlots, SameFiles, slots_files, number_occurrences, count_append, HasNoMove, Site, file_blocks, all_slots, unmoved_in, KeptThread, SameInFlight, IsPairDropped}
 use Rattle.lfs_operations.proofs.Dropped.{HasMapWithout, IsToBeDropped, map_left, map_without, used_left}
 use Rattle.lfs_operations.proofs.MovStep.{blocks_alike}
@@ -12,9 +12,9 @@ pub record HasMap (t : KeptThread) (gone : List ℕ) : Type 0 where
   pub once : (b : ℕ) → number_occurrences b owned ≤ 1
   pub size : length t.map ≡ block_count t.disk
 
--- ---- a pair goes
+-- ---- a pair is dropped
 
--- the map then has the lists of its slots beside the image's blocks
+-- the map then has the lists of its slots besides the image's blocks
 pub map_drops : {now : KeptThread} {index : ℕ} {state : Gstate} {w : Site} {before x : Pair} (k : IsToBeDropped now index state w before x) (new : KeptThread) → IsPairDropped now (index - 1) state new → HasNoMove (pairs_gstate now.pairs) → HasNoMove state
     → (gone : List ℕ) → HasMap now gone → HasMap new (gone ++ file_blocks now.disk x.content.slots) × SameInFlight now.map new.map
 map_drops {now} {index} {state} {w} {before} {x} k new d none still gone h = (

@@ -1,4 +1,4 @@
--- The pair of a thread whose slot a set move names.
+-- The pair of a thread whose slot a pending move names.
 use Rattle.lfs_operations.proofs.Common.{ℕ, suc, zero, ◌≡◌, ◌<◌, ◌≤◌, true, false, List, [], ◌∷◌, length, take, Option, Some, None, sym, ap, subst, ◌∙◌, arith, get_or, slice_get, AllByRecursion, same_Some, IsPairAt, same_pair, Pair, pairs_gstate, count_before_root, IsAccepted, set_move_kind, Each, HasNoMove, KeptThread, empty_anchor, IfNone, IfSome, HasMovedSlot}
 use Rattle.lfs_model.proofs.MovedSlot.{in_some_directory, named_at, not_nowhere}
 

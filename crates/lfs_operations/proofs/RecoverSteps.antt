@@ -1,4 +1,4 @@
--- The steps of a recovery, on the disk that they write and on those that a stop leaves.
+-- The steps of a recovery, on the disk that they write and on those that a power loss leaves.
 use Rattle.lfs_operations.proofs.Common.{ℕ, ◌≡◌, ◌<◌, ◌+◌, ◌-◌, ◌⊎◌, inl, inr, true, false, List, [], ◌∷◌, ◌++◌, length, Some, refl, sym, ap, subst, ◌∙◌, arith, Blocks, Disk, HasEitherTree as IsLeftOf, with_blocks, Gstate, gstate_xor, zero_gstate, same_pair, Pair, pairs_gstate, is_hard_tail, count_before_root, Path, IsAccepted, IsWritable, LeadsTo, disk_tree, SameSlots, alike_append, alike_itself, HasNoMove, gstate_assoc, gstate_cons, gstate_right, gstate_self, HasSite, site_of_number, AllReached, AllReachedBut, IsStep, step_writable, site_gstate_moved, Site, thread_at, stays_shape, IsWritableChange, within_at, IsReady, IsUnthreaded, KeptThread, LossLeavesPair, IsPairWritten, complete_after, within_same, gstate_changes, delta_reaching_gstate, content_reaching_gstate, LeftByDrop, content_after_drop, Unthreads, SameFileBlocks, all_unmoved_slots, CallEvent, CanClearSync, CleanLossLeaves, HoldsAtLosses-weaker, IsPairCommitted, IsSyncCleared, SurvivesLossSince, anchor_address, chain_may_continue, cond, has_superblock, AreLinked, Bool, ◌&&◌, All, subst₂, ContentChange}
 use Rattle.lfs_model.proofs.Rests.{slots_stay}
 use Rattle.lfs_model.proofs.Unthreaded.{unthread}
@@ -9,9 +9,9 @@ use Rattle.lfs_model.proofs.SetMoves.{HasTurned}
 use Rattle.lfs_operations.proofs.MovTurned.{IsTurn, Stays, changed_one, content_with, left_alone}
 use Rattle.lfs_operations.proofs.AtSite.{site_pair, site_place}
 
--- ---- a pair takes over the tail and the delta of one that no path leads to
+-- ---- a pair gets the tail and the delta of the orphan behind it
 
--- no move is set then, and no path leads to the pair that goes
+-- no move is pending then, and the dropped pair is an orphan
 pub record IsUnled (t : KeptThread) (g : Gstate) (before x : Pair) : Type 0 where
   pub none : HasNoMove g
   pub soft : is_hard_tail before.content.tail ≡ false
@@ -42,7 +42,7 @@ module _ (t : KeptThread) (chain front : List Pair) (before x : Pair) (todo : Li
   over_taken : (disk : Disk) → IsPairWritten t (index - 1) (content_after_drop t (index - 1) g) disk → Unthreads t.disk disk chain (front ++ before ∷ x ∷ todo) (front ++ q ∷ todo)
   over_taken disk is = unthread t.disk disk chain front before x q todo ready (over_on disk is)
 
-  -- a stop leaves the tree
+  -- a power loss leaves the tree
   pub over_left : (left : Blocks) → LeftByDrop t (index - 1) g left → IsLeftOf (with_blocks left t.disk) (disk_tree t.disk t.pairs) (disk_tree t.disk t.pairs)
   over_left = left_dropped k (inl refl) (λ disk is. left_after (over_taken disk is).taken (inl (ap (disk_tree t.disk) (sym k.there))))
 
@@ -139,7 +139,7 @@ module _ (t : KeptThread) (can : CanClearSync t) where
           files = subst (λ z. All (λ s. SameFileBlocks t.disk new.disk s.struct) (all_unmoved_slots z)) (sym h.is) x.turned.device.files;
         }
 
-    -- a stop leaves the tree
+    -- a power loss leaves the tree
     clear_left : (left : Blocks) → LossLeavesPair t index changes left → IsLeftOf (with_blocks left t.disk) (disk_tree t.disk t.pairs) (disk_tree t.disk t.pairs)
     clear_left left is = go (left_alone t index changes h.site h.pair h.pair.content.slots delta turn left is)
       where

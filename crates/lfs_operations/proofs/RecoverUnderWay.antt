@@ -32,7 +32,7 @@ stays_then a b c h k = record {
 pub stays_by : (bs : List ℕ) (a b : KeptThread) → ChangesThreadBlocks bs a b → StaysOn a b
 stays_by bs a b w = record { shape = w.shape; calls = AllCallsSince-weaker (λ e k. tt) w.at_worst }
 
--- a stop in a step that leaves the tree, after others that left it
+-- a power loss in a step that leaves the tree, after others that left it
 pub survives_behind : (old now new : KeptThread) → StaysOn old now → StaysOn now new → disk_tree now.disk now.pairs ≡ disk_tree old.disk old.pairs
     → SurvivesLossSince old.disk old.history now.history (disk_tree old.disk old.pairs) (disk_tree old.disk old.pairs) → SurvivesLossSince now.disk now.history new.history (disk_tree now.disk now.pairs) (disk_tree now.disk now.pairs)
     → SurvivesLossSince old.disk old.history new.history (disk_tree old.disk old.pairs) (disk_tree old.disk old.pairs)
@@ -153,7 +153,7 @@ begins t numbers can =
       survives = λ clean. record { events = []; extends = refl; each = tt };
     }
 
--- ---- the next pair that goes
+-- ---- the next pair that is dropped
 
 -- the pair at an index goes, which stands behind the one before it
 pub record IsNext (old now : KeptThread) (dropped number : ℕ) (rest : List ℕ) : Type 0 where

@@ -1,4 +1,4 @@
--- Which blocks are written, of those of pairs.
+-- The blocks of pairs that are written.
 use Rattle.lfs_operations.proofs.Common.{ℕ, zero, suc, ◌≡◌, ◌≢◌, ◌<◌, ◌≤◌, List, [], ◌∷◌, length, refl, arith, recursion_from_All, Pair, pairs_blocks, address_blocks, Each, number_occurrences, StayUnprogrammed-refl, KeptThread, ChangesThreadBlocks, empty_anchor, slice_index_or, cases_lt, each_counted, inl, inr, ◌⊎◌}
 use Rattle.lfs_model.proofs.Overwrites.{SameExceptBlocks-refl}
 use Rattle.lfs_operations.proofs.Putting.{writes_wider}

@@ -1,4 +1,4 @@
--- A file that goes while its pair stays, as a step of the thread.
+-- The removal of a file whose pair stays, as a step of the thread.
 use Rattle.lfs_operations.proofs.Common.{Err, Result, append_assoc, nat_eq, slice_get, ℕ, ◌≡◌, ◌≢◌, ◌⊎◌, inl, inr, ◌+◌, ◌<◌, ◌&&◌, not, Bool, true, false, eqb-true, List, [], ◌∷◌, ◌++◌, length, Some, refl, sym, ap, subst, ◌∙◌, arith, append-nil, length-append, eqb-false, tree_removing, Free, InFlight, Delete, Disk, CallEvent, SurvivesLossSince, Slot, same_pair, Pair, pairs_blocks, first_address, Tree, struct_blocks, disk_tree, Name, IsChangedImage, CompletesOperation, commit_step, recovered_from, count_append, HoldsAtLosses-weaker, Ends, file_goes, same, same_number, site, pair_back, pair_on, IsPairAt, IsDistinct, Site, thread_at, ends_joined, CleanLossLeaves, KeptThread, ThreadView, ThreadReportsErrors, IsPairCommitted, LossLeavesPair, thread_pair, is_err, Error, remove_completed, CanEditIn, editable_slot, ShowsDroppedTree, ShowsUnsettledTree, CanRemoveIn, IsFileRemoved, ReportsCommit, drops_emptied_pair, tree_without_entry}
 use Rattle.lfs_model.specs.session.Operations as ops
 use Rattle.lfs_operations.proofs.Held.{here}
@@ -151,7 +151,7 @@ module _ (t : KeptThread) (index id first : ℕ) (take : CanRemoveIn t index id 
   remove_survives new stops = survives t index (Delete id ∷ []) w p l (u ∷ []) [] r (struct_blocks t.disk u.struct) [] spliced turn (λ disk q more y. ((λ d. d), follows disk q more y)) filled new
       (λ clean. HoldsAtLosses-weaker (λ left x. inl x) (stops clean))
 
--- ---- what it tells
+-- ---- errors
 
 -- an error that is passed on
 pub reports_again : {X Y : Type 0} (old new : ThreadView) (e : Error) (result : Result X Error) (given : Result Y Error) → result ≡ Err e → given ≡ Err e → new.failed ≡ is_err result → ThreadReportsErrors old.kept new.kept result → ReportsCommit old new given

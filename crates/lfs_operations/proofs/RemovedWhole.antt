@@ -1,4 +1,4 @@
--- A file that goes with its pair, which held nothing else and isn't the first of its directory, as a step of the thread.
+-- The removal of a file with its pair, which has no other slot and isn't the first of its directory, as a step of the thread.
 use Rattle.lfs_operations.proofs.Common.{ℕ, ◌≡◌, inl, inr, ◌+◌, ◌-◌, ◌&&◌, not, true, false, nat_eq, eqb-true, List, [], ◌∷◌, ◌++◌, length, Option, Some, None, refl, sym, ap, subst, ◌∙◌, arith, IsDistinct, tree_removing, Blocks, Disk, CallEvent, IsPairAt, HasEitherTree as IsLeftOf, SurvivesLossSince, with_blocks, PairContent, Slot, Tail, zero_gstate, same_pair, Pair, pairs_blocks, pairs_gstate, is_hard_tail, Tree, branch_address, IsAccepted, IsWritable, LeadsTo, struct_blocks, disk_tree, used_blocks, IsChangedImage, CompletesOperation, no_move_from, recovered_from, number_occurrences, count_append, once_from_distinct, HasNoMove, HoldsAtLosses-weaker, file_goes, IsSite, Site, begin_of, thread_at, file_blocks, ends_joined, CleanLossLeaves, KeptThread, IsPairWritten, thread_pair, CanDropAt, IsPairDropped, LeftByDrop, tail_past_drop, content_after_drop, CanEditIn, editable_slot, IsFileRemoved, drops_emptied_pair, tree_without_entry, subst₂, IsWritableChange, and_parts, eq-eqb, Gstate, MoveStateFits}
 use Rattle.lfs_model.specs.session.Operations as ops
 use Rattle.lfs_model.proofs.Dropped.{IsDrop, drop_completed, drop_step, drop_writable}
@@ -154,7 +154,7 @@ module _ (t : KeptThread) (index id first : ℕ) (can : CanEditIn t index id) (b
             omega arith;
       }
 
-    -- ---- at a stop
+    -- ---- at a power loss
 
     left_tree : (left : Blocks) → LeftByDrop t (index - 1) zero_gstate left → IsLeftOf (with_blocks left t.disk) (disk_tree t.disk t.pairs) (turn (disk_tree t.disk t.pairs))
     left_tree = left_dropped dropping (inl refl) (λ disk written. left_after (taken disk written) (inr (ap (λ z. turn (disk_tree t.disk z)) (sym there))))

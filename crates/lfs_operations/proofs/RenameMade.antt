@@ -1,4 +1,4 @@
--- A pair from which slots go, and into which one comes under another name.
+-- A pair from which slots are deleted, and in which one is created under another name.
 use Rattle.lfs_operations.proofs.Common.{ℕ, ◌≡◌, ◌⊎◌, inl, inr, ◌<◌, zero, suc, true, List, [], ◌∷◌, ◌++◌, length, Option, Some, refl, sym, ap, ap₂, subst, ◌∙◌, arith, append_assoc, insert, remove, length-append, sum_by, sum_by-append, sum_by-cons, ContentChange, content_with_changes, RawContent, RawSlot, complete_slots, complete_content, empty_raw_content, raw_content, slot_of_id, AreSplittable, IsDirectoryPair, HasName, IsFormedSlot, Name, is_valid_name, PairContent, FitsInPair, Slot, slot_size, Pair, tail_target, IsWritableEntry, complete_insert, complete_length, complete_remove, completed_from, completed_parts, deletes, does_first, content_cut, entry_small, insert_here, remove_here, logged_changed, changed_pair_content, KeptThread, complete_after, thread_pair, unwrap_or, option_and_then, AreWellFormed, CanPut, IsRawFormed, IsReadyImage, NamelessSlot, nameless_at, nameless_of, slot_changes, None, is_some, append-nil, Delete, PutMove, IsPlaceOf, CanEditIn, IsTreeEntry, Site, site, each_right, MoveStateFits, Gstate, IsCompleted, puts_move, CanChangePair, target_slots, removal_changes, Each}
 use Rattle.lfs_operations.proofs.Held.{CompletesTo, below, fits_there, here, raw_there, IsEntryIfOther, each_pair, other_entries}
 use Rattle.lfs_model.proofs.RawSlots.{IsRaw, is_raw}

@@ -53,9 +53,9 @@ only_read_writes t mid bs only = subst (λ (k : KeptThread). ChangesThreadBlocks
   at_worst = HoldsAtLosses-read_count LossLeavesAtWorst-read only.reads (record { count = refl; sizes = λ b. refl; others = λ b apart. refl });
 })
 
--- ---- at a stop
+-- ---- at a power loss
 
--- the pair as it was, at a stop in a read
+-- the pair as it was, at a power loss in a read
 pub old_there : {t : KeptThread} {index id : ℕ} → CanEditIn t index id → (changes : List ContentChange) → LossLeavesPair t index changes t.disk.blocks
 old_there {t = t} {index = index} can changes = record {
   content = (thread_pair t index).content;
@@ -71,7 +71,7 @@ old_there {t = t} {index = index} can changes = record {
 pub left_pair_earlier : (t : KeptThread) (h : List CallEvent) (index : ℕ) (changes : List ContentChange) (left : Blocks) → LossLeavesPair (with_history t h) index changes left → LossLeavesPair t index changes left
 left_pair_earlier t h index changes left is = record { content = is.content; is = is.is; written = written_earlier t h index is.content (with_blocks left t.disk) is.written }
 
--- A stop in the read leaves the old disk, and one behind it what the step leaves.
+-- A power loss in the read leaves the old disk, and one after it what the step leaves.
 pub step_stops_after_read : {P : Blocks → Type 0} (Q : KeptThread → Blocks → Type 0) {bs : List ℕ} (t mid new : KeptThread) → OnlyReadsThread t mid → P t.disk.blocks → ((left : Blocks) → Q (with_history t mid.history) left → P left)
     → ChangesThreadBlocks bs mid new → CleanLossLeaves mid.history new.history (Q mid) → CleanLossLeaves t.history new.history P
 step_stops_after_read Q t mid new only old earlier writes stops clean = HoldsAtLosses-trans (HoldsAtLosses-read_count LeftByLoss-read only.reads old)
@@ -82,7 +82,7 @@ pub change_stops_after_read : (t mid new : KeptThread) {index id : ℕ} (can : C
 change_stops_after_read t mid new {index = index} can changes only writes stops =
     step_stops_after_read (λ k. LossLeavesPair k index changes) t mid new only (old_there can changes) (left_pair_earlier t mid.history index changes) writes stops
 
--- ---- what it tells
+-- ---- errors
 
 -- an error passed on
 pub reported_again : {X Y : Type 0} (t new : KeptThread) (e : Error) (result : Result X Error) (given : Result Y Error) → result ≡ Err e → given ≡ Err e → ThreadReportsErrors t new result → ThreadReportsErrors t new given

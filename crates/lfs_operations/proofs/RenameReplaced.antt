@@ -1,4 +1,4 @@
--- A rename within one pair onto an entry: which slots are replaced, and what it comes to where that is a file.
+-- A rename within one pair over an entry: which slots are replaced, and the result if that entry is a file.
 use Rattle.lfs_operations.proofs.Common.{ℕ, ◌≡◌, true, List, [], ◌∷◌, ◌++◌, sym, ap, subst, ◌∙◌, append_assoc, append-nil, tree_renaming, Disk, CallEvent, HasName, Name, SurvivesLossSince, Slot, Pair, pairs_blocks, struct_blocks, disk_tree, IsChangedImage, IsCommit, commit_step, recovered_from, renamed_addresses, Site, thread_at, CleanLossLeaves, KeptThread, LeftByPut, ArePut, CanEditIn, tree_renamed, ◌≢◌, false, Some, None, ContentChange, IsPlaceOf, Session, path_or_root, Gstate, Path, pairs_gstate, branch_address, IsStep, IsWritableEntry, AllReached, CompletesOperation, renaming_changes, Bool, CanRenameInPair, IsRenamedInPair, refl}
 use Rattle.lfs_operations.proofs.RenameWithin.{moves_within}
 use Rattle.lfs_model.proofs.RenameOntoFile.{onto_file_ahead_completed, onto_file_behind_completed}

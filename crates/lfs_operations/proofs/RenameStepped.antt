@@ -49,7 +49,7 @@ module _ {t : KeptThread} {index id place : ℕ} {can : CanEditIn t index id} {w
   moved_survives new stops = survives t index changes w p m.l m.olds m.news m.r (file_blocks t.disk (target_slots target)) [] spliced (tree_renaming from to)
       (λ disk q more c. (renamed_addresses from to, m.follows.follows disk q more c.commit)) (λ e. filled m) new stops
 
--- Which slots a rename in its pair replaces, and what it does, to a new name and onto a file.
+-- The slots that a rename within a pair replaces, and its effect, to a new name and over a file.
 pub record HasMoves (replaces : Bool) (t : KeptThread) (index id place : ℕ) (name : Name) (rename : CanRenameInPair replaces t index id place name) : Type 1 where
   pub w : Site
   pub p : Pair

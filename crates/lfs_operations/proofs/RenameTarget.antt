@@ -1,4 +1,5 @@
--- An entry that goes to a place of its own pair, at which another one may stand: what changes make of the pair, and which slots they replace.
+-- An entry that moves within its pair, and may replace another one: the content of the pair after the changes, and the slots
+-- that they replace.
 use Rattle.lfs_operations.proofs.Common.{ℕ, ◌≡◌, true, List, [], ◌∷◌, ◌++◌, length, Some, sym, ap, subst, ◌∙◌, arith, append_assoc, length-append, refl, Delete, HasName, Name, is_valid_name, FitsInPair, Slot, Pair, IsTreeEntry, Each, KeptThread, ◌≢◌, CanEditIn, id_after_removal, HasSlot, ◌⊎◌, inl, inr, ◌-◌, ◌<◌, ◌≤◌, cond, false, Option, is_some, le-ltb, lt-ltb, ContentChange, Gstate, superblock_first, IsWritableEntry, some_filled, Site, CanChangePair, CanPut, complete_after, PairContent, nameless_at, slot_changes, target_slots, removal_changes}
 use Rattle.lfs_operations.proofs.Held.{below, here}
 use Rattle.lfs_operations.proofs.RenameMade.{ComesBehind, Leaves, fits_without, leaves_without, ComesAhead, IsLoggedPair, Source, behind_or_ahead, fits_left, fits_whole, leaves_target, source}

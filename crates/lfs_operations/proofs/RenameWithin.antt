@@ -30,7 +30,7 @@ module _ (t : KeptThread) (index id place : ℕ) (name : Name) (rename : CanRena
   stand : HasPairAt t index can.path can.at w p
   stand = pair_at t can.ready can.path can.at can.leads can.first index p (b.later ++ b.rest) b.place can.begins
 
-  -- the old slot stands in that pair
+  -- the old slot is in that pair
   pair_same : b.pair ≡ can.stands.pair
   pair_same = sym (here t can.ready can.first index b.pair (b.later ++ b.rest) b.place) ∙ here t can.ready can.first index can.stands.pair can.stands.rest can.stands.place
 

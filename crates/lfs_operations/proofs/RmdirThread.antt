@@ -1,4 +1,4 @@
--- An empty directory's entry goes from a pair that stays, as the first of two steps of the thread.
+-- The removal of an empty directory's entry from a pair that stays, as the first of two steps of the thread.
 use Rattle.lfs_operations.proofs.Common.{ℕ, ◌≡◌, ◌≢◌, inl, ◌-◌, true, false, List, [], ◌∷◌, ◌++◌, length, None, refl, sym, ap, subst, ◌∙◌, arith, append-nil, length-append, IsPairCommitted, LossLeavesPair, tree_removing, tree_with_subtree, Blocks, AreUsed, Disk, HasEitherTree as IsLeftOf, with_blocks, Gstate, Slot, gstate_xor, Pair, pairs_gstate, count_before_root, disk_tree, used_blocks, CompletesOperation, no_move_from, IsChangedImage, number_occurrences, HasNoMove, sync_bit_delta, IsStep, directory_goes, step_chain, Site, dirs_at, thread_at, IsWritableChange, ends_joined, KeptThread, thread_pair, IsChain, Path, SameInFlight, CanEditIn, drops_emptied_pair, tree_without_entry, CanRemoveDirectory, unlink_changes, subst₂, file_blocks}
 use Rattle.lfs_model.specs.session.Operations as ops
 use Rattle.lfs_operations.proofs.Removed.{entry_site, entry_stands, stays_filled}
@@ -44,7 +44,7 @@ module _ (t : KeptThread) (index id first gone : ℕ) (take : CanRemoveDirectory
   held : p.content.slots ≡ l ++ u ∷ r
   held = can.stands.stands.held
 
-  -- ---- the pair that goes
+  -- ---- the pair that is dropped
 
   own : HasOwnPair t w.chain (dirs_at w (p ∷ [])) gone take.to
   own = own_pair t can.ready w.chain (dirs_at w (p ∷ [])) stand.there stand.site.chain can.path can.name take.to gone
@@ -166,7 +166,7 @@ module _ (t : KeptThread) (index id first gone : ℕ) (take : CanRemoveDirectory
       entry = λ whole. absurd (let z = sym whole ∙ goes in cc);
     }
 
-  -- ---- at a stop in the first step
+  -- ---- at a power loss in the first step
 
   pub left_beside : (left : Blocks) → LossLeavesPair t index (unlink_changes t index id) left → IsLeftOf (with_blocks left t.disk) (disk_tree t.disk t.pairs) (tree_without_entry t take.can.path take.can.name)
   left_beside left is = subst (IsLeftOf (with_blocks left t.disk) (disk_tree t.disk t.pairs)) (ap (λ n. tree_removing (can.path ++ n ∷ []) (disk_tree t.disk t.pairs)) can.stands.stands.named)

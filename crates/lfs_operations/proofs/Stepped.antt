@@ -1,4 +1,4 @@
--- What a change or a split comes to, and what a stop in it leaves, as a commit of the laws.
+-- The result of a change or a split, and what a power loss in it leaves, as a commit of the laws.
 use Rattle.lfs_operations.proofs.Common.{ℕ, ◌≡◌, ◌≢◌, true, false, ◌⊎◌, inl, inr, ⊎_elim, ◌+◌, ◌<◌, ◌≤◌, List, [], ◌∷◌, ◌++◌, length, sym, ap, subst, ◌∙◌, arith, append-nil, nat_eq, cases_lt, Blocks, AreUsed, IsFree, ContentChange, Disk, block_count, HasEitherTree as IsLeftOf, SurvivesLossSince, with_blocks, Slot, Pair, pairs_blocks, pairs_gstate, count_before_root, Tree, IsAccepted, IsWritable, disk_tree, used_blocks, Contains-number_occurrences, number_occurrences-Contains, IsChangedImage, ends_joined, number_occurrences, once_from_distinct, count_append, HoldsAtLosses-weaker, Site, dirs_at, thread_at, IsDevice, CallEvent, CleanLossLeaves, KeptThread, IsDistinct, Contains, PathAddresses, LeftByPut, ArePut, AreUsedUnsettled, ShowsReadyTree, ShowsUnsettledTree, AddsNoneInFlight, KeepsTakenStates}
 use Rattle.lfs_model.proofs.Committed.{commit_writable}
 use Rattle.lfs_model.proofs.UsedCounts.{count_pairs, used_count_now, used_same}
@@ -67,9 +67,9 @@ module _ (t : KeptThread) (index : ℕ) (changes : List ContentChange) (w : Site
             none_comes = x.none_comes;
           }
 
-  -- ---- at a stop
+  -- ---- at a power loss
 
-  -- Where each commit follows by that change of the tree, a stop leaves the tree from before or from after it.
+  -- Where each commit follows by that change of the tree, a power loss leaves the tree from before or from after it.
   abbrev pub AllFollow : (Tree → Tree) → Type 0
   AllFollow change = (disk : Disk) (q : Pair) (more : List Pair) → Commits t w p l olds news r come disk q more
       → (walk : PathAddresses → PathAddresses) × IsChangedImage t.disk (thread_at w (p ∷ [])) disk (thread_at w (q ∷ more)) change walk

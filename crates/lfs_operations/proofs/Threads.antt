@@ -1,4 +1,4 @@
--- The pair of a number by its site: where it stands, and which blocks change with it.
+-- The pair of an index at its site, and the blocks that change with it.
 use Rattle.lfs_operations.proofs.Common.{ℕ, ◌≡◌, ◌+◌, ◌<◌, ◌≤◌, Bool, true, false, cond, eqb-true, nat_eq, List, [], ◌∷◌, ◌++◌, length, Some, refl, sym, ap, ap₂, subst, ◌∙◌, arith, append_assoc, length-append, get_or, set, insert, IsDistinct, AreUsed, IsFree, Free, content_at, current_block, Disk, disk_block, block_count, SameGeometry, PairContent, gstate_xor, zero_gstate, Pair, pairs_blocks, pairs_gstate, BeginsWith, superblock_entry, used_blocks, Each, number_occurrences, once_from_distinct, distinct_from_once, Site, thread_at, HasFirst, KeepsOutsideBoth, KeptThread, thread_pair, empty_anchor, pairs_with_content, SameGeometryAs, HasOldPair, IsPairWritten, BeginWithSuperblock, gstate_comm, gstate_cons, gstate_right, sync_bit_delta, site_gstate_moved, pairs_split, AreTwoFree}
 use Rattle.lfs_pair.specs.Commits.{KeepsOutsidePair}
 use Rattle.lfs_model.proofs.PairLists.{get_at, insert_at, set_at}

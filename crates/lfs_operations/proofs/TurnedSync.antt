@@ -1,4 +1,4 @@
--- A pair of an image with nothing to recover, whose commit turns the sync bit: the step, and what a stop leaves.
+-- A pair of an image with nothing to recover, whose commit flips the sync bit: the step, and what a power loss leaves.
 use Rattle.lfs_operations.proofs.Common.{ℕ, ◌≡◌, ◌≢◌, ◌⊎◌, inl, inr, ◌+◌, true, false, List, [], ◌∷◌, ◌++◌, length, Some, refl, sym, ap, subst, ◌∙◌, arith, append-nil, recursion_from_All, Blocks, ContentChange, Disk, SameGeometry, HasEitherTree as IsLeftOf, with_blocks, IsWritableSlot, IsWritable, all_unmoved_slots, disk_tree, pair_with_slots, FitsInPair, Slot, gstate_xor, zero_gstate, PathAddresses, Pair, pairs_gstate, superblock_first, Tree, IsAccepted, fits_same, IsChangedImage, SameFiles, no_move_from, Each, SameFileBlocks, HasNoMove, sync_bit_delta, IsStep, IsSite, Site, thread_at, IsDevice, stays_shape, IsWritableChange, ends_joined, KeptThread, LossLeavesPair, BeginWithSuperblock, complete_after, IsSplice, commit_taken, IsReadyImage}
 use Rattle.lfs_model.proofs.SetMoves.{HasTurned}
 use Rattle.lfs_operations.proofs.MovTurned.{IsTurn, content_with, left_alone}
@@ -10,7 +10,7 @@ pub first_kept : (l olds news r : List Slot) → (l ≡ [] → superblock_first 
 first_kept [] olds news r f e = absurd (let z = sym (f refl) ∙ e.0 in cc)
 first_kept (s ∷ l) olds news r f e = e
 
--- The changes give the pair these slots, in which `news` stand where `olds` did, and turn the sync bit. What they make fits.
+-- The changes give the pair these slots, in which `news` stand where `olds` did, and flip the sync bit. What they make fits.
 pub record IsSyncTurn (t : KeptThread) (index : ℕ) (changes : List ContentChange) (w : Site) (p : Pair) (slots l olds news r : List Slot) : Type 0 where
   pub ready : IsReadyImage t
   pub there : t.pairs ≡ thread_at w (p ∷ [])

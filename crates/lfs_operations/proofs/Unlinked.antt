@@ -1,4 +1,4 @@
--- An entry that goes, maybe while the sync bit turns, as a change of its pair.
+-- The removal of an entry, which may flip the sync bit, as a change of its pair.
 use Rattle.lfs_operations.proofs.Common.{ℕ, ◌≡◌, List, [], ◌∷◌, ◌++◌, length, Some, sym, ap, ap₂, subst, ◌∙◌, arith, length-append, remove, sum_by, same_Some, sum_by-append, sum_by-cons, Delete, PutMove, content_with_changes, RawContent, complete_content, raw_content, MoveStateFits, FitsInPair, Gstate, Slot, gstate_xor, slot_size, Pair, complete_length, complete_remove, completed_from, completed_parts, deletes, does_first, does_nothing, puts_move, sync_bit_delta, remove_here, KeptThread, complete_after, thread_pair, option_and_then, CanEditIn, tail_target, CanCommit, ContentChange}
 use Rattle.lfs_operations.proofs.DroppedTails.{move_xor}
 use Rattle.lfs_operations.proofs.Held.{CompletesTo, below, fits_there, here, raw_there}
@@ -14,7 +14,7 @@ pub record MakesDelta (p : Pair) (changes : List ContentChange) (move : Gstate) 
 pub delta_stays : (p : Pair) → MakesDelta p [] p.content.move
 delta_stays p = record { makes = λ raw same small. does_nothing raw ∙ ap (λ m. Some (record raw { move = m })) same }
 
--- it turns the sync bit
+-- it flips the sync bit
 delta_turns : (p : Pair) → MakesDelta p (PutMove (gstate_xor p.content.move sync_bit_delta) ∷ []) (gstate_xor p.content.move sync_bit_delta)
 delta_turns p = record {
   makes = λ raw same small.

@@ -1,4 +1,4 @@
--- Two steps of the thread, one after the other: what they write and tell. By them an empty directory goes.
+-- Two steps of the thread that remove an empty directory: the blocks that they write, and their errors.
 use Rattle.lfs_operations.proofs.Common.{◌⊎◌, ℕ, zero, suc, ◌≡◌, ◌≢◌, ◌-◌, ◌<◌, Result, Ok, List, [], ◌∷◌, get_or, set, refl, sym, ap, subst, ◌∙◌, true, cond, inl, inr, IsPairCommitted, ContentChange, All-from_recursion, recursion_from_All, fault_count, PairContent, Pair, address_blocks, addresses_blocks, KeptThread, ThreadView, ChangesThreadBlocks, empty_anchor, thread_pair, sync_bit_delta, All, Error, IsPairDropped, ReportsCommit, drops_emptied_pair, removal_written_address, CanRemoveDirectory, ReportsCommits, ◌++◌, Disk, Session, Blocks, HasEitherTree, with_blocks, tree_removing, tree_with_subtree, None, Path, disk_tree, path_or_root, CompletesOperation, IsGone, tree_without_entry, IsDirectoryRemoved, ArePairsBeforeTouched, ShowsDroppedTree, LeftByDrop, zero_gstate, CanDropAt, arith}
 use Rattle.lfs_operations.proofs.Putting.{writes_trans, writes_wider}
 use Rattle.lfs_model.specs.session.Operations as ops
@@ -36,7 +36,7 @@ pub writes_two : (t m new : KeptThread) (index gone : ℕ) (changes : List Conte
 writes_two t m new index gone changes h first second =
     writes_both (thread_pair t index).at (thread_pair t (gone - 1)).at first (subst (λ at. ChangesThreadBlocks (address_blocks at) m new) (at_there t m index (gone - 1) changes h) second)
 
--- ---- what they tell
+-- ---- errors
 
 pub steps_from : {X : Type 0} (old new : ThreadView) (result : Result X Error) → ReportsCommit old new result → ReportsCommits old new result
 steps_from old new result h = record { failed = h.failed; errors = h.reported.errors; fault = h.reported.fault; no_fault = h.reported.no_fault }
@@ -69,7 +69,7 @@ module _ {t m : KeptThread} {index id first gone : ℕ} {take : CanRemoveDirecto
   turned : tree_removing (unlinked_path take) (disk_tree t.disk t.pairs) ≡ tree_without_entry t take.can.path take.can.name
   turned = ap (λ n. tree_removing (take.can.path ++ n ∷ []) (disk_tree t.disk t.pairs)) take.can.stands.stands.named
 
-  -- what a stop in the second step leaves
+  -- what a power loss in the second step leaves
   pub left_second : (left : Blocks) → LeftByDrop m (now - 1) zero_gstate left → HasEitherTree (with_blocks left t.disk) (disk_tree t.disk t.pairs) (tree_without_entry t take.can.path take.can.name)
   left_second left g = subst (HasEitherTree (with_blocks left t.disk) (disk_tree t.disk t.pairs)) turned (left_last k.last left g)
 
@@ -91,7 +91,7 @@ module _ {t m : KeptThread} {index id first gone : ℕ} {take : CanRemoveDirecto
             (k.completed new.disk (y k.last) (is_gone k.last new.disk d.written) z given tree (is_path ∙ ap (λ n. take.can.path ++ n ∷ []) (sym take.can.stands.stands.named)));
       }
 
-      -- the pairs in front of those that go don't stay with what they held
+      -- the pairs in front of those that go are changed or dropped
       pub directory_alters : ArePairsBeforeTouched t index first gone new
       directory_alters = record {
         front = gone_alters t new gone k.above take.below take.can.ready.accepted (taken_end k.last new d).follows.accepted (end_gone k.last new d);

@@ -1,4 +1,4 @@
--- An empty directory's entry goes with its pair, as the first of two steps of the thread.
+-- The removal of an empty directory's entry with its pair, as the first of two steps of the thread.
 use Rattle.lfs_operations.proofs.Common.{ℕ, ◌≡◌, ◌⊎◌, inl, inr, ◌+◌, ◌-◌, ◌<◌, Bool, true, false, cond, List, [], ◌∷◌, ◌++◌, length, refl, sym, ap, ap₂, subst, ◌∙◌, arith, append_assoc, append-nil, length-append, None, tree_removing, tree_with_subtree, Blocks, Disk, HasEitherTree as IsLeftOf, with_blocks, PairContent, Gstate, Slot, zero_gstate, Pair, pairs_gstate, superblock_first, count_before_root, Path, IsAccepted, IsWritable, LeadsTo, disk_tree, used_blocks, CompletesOperation, no_move_from, number_occurrences, HasNoMove, sync_bit_delta, IsStep, directory_goes, step_chain, Site, dirs_at, thread_at, drop_shape, file_blocks, IsWritableChange, KeptThread, IsPairWritten, thread_pair, IsChain, drop_taken, CanDropAt, IsPairDropped, LeftByDrop, content_after_drop, CanEditIn, tree_without_entry, CanRemoveDirectory, number_after_drop, le-ltb, lt-ltb, subst₂, drops_emptied_pair, removal_written_address}
 use Rattle.lfs_model.specs.session.Operations as ops
 use Rattle.lfs_operations.proofs.Dropped.{HasMapWithout, IsToBeDropped, can_drop_pair, device_left, front_there, left_dropped, map_dropped, pairs_left, slots_left, state_left, tail_left}
@@ -54,7 +54,7 @@ module _ (t : KeptThread) (index id first gone : ℕ) (take : CanRemoveDirectory
   leads : LeadsTo old can.path can.at
   leads = subst (λ z. LeadsTo z can.path can.at) s.there can.leads
 
-  -- ---- the pair that goes
+  -- ---- the pair that is dropped
 
   own : HasOwnPair t w.chain (dirs_at w (x0 ∷ e ∷ [])) gone take.to
   own = own_pair t can.ready w.chain (dirs_at w (x0 ∷ e ∷ [])) s.there s.site.chain can.path can.name take.to gone
@@ -221,7 +221,7 @@ module _ (t : KeptThread) (index id first gone : ℕ) (take : CanRemoveDirectory
       entry = λ whole. (can_drop_entry, h);
     }
 
-  -- ---- at a stop in the first step
+  -- ---- at a power loss in the first step
 
   whole_first : (left : Blocks) → LeftByDrop t (index - 1) sync_bit_delta left → IsLeftOf (with_blocks left t.disk) (disk_tree t.disk t.pairs) (tree_without_entry t can.path can.name)
   whole_first = left_dropped dropping (inl refl) (λ disk written. left_after (first_taken disk written) (inr (ap₂ (λ n z. tree_removing (can.path ++ n ∷ []) (disk_tree t.disk z)) can.stands.stands.named (sym s.there))))

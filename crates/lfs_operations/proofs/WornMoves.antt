@@ -1,4 +1,4 @@
--- A worn pair behind a hard tail is at two other blocks: the image shows the same tree, also at a stop.
+-- A worn pair behind a hard tail is relocated to two other blocks: the image has the same tree, also in a power loss.
 use Rattle.std.proofs.Common.{ℕ, suc, ◌≡◌, ◌+◌, ◌-◌, ◌%◌, ◌^◌, ◌⊎◌, inl, inr, true, cond, List, [], ◌∷◌, ◌++◌, length, Some, refl, sym, ap, ap₂, subst, subst₂, ◌∙◌, arith, set, ◌&&◌}
 use Rattle.lfs_operations.proofs.Common.{All-from_recursion, once_from_distinct, Blocks, AreUsed, BlockStates, content_at, Disk, HasEitherTree, with_blocks, FitsInPair, Pair, pairs_gstate, is_hard_tail, addresses_blocks, has_superblock, count_before_root, disk_tree, used_blocks, Each, HasNoMove, Site, KeepsOutsideBoth, KeptThread, HasOldPair, ChangesThreadBlocks, map_freeing, map_using, thread_pair, option_map, has_no_entry, is_worn, pair_joined_to, device_from, IsSameWritable, CanMoveNext, IsNextMoved, LossLeavesNextMoved, pair_revision, KeepsSuperblockFirst, AreTwoFree, map_taking_two, SameInFlight, CallEvent, CleanLossLeaves, SurvivesLossSince, AreFree}
 use Rattle.lfs_model.specs.format.Thread.{superblock_or_later}
@@ -132,7 +132,7 @@ module _ (t : KeptThread) (index : ℕ) (fresh : ℕ × ℕ) (can : CanMovePair 
     same_writable = pair_moves t.disk disk at.ahead p x q y at.back (beside.accepted t can.ready front w p at.is place fresh two) (beside.writable t can.ready front w p at.is place fresh two) no_move relocated
         (λ h. is.anew (h.kind, h.name))
 
-  -- ---- at a stop
+  -- ---- at a power loss
 
   left_moved : (left : Blocks) → LossLeavesNextMoved (with_map t (map_taking_two t.map fresh)) (index - 1) fresh left → HasEitherTree (with_blocks left t.disk) (disk_tree t.disk t.pairs) (disk_tree t.disk t.pairs)
   left_moved left l = go l.content

@@ -1,4 +1,4 @@
--- What a relocation comes to: nothing, or a move by the plan.
+-- The result of a relocation: nothing, or a move by the plan.
 use Rattle.lfs_operations.proofs.Common.{ℕ, Bool, cond, None, ◌-◌, is_worn, AreTwoFree, ◌≡◌, ◌+◌, ◌<◌, ◌≤◌, inl, inr, true, false, List, [], ◌∷◌, ◌++◌, length, Some, refl, sym, ap, ap₂, subst, ◌∙◌, arith, append_assoc, length-append, take, slice_get, same_Some, AllByRecursion, Contains, recursion_from_All, each_left, each_right, Pair, address_view, same_pair, count_before_root, all_unmoved_slots, used_blocks, IsPairAt, KeepsOutsideBoth, KeptThread, is_hard_tail, thread_pair, pair_joined_to, IsReadyImage, PairContent, tail_target}
 use Rattle.std.proofs.lemmas.List.Elements.{All-contains_itself}
 use Rattle.lfs_model.specs.session.Moved.{pair_behind}

@@ -1,4 +1,5 @@
--- A worn pair gives its slots to a fresh pair behind it, and keeps its first ones: the image shows the same tree, also at a stop.
+-- A worn pair moves its slots to a fresh pair behind it, and keeps its first ones: the image has the same tree, also in a power
+-- loss.
 use Rattle.std.proofs.Common.{ℕ, ◌≡◌, ◌≢◌, ◌+◌, ◌-◌, ◌*◌, ◌%◌, ◌^◌, ◌<◌, ◌≤◌, ◌⊎◌, inl, inr, true, false, cond, List, [], ◌∷◌, ◌++◌, length, refl, sym, ap, ap₂, subst, subst₂, ◌∙◌, arith, append_assoc, length-append, slice_get, take, drop}
 use Rattle.std.specs.Prelude.{All}
 use Rattle.std.proofs.lemmas.Bool.{and_from}

@@ -528,7 +528,7 @@ fn close_in_table(entries: &mut Vec<Option<OpenFile>>, index: usize)
     entries[index] = None;
 }
 
-// Returns how many free blocks are reserved for the writer. There is at most one.
+// Returns how many free blocks are reserved for the writer; 0 if there is none.
 fn blocks_reserved_among(entries: &[Option<OpenFile>], geometry: Geometry) -> u64
     requires { length (writers_among entries.now) ≤ 1 }
     ensures held { result ≡ writers_reserve geometry.profile geometry.block_size entries.now }

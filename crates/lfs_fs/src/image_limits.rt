@@ -52,9 +52,9 @@ fn mount_with_profile<D: BlockDevice>(
 ///
 /// # Errors
 ///
-/// `Corrupt` exactly if the device has no accepted image in either order and the profile's
-/// versions. `Io` if a read failed. `NoMemory` if memory can't be allocated. An error returns the
-/// device, too.
+/// `Corrupt` exactly if the device has no accepted image in either order of names, of the versions
+/// that the profile accepts. `Io` if a read failed. `NoMemory` if memory can't be allocated. An
+/// error returns the device, too.
 pub fn mount_with_limits<D: BlockDevice>(
     alloc: Global,
     device: D,

@@ -85,8 +85,8 @@ fn number_after_unlinking<D: BlockDevice>(
 /// slot, and isn't the first of the parent, it is dropped with the entry.
 ///
 /// Errors: `Io` if a device call failed, and `NoMemory` if memory for a pair's slots and its block
-/// isn't granted. The thread has then failed. The entry, and so the directory, may be removed by
-/// then.
+/// can't be allocated. The thread has then failed. The entry, and so the directory, may be removed
+/// by then.
 pub fn remove_directory<D: BlockDevice>(
     alloc: Global,
     thread: &mut Thread<D>,

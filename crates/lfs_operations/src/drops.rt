@@ -78,7 +78,7 @@ fn changes_for_drop<D: BlockDevice>(
 // move problem"). Frees the dropped pair's blocks.
 //
 // Errors: `Io` if a device call failed. `NoMemory` if memory for the pair's slots and its block
-// isn't granted; nothing was written then. The thread has failed after either.
+// can't be allocated; nothing was written then. The thread has failed after either.
 pub(crate) fn drop_pair_at<D: BlockDevice>(
     alloc: Global,
     thread: &mut Thread<D>,

@@ -256,7 +256,7 @@ fn move_across<D: BlockDevice>(
 ///
 /// Errors: `NoSpace` if the new pair has no room and fewer than two blocks are free; nothing was
 /// changed then. `Io` if a device call failed. `NoMemory` if memory for the pairs' slots, a copy of
-/// the entry and the pairs' blocks isn't granted. After `Io` and `NoMemory` the thread hasn't
+/// the entry and the pairs' blocks can't be allocated. After `Io` and `NoMemory` the thread hasn't
 /// failed if the entry couldn't be read. Otherwise it has failed, and the device may be between the
 /// two commits, with the new tree.
 pub fn rename_across<D: BlockDevice>(

@@ -148,8 +148,8 @@ fn put_branch_entry<D: BlockDevice>(
 /// directory, and two for a split.
 ///
 /// Errors: `Io` if a device call failed, and `NoMemory` if memory for a pair's slots and its block
-/// isn't granted. The thread has then failed. The new pair may be left in the thread as an orphan,
-/// which a recovery drops.
+/// can't be allocated. The thread has then failed. The new pair may be left in the thread as an
+/// orphan, which a recovery drops.
 pub fn make_directory<D: BlockDevice>(
     alloc: Global,
     thread: &mut Thread<D>,

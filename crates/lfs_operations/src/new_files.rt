@@ -20,7 +20,8 @@ use std::alloc::Global;
 ///
 /// Errors: `NoSpace` if the pair has no room and fewer than two blocks are free; nothing was
 /// changed then. `Io` if a device call failed. `NoMemory` if memory for the pair's slots and its
-/// block isn't granted; nothing was written then. After `Io` and `NoMemory` the thread has failed.
+/// block can't be allocated; nothing was written then. After `Io` and `NoMemory` the thread has
+/// failed.
 pub fn create_file<D: BlockDevice>(
     alloc: Global,
     thread: &mut Thread<D>,

@@ -113,7 +113,7 @@ fn clear_sync_bit<D: BlockDevice>(alloc: Global, thread: &mut Thread<D>) -> Resu
 /// them.
 ///
 /// Errors: `Io` if a device call failed, and `NoMemory` if memory for a pair's slots and its block
-/// isn't granted. The thread has then failed.
+/// can't be allocated. The thread has then failed.
 pub fn drop_unreached_pairs<D: BlockDevice>(
     alloc: Global,
     thread: &mut Thread<D>,
@@ -164,7 +164,7 @@ fn drops_if_emptied<D: BlockDevice>(thread: &Thread<D>, index: usize) -> bool
 /// directory, the pair is dropped. Writes nothing if no move is pending.
 ///
 /// Errors: `Io` if a device call failed, and `NoMemory` if memory for a pair's slots and its block
-/// isn't granted. The thread has then failed.
+/// can't be allocated. The thread has then failed.
 pub fn end_move<D: BlockDevice>(alloc: Global, thread: &mut Thread<D>) -> Result<(), Error>
     requires works { thread.old.failed ≡ false }
     requires can { CanEndMove thread.old.kept }

@@ -33,7 +33,7 @@ pub(crate) fn drops_with_slot<D: BlockDevice>(thread: &Thread<D>, pair: usize, f
 /// them.
 ///
 /// Errors: `Io` if a device call failed. `NoMemory` if memory for the pair's slots and its block
-/// isn't granted; nothing was written then. The thread has failed after either.
+/// can't be allocated; nothing was written then. The thread has failed after either.
 pub fn remove_file<D: BlockDevice>(
     alloc: Global,
     thread: &mut Thread<D>,

@@ -61,7 +61,7 @@ pub struct PairPlace {
 ///
 /// Errors: `NoSpace` if the pair has no room and fewer than two blocks are free; nothing was
 /// changed then. `Io` if a device call failed. `NoMemory` if memory for the pair's slots, a copy of
-/// the entry and the pair's block isn't granted; nothing was written then. After `Io` and
+/// the entry and the pair's block can't be allocated; nothing was written then. After `Io` and
 /// `NoMemory` the thread has failed, unless the entry couldn't be read and copied; then the thread
 /// is as it was.
 pub fn rename<D: BlockDevice>(

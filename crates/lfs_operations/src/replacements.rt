@@ -51,8 +51,8 @@ fn changes_replacing_directory<'a>(
 // bit (DESIGN.md of littlefs, "The move problem").
 //
 // Errors: `Io` if a device call failed. `NoMemory` if memory for the pair's slots, a copy of the
-// entry and the pair's block isn't granted; nothing was written then. The thread has failed after
-// either, unless the entry couldn't be read and copied; then the thread is as it was.
+// entry and the pair's block can't be allocated; nothing was written then. The thread has failed
+// after either, unless the entry couldn't be read and copied; then the thread is as it was.
 pub(crate) fn rename_over_directory<D: BlockDevice>(
     alloc: Global,
     thread: &mut Thread<D>,
@@ -92,9 +92,9 @@ pub struct EmptyDirectory {
 /// the bit (DESIGN.md of littlefs, "The move problem").
 ///
 /// Errors: `Io` if a device call failed, and `NoMemory` if memory for a pair's slots, a copy of the
-/// entry and a pair's block isn't granted. The thread has then failed, unless the entry couldn't be
-/// read and copied; then the thread is as it was. After an error the device may be between the two
-/// commits, with the new tree.
+/// entry and a pair's block can't be allocated. The thread has then failed, unless the entry
+/// couldn't be read and copied; then the thread is as it was. After an error the device may be
+/// between the two commits, with the new tree.
 pub fn rename_onto_directory<D: BlockDevice>(
     alloc: Global,
     thread: &mut Thread<D>,

@@ -240,8 +240,8 @@ fn expand_root<D: BlockDevice>(
 /// A pair behind a hard tail is relocated to the two blocks. The slots of a directory's first pair,
 /// and of the thread's, move to a new pair there, if an eighth of the blocks stays free.
 ///
-/// Errors: `Io` if a device call failed, and `NoMemory` if memory for a pair's block isn't granted.
-/// The thread has then failed, and the image has the same tree.
+/// Errors: `Io` if a device call failed, and `NoMemory` if memory for a pair's block can't be
+/// allocated. The thread has then failed, and the image has the same tree.
 pub fn relocate<D: BlockDevice>(
     alloc: Global,
     thread: &mut Thread<D>,

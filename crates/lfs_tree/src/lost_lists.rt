@@ -106,7 +106,7 @@ pub(crate) fn lists_of_pairs<D: BlockDevice>(
 
 // Frees the blocks of lists in the map, once no pair names them. Writes nothing.
 //
-// Errors: `Io` if a read failed. The thread has failed then.
+// Errors: `Io` if a read failed. The thread has then failed.
 pub(crate) fn free_lists<D: BlockDevice>(
     thread: &mut Thread<D>,
     lists: &[StoredList],

@@ -28,7 +28,7 @@ use std::alloc::Global;
 
 // Frees the blocks of a file's list in the map, once no pair names it. Writes nothing.
 //
-// Errors: `Io` if a read failed. The thread has failed then.
+// Errors: `Io` if a read failed. The thread has then failed.
 pub(crate) fn free_file_list<D: BlockDevice>(
     thread: &mut Thread<D>,
     contents: FileStorage,

@@ -1,5 +1,5 @@
 // SPDX-License-Identifier: BSD-3-Clause
-//! Scripts: operations on a file system as text, one a line, and the answers to them.
+//! Scripts: operations on a file system as text, one per line, and their answers as text.
 #![tactic(auto)]
 
 mod answer;

@@ -8,7 +8,8 @@ From each NAME, `lfs_model`'s file and definition joined by a dot, it follows ev
 it counts for the headline, for the promise on power loss, and for both. --list prints each definition with its lines; --largest N the N
 largest, and the lines of each file.
 
-What a name means is taken from the imports of its file, and from the file itself; a name that std or the kit defines counts for nothing.
+What a name means is taken from the imports of its file, and from the file itself. A field is met where it stands behind a dot or before `=`.
+A name that std or the kit defines counts for nothing.
 So does a word of `declared`, a type of the code. A local definition counts as a part of the one around it.
 """
 import argparse
@@ -31,10 +32,11 @@ def without_comments(text):
 
 
 class File:
-    """A file of definitions: its imports, and each definition's name, lines and constructors or fields."""
+    """A file of definitions: its imports, and each definition's name, lines, constructors and fields."""
 
     def __init__(self, path, module):
-        self.module, self.imports, self.aliases, self.definitions, self.parts = module, {}, {}, collections.OrderedDict(), {}
+        self.module, self.imports, self.aliases, self.definitions = module, {}, {}, collections.OrderedDict()
+        self.constructors, self.fields = {}, {}
         lines = without_comments(open(path, encoding="utf-8").read())
         current = None
         for line in lines:
@@ -49,10 +51,11 @@ class File:
                 self.definitions.setdefault(current, []).append(line)
         for name, body in self.definitions.items():
             kind = re.match(r"^(?:abbrev |pub )*(record|data) ", body[0])
+            parts = (self.fields if kind.group(1) == "record" else self.constructors) if kind else {}
             for line in body[1:] if kind else []:
                 part = re.match(r"^\s+(?:pub )?([^\s:]+(?: [^\s:()]+)*) :", line)
                 for word in part.group(1).split() if part else []:
-                    self.parts.setdefault(word, name)
+                    parts.setdefault(word, name)
 
     def read_import(self, line):
         listed = re.match(r"([\w.]+)\.\{(.*)\}$", line.strip())
@@ -94,8 +97,8 @@ def owner(files, module, name):
         return None
     if name in file.definitions:
         return (module, name)
-    if name in file.parts:
-        return (module, file.parts[name])
+    if name in file.constructors:
+        return (module, file.constructors[name])
     return owner(files, *file.imports[name]) if name in file.imports else None
 
 
@@ -111,8 +114,11 @@ def uses(files, module, name):
             found.add((module, word))
         elif word in file.imports:
             found.add(owner(files, *file.imports[word]))
-        elif word in file.parts:
-            found.add((module, file.parts[word]))
+        elif word in file.constructors:
+            found.add((module, file.constructors[word]))
+    for word in re.findall(r"\.([^\s(){};,.∷]+)", text) + re.findall(r"([^\s(){};,.λ∷]+) =(?= )", text):
+        if word in file.fields:
+            found.add((module, file.fields[word]))
     return {f for f in found if f is not None and f != (module, name)}
 
 

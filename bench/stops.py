@@ -72,11 +72,13 @@ OTHER_ENTRIES = ["mkdir /x", "open /y 102", "write 0 *2000:y", "close 0"]
 class Story:
     """What a device or an image begins as, operations with their answers, and the tree before each of them and behind the last.
 
-    With a number of cycles pairs move, and `moves` says which have to: "root", "first" of a directory, "later" ones behind these."""
+    With a number of cycles pairs move, and `moves` says which have to: "root", "first" of a directory, "later" ones behind these. With
+    `blanks` the device says which bytes are blank."""
 
-    def __init__(self, name, begin, ops, tree=None, extra=0, counted=True, cycles=0, moves=()):
+    def __init__(self, name, begin, ops, tree=None, extra=0, counted=True, cycles=0, moves=(), blanks=False):
         self.name, self.begin, self.ops, self.extra, self.counted = name, begin, ops, extra, counted and not cycles
-        self.opening, self.moves = [f"profile pair-cycles {cycles}"] * (cycles > 0), moves
+        self.opening = [f"profile pair-cycles {cycles}"] * (cycles > 0) + ["blank-checks"] * blanks
+        self.cycles, self.moves, self.blanks = cycles, moves, blanks
         words = begin.split(" ")
         self.sizes = (int(words[1]), int(words[2]), int(words[3]) if words[0] == "fresh" else 16)
         model = Model(*self.sizes, tree, extra)
@@ -100,7 +102,7 @@ class Story:
 
     def answers_of(self, tree, answers):
         shown = seen(tree, self.looks)
-        used = f"count {Model(*self.sizes, tree, self.extra).used()}" if self.counted else "same" if self.opening else (answers or [""])[-1]
+        used = f"count {Model(*self.sizes, tree, self.extra).used()}" if self.counted else "same" if self.cycles else (answers or [""])[-1]
         return shown + ["done"] + shown + ["gstate 0 none", used]
 
 
@@ -131,6 +133,8 @@ def moving_stories():
                 moves=("root", "later"))
     yield Story("pairs that move where few blocks are free", "fresh 1024 128 6", written_anew("/a", 20), cycles=2, moves=("root", "later"))
     yield Story("pairs that stay where too few blocks are free", "fresh 1024 128 4", written_anew("/a", 20), cycles=2)
+    yield Story("pairs of all that move, on a device that knows blank bytes", "fresh 1024 128 64", IN_BOTH, cycles=2,
+                moves=("root", "first", "later"), blanks=True)
 
 
 def stories():
@@ -141,6 +145,11 @@ def stories():
     yield Story("the same, where erases keep the bytes", "fresh 1024 128 64 keep", ENTRIES)
     yield Story("a file written anew", "fresh 1024 128 64", WRITES)
     yield Story("a pair split and dropped", "fresh 1024 128 64", SPLIT, counted=False)
+    yield Story("a file made and moved, on a device that knows blank bytes", "fresh 1024 128 64", FILE_MADE_AND_MOVED, blanks=True)
+    yield Story("the same, where erases keep the bytes", "fresh 1024 128 64 keep", FILE_MADE_AND_MOVED, blanks=True)
+    yield Story("entries that come, go and move, on a device that knows blank bytes", "fresh 1024 128 64", ENTRIES, blanks=True)
+    yield Story("a move between directories, on a device that knows blank bytes", "image 4096 256 files.img", ["rename /d/f /g"], FILES, blanks=True)
+    yield Story("a directory made where a move was cut short, on such a device", "image 4096 256 moving.img", ["mkdir /e"], MOVING, blanks=True)
     yield Story("entries beside an open file", "fresh 1024 128 64", BESIDE)
     yield Story("a move between directories", "image 4096 256 files.img", ["rename /d/f /g"], FILES)
     yield Story("a move onto a file", "image 4096 256 files.img", ["rename /d/f /a"], FILES)

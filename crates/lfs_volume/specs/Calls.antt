@@ -1,4 +1,4 @@
--- Calls of a volume: which check refuses each, and what it replies and changes where none does.
+-- Calls of a volume: the check that refuses each, and the reply and the effect if none does.
 use Rattle.std.specs.Prelude.{ℕ, ◌+◌, ◌==◌, nat_lt, max, Bool, true, false, not, ◌&&◌, ◌||◌, if◌then◌else◌, List, [], ◌∷◌, ◌++◌, length, take, drop, map, slice_set, Option, Some, None, is_some, is_none, nat_eq, unwrap_or}
 use Rattle.std.specs.List.{list_any, position_or_len, starts_with}
 use Rattle.std.specs.Option.{option_map, option_and_then}
@@ -25,16 +25,16 @@ pub data Call : Type 0 where
   Truncate : (handle size : ℕ) → Call
   Sync : (handle : ℕ) → Call
   Close : (handle : ℕ) → Call
-  -- an operation of the session that is about no open file's number, and no remount
+  -- an operation of the session on the tree or the device, not on an open file, and no remount
   Perform : (operation : Operation) → Call
 
 -- ---- flags
 
--- reading, writing, or both; the others go with writing, and exclusive with create
+-- reading, writing, or both; create, truncate and append only with writing, exclusive only with create
 abbrev pub volume_flags_allowed : FlagsOfOpen → Bool
 volume_flags_allowed f = not f.unknown && (f.read || f.write) && (f.write || not (f.create || f.truncate || f.append)) && (f.create || not f.exclusive)
 
--- how the session is asked whether the file may be opened: a file that is to be made is made there
+-- the flags with which the session is asked whether the file may be opened; it creates the file then, if it is to be created
 abbrev pub session_flags : FlagsOfOpen → FlagsOfOpen
 session_flags f = if f.write then record writing_flags { create = f.create; exclusive = f.exclusive } else reading_flags
 
@@ -53,14 +53,14 @@ abbrev pub has_path : List ℕ → Option NodeView → Bool
 has_path path None = false
 has_path path (Some n) = unwrap_or (option_map (λ p. same_name p path) n.path) false
 
--- the least number that is free
+-- the least free index of a table, or its length
 abbrev pub free_entry : {A : Type 0} → List (Option A) → ℕ
 free_entry entries = position_or_len is_none entries
 
 abbrev pub with_entry : {A : Type 0} → List (Option A) → ℕ → Option A → List (Option A)
 with_entry entries i entry = if nat_lt i (length entries) then slice_set entries i entry else entries ++ entry ∷ []
 
--- the node of a path: the one that is open, or the least number that is free
+-- the index of the path's node: the one that is open, or the least free one
 abbrev pub node_of_path : List (Option NodeView) → List ℕ → ℕ
 node_of_path nodes path =
     if nat_lt (position_or_len (has_path path) nodes) (length nodes) then position_or_len (has_path path) nodes else free_entry nodes
@@ -77,7 +77,7 @@ named handles node = list_any (names_node node) handles
 abbrev pub needs_sync : NodeView → Bool
 needs_sync n = is_some n.hull && is_some n.path
 
--- The session may refuse the file's open. Otherwise the room has to be there: that of a writer that isn't turned.
+-- The session may refuse to open the file. Otherwise the blocks must be there that a writer needs, by `saving_need`.
 abbrev pub sync_refusal : DiskSummary → Tree → Option NodeView → Option Refusal
 sync_refusal around tree None = None
 sync_refusal around tree (Some n) =
@@ -124,7 +124,7 @@ call_refusal around v (Perform op) = operation_refusal around (idle_session v.tr
 
 -- ---- memory
 
--- the file of the node gets longer
+-- that size is more than the node's
 abbrev pub lengthens : Option NodeView → ℕ → Bool
 lengthens None size = false
 lengthens (Some n) size = nat_lt n.size size
@@ -133,8 +133,8 @@ abbrev pub write_lengthens : Option Handle → Option NodeView → List ℕ → 
 write_lengthens (Some h) (Some n) bytes = nat_lt n.size (write_place h n + length bytes)
 write_lengthens h n bytes = false
 
--- A call may want memory of the volume's own: for a handle and a node, for bytes that are returned, for a file that gets longer,
--- and for paths that move.
+-- A call may need memory of the volume's own: for a handle and a node, for bytes that are returned, for a file that becomes
+-- longer, and for paths that move.
 abbrev pub may_want_memory : Volume → Call → Bool
 may_want_memory v (Open path flags) = true
 may_want_memory v (Read handle count) = true
@@ -151,7 +151,7 @@ change_node i change v = record v { nodes = slice_set v.nodes i (option_map chan
 abbrev pub moved_handle : ℕ → ℕ → Volume → Volume
 moved_handle handle position v = record v { handles = slice_set v.handles handle (option_map (with_position position) (entry_at v.handles handle)) }
 
--- a file is open for reading as soon as its bytes are in memory
+-- the volume after all bytes of the node were loaded into memory
 abbrev pub load_node : ℕ → Volume → Volume
 load_node i v = change_node i (λ n. loaded_node (node_bytes v.tree n) n) v
 
@@ -159,19 +159,19 @@ abbrev pub sync_tree : Tree → Option NodeView → Tree
 sync_tree tree None = tree
 sync_tree tree (Some n) = if needs_sync n then tree_with_change (path_or_root (unwrap_or n.path [])) (node_with_bytes (node_bytes tree n)) tree else tree
 
--- a node without a path keeps its hull: nothing of it is stored
+-- a node without a path keeps its hull, as nothing of it is stored
 abbrev pub stored_node : NodeView → NodeView
 stored_node n = if needs_sync n then synced_node n else n
 
 abbrev pub sync_node : ℕ → Volume → Volume
 sync_node i v = record (change_node i stored_node v) { tree = sync_tree v.tree (entry_at v.nodes i) }
 
--- the nodes after a handle on one of them is gone
+-- the nodes after a handle on the node `i` was closed: the node is dropped with the last handle on it
 abbrev pub closed_nodes : List (Option Handle) → List (Option NodeView) → Option ℕ → List (Option NodeView)
 closed_nodes handles nodes None = nodes
 closed_nodes handles nodes (Some i) = if named handles i then nodes else slice_set nodes i None
 
--- the handle is free, and a node that no handle names is gone with its bytes
+-- the handle is free, and a node that no handle names is dropped with its bytes
 abbrev pub closed_volume : ℕ → Volume → Volume
 closed_volume handle v = record v {
   handles = slice_set v.handles handle None;
@@ -181,12 +181,12 @@ closed_volume handle v = record v {
 abbrev pub new_handle : ℕ → FlagsOfOpen → Handle
 new_handle node flags = record { node = node; position = 0; reads = flags.read; writes = flags.write; appends = flags.append }
 
--- the node of an opened file: the one that is open, or a new one of that size; it is empty where the file is to be cut
+-- the node of an opened file: the one that is open, or a new one of that size; no bytes if the flags truncate it
 abbrev pub node_on_open : List ℕ → ℕ → Bool → Option NodeView → NodeView
 node_on_open path size truncates found =
     if truncates then resized_node 0 [] (unwrap_or found (opened_node path size)) else unwrap_or found (opened_node path size)
 
--- the nodes with that of an opened file
+-- the nodes after a file was opened
 abbrev pub opened_nodes : List ℕ → ℕ → Bool → List (Option NodeView) → List (Option NodeView)
 opened_nodes path size truncates nodes =
     with_entry nodes (node_of_path nodes path) (Some (node_on_open path size truncates (entry_at nodes (node_of_path nodes path))))
@@ -207,11 +207,11 @@ open_volume tree path flags v = (
 abbrev pub is_at_or_beneath : List ℕ → List ℕ → Bool
 is_at_or_beneath old path = starts_with nat_eq path old && ((length path == length old) || starts_with nat_eq (drop (length old) path) (slash_byte ∷ []))
 
--- a node with that path loses it, and keeps its bytes
+-- a node of that path loses it, and keeps its bytes in memory
 abbrev pub unlink_path : Tree → List ℕ → NodeView → NodeView
 unlink_path tree path n = if has_path path (Some n) then unlinked_node (loaded_node (node_bytes tree n) n) else n
 
--- the path that a node gets by a rename, if it moves: the new path, and what was behind the old one
+-- the path of a node after a rename, if it moves: the new path, followed by the part behind the old one
 abbrev pub moved_path : List ℕ → List ℕ → NodeView → Option (List ℕ)
 moved_path old new n = option_and_then (λ p. if is_at_or_beneath old p then Some (new ++ drop (length old) p) else None) n.path
 
@@ -219,11 +219,11 @@ abbrev pub with_path : Option (List ℕ) → NodeView → NodeView
 with_path None n = n
 with_path (Some path) n = record n { path = Some path }
 
--- a node at the old path or beneath it moves
+-- a node at or beneath the old path moves
 abbrev pub moved_node : List ℕ → List ℕ → NodeView → NodeView
 moved_node old new n = with_path (moved_path old new n) n
 
--- the node with that number is changed
+-- the node of that index is changed
 abbrev pub changed_at : ℕ → (NodeView → NodeView) → List (Option NodeView) → List (Option NodeView)
 changed_at i change nodes = slice_set nodes i (option_map change (entry_at nodes i))
 
@@ -231,13 +231,13 @@ changed_at i change nodes = slice_set nodes i (option_map change (entry_at nodes
 abbrev pub without_path : List ℕ → List (Option NodeView) → List (Option NodeView)
 without_path path nodes = changed_at (position_or_len (has_path path) nodes) unlinked_node nodes
 
--- each node gets the path of its number
+-- each node is set to the path of its index, if there is one
 abbrev pub with_paths : List (Option (List ℕ)) → List (Option NodeView) → List (Option NodeView)
 with_paths [] nodes = nodes
 with_paths (path ∷ paths) [] = []
 with_paths (path ∷ paths) (node ∷ nodes) = option_map (with_path path) node ∷ with_paths paths nodes
 
--- what an operation of the session makes of open files
+-- the open files after an operation of the session
 abbrev pub nodes_after : Tree → Operation → List (Option NodeView) → List (Option NodeView)
 nodes_after tree (ops.Remove path) nodes = map (option_map (unlink_path tree path)) nodes
 nodes_after tree (ops.Rename old new) nodes = map (option_map (λ n. moved_node old new (if same_name old new then n else unlink_path tree new n))) nodes
@@ -263,7 +263,7 @@ write_effect v handle bytes h n = (ops.Count 0, v)
 abbrev pub node_number : Volume → ℕ → ℕ
 node_number v handle = unwrap_or (option_map (λ h. h.node) (entry_at v.handles handle)) (length v.nodes)
 
--- the handle is free even where the sync is refused
+-- the handle is free even if the sync is refused
 abbrev pub close_effect : Volume → ℕ → Option Refusal → Reply × Volume
 close_effect v handle None = (ops.Done, closed_volume handle (sync_node (node_number v handle) v))
 close_effect v handle (Some error) = (ops.Refused error, closed_volume handle v)

@@ -1,4 +1,4 @@
--- Volumes on a fresh disk, for contracts that show what their calls reply.
+-- Volumes on a fresh disk, for contracts that show the replies to their calls.
 use Rattle.std.specs.Prelude.{ℕ, true, false, List, [], ◌∷◌, Some, codes}
 use Rattle.lfs_model.specs.tree.Fresh.{empty_tree}
 use Rattle.lfs_model.specs.session.Operations.{FlagsOfOpen, Reply}
@@ -19,17 +19,17 @@ abbrev pub volume_from : DiskSummary → Volume → List Call → Volume
 volume_from around v [] = v
 volume_from around v (call ∷ calls) = volume_from around (call_result around v call).1 calls
 
--- on blocks of 128 bytes, so many, of which two are used
+-- the replies on a disk of `block_count` blocks of 128 bytes, of which two are used
 abbrev pub volume_replies : ℕ → List Call → List Reply
 volume_replies block_count calls = replies_from (writable_summary 128 16 block_count 2) fresh_volume calls
 
--- for reading and writing, and a file that isn't there is made
+-- for reading and writing; creates a file that isn't there
 abbrev pub new_flags : FlagsOfOpen
 new_flags = record creating_flags { read = true }
 
 abbrev pub volume_after : ℕ → List Call → Volume
 volume_after block_count calls = volume_from (writable_summary 128 16 block_count 2) fresh_volume calls
 
--- a file of four bytes is open, for reading and writing
+-- a file of four bytes that is open for reading and writing
 abbrev pub one_open_file : Volume
 one_open_file = record { tree = empty_tree; nodes = Some (opened_node (codes "/a") 4) ∷ []; handles = Some (record { node = 0; position = 0; reads = true; writes = true; appends = false }) ∷ [] }

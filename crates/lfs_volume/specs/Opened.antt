@@ -25,19 +25,19 @@ pub record IsIdle (h : SessionView) (tree : Tree) : Type 0 where
 abbrev pub one_file : Tree → OpenFile → Session
 one_file tree file = record { tree = tree; files = Some file ∷ [] }
 
--- The session works, has this tree, and one file is open in it, under the number 0.
+-- The session works, has this tree, and one file is open in it, with the number 0.
 pub record HasOneFile (h : SessionView) (tree : Tree) (file : OpenFile) : Type 0 where
   pub works : h.tree.failed ≡ false
   pub is : viewed_session h ≡ one_file tree file
 
--- how the volume opens a file in the session
+-- the flags with which the volume opens a file in the session
 abbrev pub reading_flags : FlagsOfOpen
 reading_flags = record { read = true; write = false; create = false; exclusive = false; truncate = false; append = false; unknown = false }
 
 abbrev pub writing_flags : FlagsOfOpen
 writing_flags = record { read = false; write = true; create = false; exclusive = false; truncate = false; append = false; unknown = false }
 
--- A path leads to a file of the tree: an open for reading isn't refused.
+-- A path leads to a file of the tree, so an open for reading isn't refused.
 pub record LeadsToFile (tree : Tree) (path : List ℕ) : Type 0 where
   pub given : is_none (parse_path path) ≡ false
   pub parents : parents_refusal tree [] (path_or_root path) ≡ None
@@ -45,11 +45,11 @@ pub record LeadsToFile (tree : Tree) (path : List ℕ) : Type 0 where
 
 -- ---- room
 
--- how many blocks a file of so many bytes takes until it is stored: a writer that isn't turned holds so many
+-- the free blocks that a save of a file of `size` bytes needs: two, and those of its list, as for a writer that isn't turned
 abbrev pub saving_need : Disk → ℕ → ℕ
 saving_need disk size = 2 + list_block_count disk.profile disk.block_size size
 
--- so many blocks are neither used nor held
+-- at least `need` blocks of the disk aren't used
 abbrev pub HasRoom : SessionView → ℕ → Type 0
 HasRoom h need = (ps : List Pair) → IsAccepted h.tree.disk ps → length (used_blocks h.tree.disk ps) + need ≤ block_count h.tree.disk
 

@@ -1,4 +1,4 @@
--- How a session loads a file's bytes, and how it stores new ones.
+-- The session's calls that load a file's bytes, and those that store new ones.
 use Rattle.std.specs.Prelude.{ℕ, ◌≡◌, ◌≤◌, ◌-◌, ◌⊎◌, Bool, nat_lt, true, false, if◌then◌else◌, List, [], ◌∷◌, ◌++◌, length, take, drop, None, is_none, Result, Ok, Err}
 use Rattle.lfs_device.specs.declared.error.Error.{Error}
 use Rattle.lfs_device.specs.declared.error.Error.TheVariants.{NoSpace}
@@ -23,21 +23,21 @@ use Rattle.lfs_volume.specs.Opened.{HasOneFile, IsIdle, HasRoom, LacksRoom, savi
 use Rattle.lfs_volume.specs.Volume.{idle_session}
 use Rattle.lfs_volume.specs.SessionCalls.{AreQuietCalls, IsAcceptedCall, EndsInCall, error_result}
 
--- the bytes of the tree's file
+-- the bytes of the file in the session's tree
 abbrev pub path_bytes_of : SessionView → List ℕ → List ℕ
 path_bytes_of h path = file_bytes (shown_tree h.tree (path_or_root path))
 
--- where the call was refused, the session works, has the same tree, and no file is open
+-- if the call was refused, the session works, has the same tree, and no file is open
 abbrev pub IsIdleIfRefused : Error → SessionView → SessionView → Type 0
 IsIdleIfRefused e old new = refusals.is_refusal e ≡ true → IsIdle new (shown_tree old.tree)
 
 -- ---- a file is found, or made
 
--- the tree once a file is at the path
+-- the tree with a file at the path, which is created if there is none
 abbrev pub found_tree : Tree → Path → Tree
 found_tree tree p = if is_none (tree p) then tree_creating p (FileNode [] []) tree else tree
 
--- The session opened the file with these flags, and closed it. The file was there, or was made.
+-- The session opened the file with these flags, and closed it. The file was there, or was created.
 pub record IsFileFound (old : SessionView) (path : List ℕ) (flags : FlagsOfOpen) (size : ℕ) (new : SessionView) : Type 0 where
   pub around : DiskSummary
   pub pairs : List Pair
@@ -56,7 +56,7 @@ pub record IsFileFound (old : SessionView) (path : List ℕ) (flags : FlagsOfOpe
 abbrev pub loading_operations : List ℕ → ℕ → List Operation
 loading_operations path size = ops.Open path reading_flags ∷ ops.Read 0 size ∷ ops.Close 0 ∷ []
 
--- The session gave all bytes of the file, and is as idle as before.
+-- The session returned all bytes of the file, and is as idle as before.
 pub record IsLoaded (old : SessionView) (path bytes : List ℕ) (new : SessionView) : Type 0 where
   pub is : bytes ≡ path_bytes_of old path
   pub calls : AreQuietCalls old (loading_operations path (length bytes)) new
@@ -68,15 +68,15 @@ pub record IsLoaded (old : SessionView) (path bytes : List ℕ) (new : SessionVi
 abbrev pub hull_bytes : Hull → List ℕ → List ℕ
 hull_bytes h bytes = take (h.end - h.from) (drop h.from bytes)
 
--- The file is opened, and the position is set to where the hull begins.
+-- opens the file, and moves to the beginning of the hull
 abbrev pub opening_operations : List ℕ → ℕ → List Operation
 opening_operations path from = ops.Open path writing_flags ∷ ops.Seek 0 from ∷ []
 
--- Then the room is asked for, and nothing is written before that.
+-- then asks for the used blocks; nothing was written yet
 abbrev pub asking_operations : List ℕ → ℕ → List Operation
 asking_operations path from = opening_operations path from ++ ops.UsedCount ∷ []
 
--- Then the file is cut, where it was longer, and the hull is written.
+-- then cuts the file, if it was longer, and writes the hull
 abbrev pub writing_operations : ℕ → List ℕ → Hull → List Operation
 writing_operations stored bytes h = (if nat_lt (length bytes) stored then ops.Truncate 0 (length bytes) ∷ [] else []) ++ ops.Write 0 (hull_bytes h bytes) ∷ []
 
@@ -85,23 +85,23 @@ saving_operations stored path bytes h = asking_operations path h.from ++ writing
 
 -- ---- its parts
 
--- a writer that has made no change but a cut, or none at all
+-- a writer that has cut the file, or changed nothing
 abbrev pub writer_at : Path → List ℕ → ℕ → Bool → FileWriter
 writer_at path contents position dirty = record { path = path; contents = contents; position = position; append = false; dirty = dirty; turned = false; last_end = None }
 
--- the file is open for writing, at that position
+-- the file is open for writing, and its position is `from`
 pub record IsOpenedAt (old : SessionView) (path : List ℕ) (from fd : ℕ) (new : SessionView) : Type 0 where
   pub number : fd ≡ 0
   pub quiet : AreQuietCalls old (opening_operations path from) new
   pub opened : HasOneFile new (shown_tree old.tree) (Writing (writer_at (path_or_root path) (path_bytes_of old path) from false))
 
--- the answer whether there is room to store so many bytes
+-- whether there is room for a save of a file of `size` bytes
 abbrev pub IsRoomAnswer : SessionView → ℕ → Result Bool Error → Type 0
 IsRoomAnswer h size (Ok true) = IsAcceptedCall h ops.UsedCount h × HasRoom h (saving_need h.tree.disk size)
 IsRoomAnswer h size (Ok false) = IsAcceptedCall h ops.UsedCount h × LacksRoom h (saving_need h.tree.disk size)
 IsRoomAnswer h size (Err e) = IsCall h ops.UsedCount (error_result e) h
 
--- the session works, the writer has the new bytes, and a close brings them into the tree
+-- the session works, the writer has the new bytes, and its close stores them in the tree
 pub record IsWritten (old : SessionView) (tree : Tree) (path : Path) (stored bytes : List ℕ) (hull : Hull) (new : SessionView) : Type 0 where
   pub quiet : AreQuietCalls old (writing_operations (length stored) bytes hull) new
   pub writer : FileWriter
@@ -110,7 +110,7 @@ pub record IsWritten (old : SessionView) (tree : Tree) (path : Path) (stored byt
   pub contents : writer.contents ≡ bytes
   pub changes : (writer.dirty ≡ true) ⊎ (stored ≡ bytes)
 
--- what the writing needs: the file is open and unchanged, and there is room
+-- what a write of the hull requires: the file is open and unchanged, and there is room
 pub record CanWriteHull (h : SessionView) (tree : Tree) (path : Path) (stored bytes : List ℕ) (hull : Hull) : Type 0 where
   pub opened : HasOneFile h tree (Writing (writer_at path stored hull.from false))
   pub room : HasRoom h (saving_need h.tree.disk (length bytes))
@@ -119,13 +119,13 @@ pub record CanWriteHull (h : SessionView) (tree : Tree) (path : Path) (stored by
 
 -- ---- the whole
 
--- what a save needs: no file is open, and the stored bytes differ from the new ones in the hull alone
+-- what a save requires: no file is open, and the stored bytes differ from the new ones in the hull alone
 pub record CanSave (h : SessionView) (path bytes : List ℕ) (hull : Hull) : Type 0 where
   pub idle : IsIdle h (shown_tree h.tree)
   pub small : length bytes ≤ profile_file_max h.tree.disk.profile
   pub differs : DiffersWithin (path_bytes_of h path) bytes hull
 
--- The file has the new bytes, and only the close of the file showed them. There was room when it was asked for.
+-- The file has the new bytes, and the tree changed only at the file's close. There was room when it was asked for.
 pub record IsSaved (old : SessionView) (path bytes : List ℕ) (hull : Hull) (new : SessionView) : Type 0 where
   pub asked_at : SessionView
   pub asked : AreQuietCalls old (asking_operations path hull.from) asked_at
@@ -135,7 +135,7 @@ pub record IsSaved (old : SessionView) (path bytes : List ℕ) (hull : Hull) (ne
   pub closed : IsAcceptedCall at (ops.Close 0) new
   pub idle : IsIdle new (tree_with_change (path_or_root path) (node_with_bytes bytes) (shown_tree old.tree))
 
--- The room was asked for and isn't there. The tree is as it was.
+-- There was too little room when it was asked for. The tree is as it was.
 pub record LacksSavingRoom (old : SessionView) (path bytes : List ℕ) (hull : Hull) (new : SessionView) : Type 0 where
   pub at : SessionView
   pub asked : AreQuietCalls old (asking_operations path hull.from) at
@@ -143,14 +143,14 @@ pub record LacksSavingRoom (old : SessionView) (path bytes : List ℕ) (hull : H
   pub closed : IsAcceptedCall at (ops.Close 0) new
   pub idle : IsIdle new (shown_tree old.tree)
 
--- How a save is refused: the room isn't there, or the session refuses the open.
+-- How a save is refused: there is too little room, or the session refuses the open.
 abbrev pub IsSaveRefused : Error → SessionView → List ℕ → List ℕ → Hull → SessionView → Type 0
 IsSaveRefused e old path bytes hull new = refusals.is_refusal e ≡ true →
     ((e ≡ NoSpace) × LacksSavingRoom old path bytes hull new)
     ⊎ IsCall old (ops.Open path writing_flags) (error_result e) new
 
--- How a save ends in an error. The room isn't there, or an operation ended in that error: the open was refused, or the session
--- failed.
+-- How a save ends in an error: there is too little room, or an operation ended in that error (the open was refused, or the session
+-- failed).
 abbrev pub EndsSave : Error → SessionView → List ℕ → List ℕ → Hull → SessionView → Type 0
 EndsSave e old path bytes hull new =
     ((e ≡ NoSpace) × LacksSavingRoom old path bytes hull new)

@@ -16,10 +16,10 @@ pub record IsAcceptedCall (old : SessionView) (op : Operation) (new : SessionVie
   pub reply : Reply
   pub accepted : is_refusal reply ≡ false
   pub call : IsCall old op (Ok reply) new
-  -- it isn't a remount, which may find another order of names
+  -- a remount is excluded, since it may find another order of names
   pub other : is_remount op ≡ false
 
--- it accepted all of these operations, and kept its tree in each
+-- it accepted all of these operations, and none of them changed its tree
 abbrev pub AreQuietCalls : SessionView → List Operation → SessionView → Type 0
 AreQuietCalls old [] new = old ≡ new
 AreQuietCalls old (op ∷ operations) new = (next : SessionView) × (IsAcceptedCall old op next × (shown_tree next.tree ≡ shown_tree old.tree) × AreQuietCalls next operations new)
@@ -40,11 +40,12 @@ pub record ChangeOnce (old : SessionView) (operations : List Operation) (new : S
 abbrev pub AreVolumeSteps : SessionView → List Operation → SessionView → Type 0
 AreVolumeSteps old operations new = AreQuietCalls old operations new ⊎ ChangeOnce old operations new
 
--- a refusal is a reply, and another error takes a reply's place
+-- the result of a call that ends in this error: a refusal is a reply
 abbrev pub error_result : Error → Result Reply Error
 error_result e = if refusals.is_refusal e then Ok (ops.Refused (error_refusal e)) else Err e
 
--- Some of these operations kept the tree. The next one ended in that error: it was refused, or the session failed.
+-- Some of these operations were accepted, and kept the tree. The next one ended in that error: it was refused, or the session
+-- failed.
 pub record EndsInCall (e : Error) (old : SessionView) (operations : List Operation) (new : SessionView) : Type 0 where
   pub before : List Operation
   pub next : Operation
@@ -54,6 +55,6 @@ pub record EndsInCall (e : Error) (old : SessionView) (operations : List Operati
   pub quiet : AreQuietCalls old before at
   pub ends : IsCall at next (error_result e) new
 
--- the session failed by that error in one of its calls, and the calls before kept the tree
+-- the session failed with that error in one of its calls, and the calls before it kept the tree
 abbrev pub FailsInCalls : Error → SessionView → SessionView → Type 0
 FailsInCalls e old new = (refusals.is_refusal e ≡ false) × ((operations : List Operation) × EndsInCall e old operations new)

@@ -1,4 +1,4 @@
--- What a loss of power within a volume's call leaves.
+-- The trees that a loss of power within a volume's call may leave.
 use Rattle.std.specs.Prelude.{◌≡◌, ◌⊎◌}
 use Rattle.lfs_model.specs.declared.order.NameOrder.{NameOrder}
 use Rattle.lfs_model.specs.format.Disk.{Disk, ordered_disk}
@@ -7,13 +7,13 @@ use Rattle.lfs_model.specs.crash.RepeatedPowerLoss.{KeepsTree, LeftBetween, Meet
 use Rattle.lfs_tree.specs.TreeState.{shown_tree}
 use Rattle.lfs_fs.specs.SessionView.{SessionView, system_state}
 
--- The disk that was left has one of these trees. A mount finds it, and a recovery keeps it.
+-- The disk that was left has one of these trees: a mount finds it, and a recovery keeps it.
 pub record LeavesEitherTree (left : Disk) (before after : Tree) : Type 0 where
   pub order : NameOrder
   pub tree : Tree
   pub is : (tree ≡ before) ⊎ (tree ≡ after)
   pub safe : KeepsTree tree (ordered_disk order left)
 
--- Wherever power is lost between these states, the disk has the tree of the one or of the other.
+-- If power is lost anywhere between these states, the disk has the tree of the one or of the other.
 abbrev pub StopLeaves : SessionView → SessionView → Type 0
 StopLeaves from to = MeetsRunPremises (system_state from) (system_state to) → (left : Disk) → LeftBetween (system_state from) (system_state to) left → LeavesEitherTree left (shown_tree from.tree) (shown_tree to.tree)

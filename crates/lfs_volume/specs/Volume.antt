@@ -14,13 +14,13 @@ use Rattle.lfs_volume.specs.Hulls.{hull_with, resized_hull}
 
 -- An open file. All handles on it see the same bytes.
 pub record NodeView : Type 0 where
-  -- none once the file was removed or replaced
+  -- None once the file was removed or replaced
   pub path : Option (List ℕ)
-  -- how many bytes it has, with what isn't synced
+  -- its length in bytes, with what isn't synced yet
   pub size : ℕ
-  -- none as long as nothing was read or written: the bytes are those of the tree
+  -- None until bytes are read or written; the bytes are those of the tree then
   pub contents : Option (List ℕ)
-  -- where the contents aren't what is stored, if they aren't
+  -- the range in which the contents may differ from the stored ones, if any
   pub hull : Option Hull
 
 -- what contracts see of a volume
@@ -29,7 +29,7 @@ pub record VolumeView : Type 0 where
   pub nodes : List (Option NodeView)
   pub handles : List (Option Handle)
 
--- the volume of the definitions, where the session works
+-- the volume of the definitions, while the session works
 pub record Volume : Type 0 where
   pub tree : Tree
   pub nodes : List (Option NodeView)
@@ -38,11 +38,11 @@ pub record Volume : Type 0 where
 abbrev pub volume_of : VolumeView → Volume
 volume_of v = record { tree = shown_tree v.session.tree; nodes = v.nodes; handles = v.handles }
 
--- the session that the volume's own operations meet: no file is open in it
+-- the session at the beginning of each call of a volume: no file is open in it
 abbrev pub idle_session : Tree → Session
 idle_session tree = record { tree = tree; files = [] }
 
--- what a table has under a number
+-- the entry of that index, if there is one
 abbrev pub entry_at : {A : Type 0} → List (Option A) → ℕ → Option A
 entry_at entries i = option_flatten (slice_get entries i)
 
@@ -55,14 +55,14 @@ stored_bytes tree (Some path) = file_bytes (tree (path_or_root path))
 abbrev pub node_bytes : Tree → NodeView → List ℕ
 node_bytes tree n = unwrap_or n.contents (stored_bytes tree n.path)
 
--- a node that was just opened
+-- a node that was opened just now
 abbrev pub opened_node : List ℕ → ℕ → NodeView
 opened_node path size = record { path = Some path; size = size; contents = None; hull = None }
 
 abbrev pub loaded_node : List ℕ → NodeView → NodeView
 loaded_node bytes n = record n { contents = Some bytes }
 
--- bytes are written at a place
+-- the node after a write of bytes at the offset `at`
 abbrev pub written_node : ℕ → List ℕ → List ℕ → NodeView → NodeView
 written_node at [] old n = n
 written_node at (b ∷ bytes) old n = record n {
@@ -71,17 +71,17 @@ written_node at (b ∷ bytes) old n = record n {
   hull = Some (hull_with n.hull (min at n.size) (at + length (b ∷ bytes)));
 }
 
--- the node gets another size
+-- the node after its file was resized
 abbrev pub resized_node : ℕ → List ℕ → NodeView → NodeView
 resized_node size old n =
     if size == n.size then n
     else record n { size = size; contents = Some (take size (zero_padded size old)); hull = Some (resized_hull n.hull n.size size) }
 
--- the contents are stored
+-- the node after its contents were stored
 abbrev pub synced_node : NodeView → NodeView
 synced_node n = record n { hull = None }
 
--- the file is removed or replaced
+-- the node after its file was removed or replaced
 abbrev pub unlinked_node : NodeView → NodeView
 unlinked_node n = record n { path = None; hull = None }
 

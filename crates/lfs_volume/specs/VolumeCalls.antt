@@ -1,4 +1,4 @@
--- What a volume keeps between its calls, and the relation that each call of a volume is to meet.
+-- The invariant of a volume, and the relation that each of its calls meets.
 use Rattle.std.specs.Prelude.{ℕ, ◌≡◌, ◌+◌, ◌<◌, ◌≤◌, ◌⊎◌, IfSome, if◌then◌else◌, max, true, false, List, [], length, Option, Some, None, IsSome, Result, Ok, Err, slice_set}
 use Rattle.std.specs.Option.{option_map}
 use Rattle.lfs_device.specs.declared.error.Error.{Error}
@@ -27,8 +27,8 @@ use Rattle.lfs_volume.specs.Volume.{NodeView, Volume, VolumeView, entry_at, load
 
 -- ---- what is kept
 
--- A node's contents differ from the stored ones in its hull alone. One whose bytes aren't in memory has the size of the stored
--- ones. A node's path leads to a file of the tree.
+-- A node's contents differ from the stored ones in its hull alone. If they aren't in memory, its size is that of the stored ones.
+-- Its path leads to a file of the tree.
 pub record IsSoundNode (h : SessionView) (n : NodeView) : Type 0 where
   pub sized : n.contents ≡ None → length (stored_bytes (shown_tree h.tree) n.path) ≡ n.size
   pub unchanged : n.contents ≡ None → n.hull ≡ None
@@ -37,14 +37,14 @@ pub record IsSoundNode (h : SessionView) (n : NodeView) : Type 0 where
   pub small : IsSome n.hull → n.size ≤ profile_file_max h.tree.disk.profile
   pub leads : (path : List ℕ) → n.path ≡ Some path → LeadsToFile (shown_tree h.tree) path
 
--- No file is open in the session. Each handle names a node, and the paths of no two nodes lead to one file.
+-- No file is open in the session. Each handle names a node, and no two nodes have paths of one file.
 pub record IsSoundVolume (v : VolumeView) : Type 0 where
   pub idle : IsIdle v.session (shown_tree v.session.tree)
   pub nodes : (i : ℕ) (n : NodeView) → entry_at v.nodes i ≡ Some n → IsSoundNode v.session n
   pub named : (i : ℕ) (h : Handle) → entry_at v.handles i ≡ Some h → IsSome (entry_at v.nodes h.node)
   pub apart : (i j : ℕ) (n m : NodeView) (path other : List ℕ) → entry_at v.nodes i ≡ Some n → entry_at v.nodes j ≡ Some m → n.path ≡ Some path → m.path ≡ Some other → path_or_root path ≡ path_or_root other → i ≡ j
 
--- what each volume keeps, while it works
+-- the invariant of each volume, while it works
 abbrev pub IsSound : VolumeView → Type 0
 IsSound v = v.session.tree.failed ≡ false → IsSoundVolume v
 
@@ -52,17 +52,17 @@ IsSound v = v.session.tree.failed ≡ false → IsSoundVolume v
 abbrev pub HasNoHandles : VolumeView → Type 0
 HasNoHandles v = (v.nodes ≡ []) × (v.handles ≡ [])
 
--- open files and handles stay
+-- the same open files and handles
 abbrev pub HasSameTables : VolumeView → VolumeView → Type 0
 HasSameTables old new = (new.nodes ≡ old.nodes) × (new.handles ≡ old.handles)
 
 -- ---- how a call ends
 
--- the same node, whose bytes may have come into memory
+-- the same node, whose bytes may have been loaded
 abbrev pub IsSameNode : Tree → NodeView → NodeView → Type 0
 IsSameNode tree n m = (m ≡ n) ⊎ (m ≡ loaded_node (node_bytes tree n) n)
 
--- The same volume, of which more bytes may be in memory: no caller sees it.
+-- The same volume, with more bytes in memory at most: no caller sees it.
 pub record IsSameVolume (v w : Volume) : Type 0 where
   pub tree : w.tree ≡ v.tree
   pub handles : w.handles ≡ v.handles
@@ -70,12 +70,12 @@ pub record IsSameVolume (v w : Volume) : Type 0 where
   pub none : (i : ℕ) → entry_at v.nodes i ≡ None → entry_at w.nodes i ≡ None
   pub some : (i : ℕ) (n : NodeView) → entry_at v.nodes i ≡ Some n → (m : NodeView) × ((entry_at w.nodes i ≡ Some m) × IsSameNode v.tree n m)
 
--- what the session did: it accepted all of these operations, or refused one
+-- the session's part: it accepted all of these operations, or refused one
 abbrev pub IsSessionPart : SessionView → List Operation → SessionView → Type 0
 IsSessionPart old operations new = AreVolumeSteps old operations new ⊎ ((e : Error) × ((refusals.is_refusal e ≡ true) × EndsInCall e old operations new))
 
--- The reply and the next volume are those of the definitions, by what the disk holds when the session is asked: at first, or after
--- calls that kept the tree.
+-- The reply and the next volume are those of the definitions, by the disk at the time when the session is asked: at first, or
+-- after calls that kept the tree.
 pub record IsReplied (old : VolumeView) (call : Call) (reply : Reply) (new : VolumeView) : Type 0 where
   pub around : DiskSummary
   pub at : SessionView
@@ -90,7 +90,7 @@ pub record IsReplied (old : VolumeView) (call : Call) (reply : Reply) (new : Vol
   pub operations : List Operation
   pub session_part : IsSessionPart old.session operations new.session
 
--- The volume wanted memory of its own, in a call that may. It works on as it was, and the session kept its tree.
+-- The volume needed memory of its own, in a call that may. It works as before, and the session's tree is unchanged.
 pub record WantsMemory (old : VolumeView) (call : Call) (new : VolumeView) : Type 0 where
   pub may : may_want_memory (volume_of old) call ≡ true
   pub works : new.session.tree.failed ≡ false
@@ -98,7 +98,7 @@ pub record WantsMemory (old : VolumeView) (call : Call) (new : VolumeView) : Typ
   pub operations : List Operation
   pub calls : AreQuietCalls old.session operations new.session
 
--- A reply; or the volume wanted memory, and works on as it was; or the session has failed in one of its operations.
+-- A reply; or the volume needed memory, and works as before; or the session failed in one of its operations.
 abbrev pub IsWorkingCall : VolumeView → Call → Result Reply Error → VolumeView → Type 0
 IsWorkingCall old call (Ok reply) new = IsReplied old call reply new
 IsWorkingCall old call (Err e) new =
@@ -110,13 +110,13 @@ pub record IsVolumeCall (old : VolumeView) (call : Call) (result : Result Reply 
   pub failed : old.session.tree.failed ≡ true → (result ≡ Ok (ops.Refused ops.Failed)) × (new ≡ old)
   pub works : old.session.tree.failed ≡ false → IsWorkingCall old call result new
 
--- A call that is one operation of the session, about no open file. What it does to the disk is what the session's own call does.
+-- A call that is one operation of the session, not on an open file. Its effect on the disk is that of the session's own call.
 pub record IsSessionCall (old : VolumeView) (op : Operation) (result : Result Reply Error) (new : VolumeView) : Type 0 where
   pub call : IsVolumeCall old (Perform op) result new
   pub session : IsCall old.session op result new.session
 
--- A remount closes all handles and remounts the session, whether the session had failed or not. Where it succeeds, the volume works
--- and has the tree that the disk shows. Where it ends in an error, the volume has failed.
+-- A remount closes all handles and remounts the session, whether the session had failed or not. If it succeeds, the volume works
+-- and has the tree that the disk shows. After an error the volume has failed.
 pub record IsRemount (old : VolumeView) (result : Result Reply Error) (new : VolumeView) : Type 0 where
   pub call : IsCall old.session ops.Remount result new.session
   pub closed : HasNoHandles new
@@ -125,16 +125,16 @@ pub record IsRemount (old : VolumeView) (result : Result Reply Error) (new : Vol
 
 -- ---- the parts of a call of a session
 
--- the session works: it was asked for its used blocks, and answered
+-- the session works: it was asked for its used blocks, and returned them
 abbrev pub IsWorking : SessionView → Type 0
 IsWorking h = (h.tree.failed ≡ false) × ((n : ℕ) × IsCall h ops.UsedCount (Ok (ops.Count n)) h)
 
--- the handle of that number; or the session has failed, or no handle has the number
+-- the handle of that number; or `Failed` if the session has failed, or `BadFile` if there is no such handle
 abbrev pub IsFoundHandle : VolumeView → ℕ → Result Handle Error → Type 0
 IsFoundHandle v handle (Ok h) = IsWorking v.session × (entry_at v.handles handle ≡ Some h)
 IsFoundHandle v handle (Err e) = ((e ≡ Failed) × (v.session.tree.failed ≡ true)) ⊎ ((e ≡ BadFile) × IsWorking v.session × (entry_at v.handles handle ≡ None))
 
--- What refuses a sync of a node, if anything does, by what the disk holds when the session is asked.
+-- The refusal of a node's sync, if any, by the disk at the time when the session is asked.
 pub record IsSyncRefusal (old : SessionView) (n : NodeView) (refusal : Option Refusal) : Type 0 where
   pub around : DiskSummary
   pub at : SessionView
@@ -146,7 +146,7 @@ pub record IsSyncRefusal (old : SessionView) (n : NodeView) (refusal : Option Re
   pub reached : AreQuietCalls old before at
   pub is : sync_refusal around (shown_tree old.tree) (Some n) ≡ refusal
 
--- A node was stored, where it has a path and a hull.
+-- A node was synced: stored, if it has a path and a hull.
 pub record IsNodeSynced (old : SessionView) (n : NodeView) (new : SessionView) (m : NodeView) : Type 0 where
   pub node : m ≡ stored_node n
   pub idle : IsIdle new (sync_tree (shown_tree old.tree) (Some n))
@@ -166,7 +166,7 @@ pub record IsNodeRefused (e : Error) (old : SessionView) (n : NodeView) (new : S
 abbrev pub EndsNodeSync : Error → SessionView → NodeView → SessionView → Type 0
 EndsNodeSync e old n new = IsNodeRefused e old n new ⊎ FailsInCalls e old new
 
--- The bytes that are stored of a node were read.
+-- The stored bytes of a node were read.
 pub record AreStoredBytes (old : SessionView) (n : NodeView) (new : SessionView) (bytes : List ℕ) : Type 0 where
   pub are : bytes ≡ stored_bytes (shown_tree old.tree) n.path
   pub idle : IsIdle new (shown_tree old.tree)
@@ -182,23 +182,23 @@ pub record IsNodeLoaded (old : SessionView) (n : NodeView) (new : SessionView) (
 
 -- ---- the same of a node by its number
 
--- the node of that number is sound, if there is one
+-- the node of that index is sound, if there is one
 abbrev pub IsSoundAt : SessionView → List (Option NodeView) → ℕ → Type 0
 IsSoundAt h nodes i = (n : NodeView) → entry_at nodes i ≡ Some n → IsSoundNode h n
 
--- Its bytes are in memory.
+-- The bytes of the node of that index are in memory.
 pub record IsLoadedAt (old : SessionView) (nodes : List (Option NodeView)) (i : ℕ) (new : SessionView) (loaded : List (Option NodeView)) : Type 0 where
   pub are : loaded ≡ slice_set nodes i (option_map (λ n. loaded_node (node_bytes (shown_tree old.tree) n) n) (entry_at nodes i))
   pub idle : IsIdle new (shown_tree old.tree)
   pub operations : List Operation
   pub calls : AreQuietCalls old operations new
 
--- It is stored.
+-- The node of that index was synced.
 pub record IsSyncedAt (old : SessionView) (nodes : List (Option NodeView)) (i : ℕ) (new : SessionView) (synced : List (Option NodeView)) : Type 0 where
   pub are : synced ≡ slice_set nodes i (option_map stored_node (entry_at nodes i))
   pub node : (n : NodeView) → entry_at nodes i ≡ Some n → IsNodeSynced old n new (stored_node n)
 
--- Its sync ended in an error.
+-- The sync of the node of that index ended in an error.
 pub record EndsSyncAt (e : Error) (old : SessionView) (nodes : List (Option NodeView)) (i : ℕ) (new : SessionView) : Type 0 where
   pub node : NodeView
   pub is : entry_at nodes i ≡ Some node
@@ -206,7 +206,7 @@ pub record EndsSyncAt (e : Error) (old : SessionView) (nodes : List (Option Node
 
 -- ---- the parts of a call
 
--- a handle that reads, and the volume once the handle's node is loaded
+-- a handle that may read, and the volume after its node was loaded
 pub record IsReadyToRead (old : VolumeView) (handle : ℕ) (h : Handle) (new : VolumeView) : Type 0 where
   pub sound : IsSoundVolume old
   pub working : IsWorking old.session
@@ -215,14 +215,14 @@ pub record IsReadyToRead (old : VolumeView) (handle : ℕ) (h : Handle) (new : V
   pub handles : new.handles ≡ old.handles
   pub loaded : IsLoadedAt old.session old.nodes h.node new.session new.nodes
 
--- where bytes are written, in a file that may be so long
+-- the offset of a write, if the file may be as long as it is then
 abbrev pub FitsAt : VolumeView → Handle → ℕ → ℕ → Type 0
 FitsAt v h count at = IfSome (entry_at v.nodes h.node) (λ n. (at ≡ write_place h n) × (max n.size (at + count) ≤ profile_file_max v.session.tree.disk.profile))
 
 abbrev pub IsTooLong : VolumeView → Handle → ℕ → Type 0
 IsTooLong v h count = IfSome (entry_at v.nodes h.node) (λ n. profile_file_max v.session.tree.disk.profile < max n.size (write_place h n + count))
 
--- the handle is free, and a node that no other handle names is gone
+-- the handle is free, and a node without another handle is dropped
 pub record IsDropped (old : VolumeView) (handle : ℕ) (h : Handle) (new : VolumeView) : Type 0 where
   pub session : new.session ≡ old.session
   pub handles : new.handles ≡ slice_set old.handles handle None

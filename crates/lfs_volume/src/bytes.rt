@@ -1,4 +1,4 @@
-// Bytes in memory that are written, cut and copied.
+// Resizes, overwrites and copies bytes in memory.
 
 ghost use Rattle.std.specs.Prelude.{◌≡◌, ◌+◌, ◌<◌, ◌≤◌, ◌^◌, ◌++◌, drop, length, take, IfErr, IfOk, OnErr, OnOk};
 ghost use Rattle.lfs_model.specs.format.Blocks.{overwritten_at};
@@ -7,7 +7,8 @@ ghost use Rattle.lfs_model.specs.session.Writers.{written_contents, zero_padded}
 use lfs_device::Error;
 use std::alloc::{AllocError, Global};
 
-// Gives the contents that many bytes: they are cut, or zeros fill them up.
+// Resizes the contents to `size` bytes: cuts them, or appends zeros. They are unchanged after an
+// error.
 pub(crate) fn resize_bytes(contents: &mut Vec<u8>, size: usize) -> Result<(), AllocError>
     ensures ok { OnOk result (contents.new.items ≡ take size (zero_padded size contents.old.items)) }
     ensures err { OnErr result (contents.new.items ≡ contents.old.items) }
@@ -16,7 +17,7 @@ pub(crate) fn resize_bytes(contents: &mut Vec<u8>, size: usize) -> Result<(), Al
     contents.resize(size, 0)
 }
 
-// Writes bytes over others, which reach as far.
+// Overwrites the bytes of `all` from the offset `at` on.
 fn overwrite(all: &mut Vec<u8>, at: usize, bytes: &[u8])
     requires { at + length bytes.now ≤ length all.old.items }
     ensures { all.new.items ≡ overwritten_at all.old.items at bytes.now }
@@ -24,7 +25,8 @@ fn overwrite(all: &mut Vec<u8>, at: usize, bytes: &[u8])
     all[at..at + bytes.len()].copy_from_slice(bytes);
 }
 
-// Writes bytes into the contents at a place. Zeros fill a gap before them.
+// Writes bytes into the contents at the offset `at`. Fills a gap before them with zeros. The
+// contents are unchanged after an error.
 pub(crate) fn write_bytes(contents: &mut Vec<u8>, at: usize, bytes: &[u8]) -> Result<(), AllocError>
     requires { at + length bytes.now < 2 ^ 63 }
     ensures ok { OnOk result (contents.new.items ≡ written_contents contents.old.items at bytes.now) }
@@ -39,7 +41,7 @@ pub(crate) fn write_bytes(contents: &mut Vec<u8>, at: usize, bytes: &[u8]) -> Re
     Ok(())
 }
 
-// Returns at most `count` bytes from a place on.
+// Returns at most `count` bytes from the offset `at` on.
 pub(crate) fn bytes_from(contents: &[u8], at: usize, count: usize) -> &[u8]
     ensures { result.now ≡ take count (drop at contents.now) }
 {
@@ -47,14 +49,14 @@ pub(crate) fn bytes_from(contents: &[u8], at: usize, count: usize) -> &[u8]
     &rest[..count.min(rest.len())]
 }
 
-// Returns the bytes from a place on.
+// Returns the bytes from the offset `at` on: none if the contents end before it.
 pub(crate) fn bytes_behind(contents: &[u8], at: usize) -> &[u8]
     ensures { result.now ≡ drop at contents.now }
 {
     &contents[at.min(contents.len())..]
 }
 
-// Puts bytes at the beginning of a buffer. The rest of it stays.
+// Copies bytes to the beginning of a buffer, and leaves the rest of it unchanged.
 pub(crate) fn copy_into(buf: &mut [u8], bytes: &[u8])
     requires { length bytes.now ≤ length buf.old }
     ensures { buf.new ≡ bytes.now ++ drop (length bytes.now) buf.old }
@@ -62,7 +64,7 @@ pub(crate) fn copy_into(buf: &mut [u8], bytes: &[u8])
     buf[..bytes.len()].copy_from_slice(bytes);
 }
 
-// Returns a copy of bytes. Errors: `NoMemory`.
+// Returns a copy of bytes. Errors: `NoMemory` if memory for it isn't granted.
 pub(crate) fn copied(alloc: Global, bytes: &[u8]) -> Result<Vec<u8>, Error>
     ensures are { IfOk result (λ v. v.items ≡ bytes.now) }
     ensures none { IfErr result (λ e. e ≡ Error.NoMemory) }

@@ -15,7 +15,8 @@ ghost use Rattle.lfs_volume.specs.Opened.{LeadsToFile};
 ghost use Rattle.lfs_volume.specs.Volume.{VolumeView, loaded_node, opened_node, resized_node, stored_bytes, unlinked_node, written_node};
 ghost use Rattle.lfs_volume.specs.VolumeCalls.{IsSoundNode, IsSoundVolume, IsVolumeCall};
 
-/// Reading, writing or both; create, truncate and append with writing, and exclusive with create.
+/// A file is opened for reading, writing or both. Create, truncate and append need writing, and
+/// exclusive needs create.
 pub fn flags_of_volume_are_checked()
     ensures { volume_replies 16
         (Open (codes "/a") read_flags ∷ Open (codes "/a") (record read_flags { create = true })
@@ -26,8 +27,8 @@ pub fn flags_of_volume_are_checked()
         ∷ ops.Opened 1 ∷ [] }
 {}
 
-/// A handle has the least number that is free. One that isn't open is refused, and so is a call for
-/// which it isn't open.
+/// An open returns the least free handle. A handle that isn't open is refused, and so is a read or
+/// a write that it wasn't opened for.
 pub fn least_free_number_is_opened()
     ensures { volume_replies 16
         (Open (codes "/a") creating_flags ∷ Open (codes "/b") new_flags ∷ Open (codes "/a") read_flags ∷ Close 1
@@ -36,8 +37,8 @@ pub fn least_free_number_is_opened()
         ∷ ops.Refused BadFile ∷ ops.Refused BadFile ∷ ops.Refused BadFile ∷ ops.Refused BadFile ∷ [] }
 {}
 
-/// Handles on one path see one contents, and have positions of their own. The tree has them after a
-/// sync.
+/// Handles on one path share the file's contents, and each has its own position. The tree has the
+/// new contents after a sync.
 pub fn handles_share_one_contents()
     ensures { volume_replies 16
         (Open (codes "/a") new_flags ∷ Open (codes "/a") read_flags ∷ Write 0 (codes "hello") ∷ Read 1 2 ∷ Tell 0 ∷ Tell 1
@@ -57,7 +58,8 @@ pub fn positions_past_limit_are_refused()
         ∷ ops.Refused TooBig ∷ ops.Bytes [] ∷ ops.Count 0 ∷ [] }
 {}
 
-/// Open files go with the directory that is renamed, and one whose name only begins so stays.
+/// Open files move with a directory that is renamed. A file stays if its path only begins with the
+/// same letters.
 pub fn open_files_go_with_directory()
     ensures replies { volume_replies 16
         (Perform (ops.Mkdir (codes "/d")) ∷ Open (codes "/d/a") new_flags ∷ Open (codes "/dd") new_flags ∷ Write 0 (codes "moved")
@@ -72,8 +74,8 @@ pub fn open_files_go_with_directory()
     ensures removed { moved_path (codes "/d") (codes "/e") (unlinked_node (opened_node (codes "/d") 0)) ≡ None }
 {}
 
-/// A removed file is read and written on by its handles, and no sync brings it back. So is one that
-/// was replaced.
+/// A removed file can still be read and written through its open handles, and no sync brings it
+/// back. The same holds for a file that was replaced.
 pub fn removed_file_stays_open()
     ensures removed { volume_replies 16
         (Open (codes "/a") new_flags ∷ Write 0 (codes "kept") ∷ Close 0 ∷ Open (codes "/a") new_flags ∷ Perform (ops.Remove (codes "/a"))
@@ -90,8 +92,8 @@ pub fn removed_file_stays_open()
         ∷ ops.Refused NoEnt ∷ [] }
 {}
 
-/// A sync needs two blocks, and those of a list of the file's length. Where it is refused, the bytes
-/// stay in memory; after a close they are lost.
+/// A sync needs two free blocks, and those of a list of the file's length. If it is refused, the
+/// bytes stay in memory; after a close they are lost.
 pub fn sync_without_room_is_refused()
     ensures full { volume_replies 6
         (Open (codes "/a") new_flags ∷ Write 0 (replicate 128 7) ∷ Write 0 (replicate 128 7) ∷ Sync 0 ∷ Write 0 (replicate 20 7) ∷ Sync 0
@@ -103,8 +105,8 @@ pub fn sync_without_room_is_refused()
         ≡ ops.Opened 0 ∷ ops.Count 128 ∷ ops.Count 124 ∷ ops.Done ∷ ops.StatIs (Some 252) ∷ [] }
 {}
 
-/// The hull grows by a write and a longer file, and is cut with the contents. Stored bytes differ
-/// from new ones in a hull, or behind it.
+/// A hull is the range of bytes that may differ from the stored ones. A write extends it, and so
+/// does a greater length; a cut of the contents cuts it, too. No byte outside it may differ.
 pub fn changed_bytes_are_in_hull()
     ensures first { hull_with None 3 5 ≡ record { from = 3; end = 5 } }
     ensures grows { hull_with (Some (record { from = 3; end = 5 })) 7 9 ≡ record { from = 3; end = 9 } }
@@ -116,7 +118,7 @@ pub fn changed_bytes_are_in_hull()
     ensures other { DiffersInHull (1 ∷ 2 ∷ []) (1 ∷ 3 ∷ []) None → ⊥ }
 {}
 
-/// What writes, cuts and removes make of an open file of four bytes.
+/// The effect of writes, cuts and removes on an open file of four bytes.
 pub fn node_is_changed_in_memory()
     ensures written { written_node 1 (codes "XY") (codes "abcd") (opened_node (codes "/a") 4) ≡ record { path = Some (codes "/a"); size = 4; contents = Some (codes "aXYd"); hull = Some (record { from = 1; end = 3 }) } }
     ensures gap { written_node 5 (codes "X") (codes "abcd") (opened_node (codes "/a") 4) ≡ record { path = Some (codes "/a"); size = 6; contents = Some (codes "abcd" ++ 0 ∷ codes "X"); hull = Some (record { from = 4; end = 6 }) } }
@@ -135,14 +137,15 @@ pub fn calls_that_want_memory()
     ensures rename { may_want_memory one_open_file (Perform (ops.Rename (codes "/a") (codes "/b"))) ≡ true }
 {}
 
-/// Of a volume that has failed each call replies `Failed`. `Done` is no reply of it.
+/// A volume that has failed replies `Failed` to each call, and nothing changes. It never replies
+/// `Done`.
 pub fn failed_volume_changes_nothing()
     ensures refused { (v : VolumeView) (call : Call) → v.session.tree.failed ≡ true → IsVolumeCall v call (Ok (ops.Refused Failed)) v }
     ensures other { (v w : VolumeView) (call : Call) → v.session.tree.failed ≡ true → IsVolumeCall v call (Ok ops.Done) w → ⊥ }
 {}
 
-/// A volume without open files is sound if its session is idle. One isn't with a handle of no node, or
-/// with a node that isn't in memory and has another size than its file.
+/// A volume without open files is sound if its session is idle. It isn't sound if a handle names no
+/// node, or if a node whose bytes aren't in memory has a hull, or another size than its file.
 pub fn volume_is_sound_or_not()
     ensures empty { (h : SessionView) → h.tree.failed ≡ false → h.files ≡ [] → IsSoundVolume (record { session = h; nodes = []; handles = [] }) }
     ensures handle { (h : SessionView) (g : Handle) → IsSoundVolume (record { session = h; nodes = []; handles = Some g ∷ [] }) → ⊥ }
@@ -150,7 +153,7 @@ pub fn volume_is_sound_or_not()
     ensures hull { (h : SessionView) (path : List ℕ) (size : ℕ) (hull : Hull) → IsSoundNode h (record (opened_node path size) { hull = Some hull }) → ⊥ }
 {}
 
-/// A path leads to a file, or it doesn't.
+/// A path leads to a file if it is absolute and the tree has a file there, and not otherwise.
 pub fn path_leads_to_file_or_not()
     ensures file { LeadsToFile (volume_after 16 (Open (codes "/a") new_flags ∷ [])).tree (codes "/a") }
     ensures none { LeadsToFile (volume_after 16 (Open (codes "/a") new_flags ∷ [])).tree (codes "/b") → ⊥ }

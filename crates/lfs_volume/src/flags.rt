@@ -1,4 +1,4 @@
-// How a file of a volume is opened.
+// The flags that a file of a volume is opened with.
 
 ghost use Rattle.std.specs.Prelude.{◌≡◌};
 ghost use Rattle.lfs_fs.specs.FlagsView.{flags_view};
@@ -10,8 +10,9 @@ use lfs_fs::OpenFlags;
 // All bits that name a flag.
 const NAMED: u32 = 0xf03;
 
-/// Returns whether a volume opens a file with these flags: for reading, writing or both; `CREATE`,
-/// `TRUNCATE` and `APPEND` with `WRITE`, and `EXCLUSIVE` with `CREATE`.
+/// Returns whether a volume accepts these flags for an open: reading, writing or both; `CREATE`,
+/// `TRUNCATE` and `APPEND` only with `WRITE`, and `EXCLUSIVE` only with `CREATE`. An unknown bit is
+/// refused.
 pub fn allows_volume_flags(flags: OpenFlags) -> bool
     ensures { result ≡ volume_flags_allowed (flags_view flags) }
 {
@@ -28,7 +29,8 @@ pub fn allows_volume_flags(flags: OpenFlags) -> bool
         && (creates || !flags.contains(OpenFlags::EXCLUSIVE))
 }
 
-// Returns the flags by which the session is asked whether the file may be opened.
+// Returns the flags with which the volume opens the file in the session, to learn whether it may be
+// opened, and to create it.
 pub(crate) fn session_flags(flags: OpenFlags) -> OpenFlags
     ensures { flags_view result ≡ session_flags (flags_view flags) }
 {
@@ -46,7 +48,7 @@ pub(crate) fn session_flags(flags: OpenFlags) -> OpenFlags
     }
 }
 
-// Returns whether a file is cut to nothing when it's opened with these flags.
+// Returns whether an open with these flags cuts the file to no bytes.
 pub(crate) fn truncates(flags: OpenFlags) -> bool
     ensures { result ≡ (flags_view flags).truncate }
 {

@@ -1,4 +1,4 @@
-// Handles: what a program holds of an open file.
+// Handles: a program's view of an open file.
 
 ghost use Rattle.std.specs.Prelude.{◌≡◌, ◌<◌, IfErr, IfOk, OnOk, is_none, slice_set, vec_capacity, vec_len, None, Some};
 ghost use Rattle.std.specs.List.{position_or_len};
@@ -11,7 +11,8 @@ use bitflags::Flags;
 use lfs_device::Error;
 use lfs_fs::OpenFlags;
 
-/// A handle on a node: where the next read or write begins, and what it may do.
+/// A handle on the open file `nodes[node]`: the offset at which its next read or write begins, in
+/// bytes, and whether it may read or write, and always writes at the file's end.
 #[derive(Clone, Copy)]
 pub struct Handle {
     pub node: usize,
@@ -34,7 +35,7 @@ pub(crate) fn new_handle(node: usize, flags: OpenFlags) -> Handle
     }
 }
 
-// Returns the handle of that number.
+// Returns the handle of that number, or None if there is none.
 pub(crate) fn handle_at(handles: &[Option<Handle>], handle: u32) -> Option<Handle>
     ensures { result ≡ entry_at handles.now handle }
 {
@@ -44,7 +45,7 @@ pub(crate) fn handle_at(handles: &[Option<Handle>], handle: u32) -> Option<Handl
     }
 }
 
-// Returns the least number that is free.
+// Returns the least free index of a table, or its length if none is free.
 pub(crate) fn free_entry<T>(entries: &[Option<T>]) -> usize
     ensures { result ≡ position_or_len is_none entries.now }
 {
@@ -58,7 +59,7 @@ pub(crate) fn free_entry<T>(entries: &[Option<T>]) -> usize
     number
 }
 
-// Makes room for one more entry.
+// Reserves memory for one more entry. Errors: `NoMemory` if it isn't granted.
 pub(crate) fn reserve_entry<T>(entries: &mut Vec<Option<T>>) -> Result<(), Error>
     ensures same { entries.new.items ≡ entries.old.items }
     ensures room { OnOk result (vec_len entries.new < vec_capacity entries.new) }
@@ -70,7 +71,8 @@ pub(crate) fn reserve_entry<T>(entries: &mut Vec<Option<T>>) -> Result<(), Error
     }
 }
 
-// Returns the least number that is free, if a handle may have it.
+// Returns the number for the next handle, the least that is free. Errors: `NoMemory` if it exceeds
+// a u32.
 pub(crate) fn free_number(handles: &[Option<Handle>]) -> Result<u32, Error>
     ensures is { IfOk result (λ n. n ≡ free_entry handles.now) }
     ensures none { IfErr result (λ e. e ≡ Error.NoMemory) }
@@ -82,7 +84,7 @@ pub(crate) fn free_number(handles: &[Option<Handle>]) -> Result<u32, Error>
     Ok(number as u32)
 }
 
-// Puts an entry under a number, for which there is room.
+// Sets the entry of an index, or appends it if the table is shorter.
 pub(crate) fn put_entry<T: Drop>(entries: &mut Vec<Option<T>>, index: usize, entry: T)
     requires { vec_len entries.old < vec_capacity entries.old }
     ensures { entries.new.items ≡ with_entry entries.old.items index (Some entry) }
@@ -94,7 +96,7 @@ pub(crate) fn put_entry<T: Drop>(entries: &mut Vec<Option<T>>, index: usize, ent
     }
 }
 
-// Makes a number free.
+// Frees an index of a table.
 pub(crate) fn free_at<T: Drop>(entries: &mut Vec<Option<T>>, index: usize)
     ensures { entries.new.items ≡ slice_set entries.old.items index None }
 {
@@ -103,7 +105,7 @@ pub(crate) fn free_at<T: Drop>(entries: &mut Vec<Option<T>>, index: usize)
     }
 }
 
-// Returns whether a handle names the node.
+// Returns whether a handle is on the node of that index.
 pub(crate) fn is_named(handles: &[Option<Handle>], node: usize) -> bool
     ensures { result ≡ named handles.now node }
 {

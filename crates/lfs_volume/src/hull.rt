@@ -1,16 +1,17 @@
-// Where the contents of an open file aren't what is stored.
+// The range of an open file's bytes that may differ from the stored ones.
 
 ghost use Rattle.std.specs.Prelude.{◌≡◌};
 ghost use Rattle.lfs_volume.specs.Hulls.{cut_hull, hull_with, resized_hull};
 
-/// The bytes of a file from one place to another.
+/// The bytes of a file that may differ from the stored ones: those from the offset `from` up to,
+/// but without, the offset `end`.
 #[derive(Clone, Copy)]
 pub struct Hull {
     pub from: u32,
     pub end: u32,
 }
 
-// Returns the least hull that has the bytes between these places, too.
+// Returns the least hull that includes the given one and the bytes from `from` up to `end`.
 pub(crate) fn hull_with(hull: Option<Hull>, from: u32, end: u32) -> Hull
     ensures { result ≡ hull_with hull from end }
 {
@@ -23,7 +24,7 @@ pub(crate) fn hull_with(hull: Option<Hull>, from: u32, end: u32) -> Hull
     }
 }
 
-// Returns the hull of contents that are cut to a size.
+// Returns the hull after the contents were cut to `size` bytes.
 fn cut_hull(hull: Option<Hull>, size: u32) -> Hull
     ensures { result ≡ cut_hull hull size }
 {
@@ -39,7 +40,7 @@ fn cut_hull(hull: Option<Hull>, size: u32) -> Hull
     }
 }
 
-// Returns the hull of contents of a size that get another size.
+// Returns the hull after the contents were resized from `old` to `new` bytes.
 pub(crate) fn resized_hull(hull: Option<Hull>, old: u32, new: u32) -> Hull
     ensures { result ≡ resized_hull hull old new }
 {

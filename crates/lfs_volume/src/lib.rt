@@ -1,6 +1,6 @@
 // SPDX-License-Identifier: BSD-3-Clause
-//! Volumes over a littlefs image: any number of open files, for reading and writing both, several
-//! handles on one file, and files that are open while they are renamed or removed.
+//! Volumes over a littlefs image: any number of open files, each for reading and writing, several
+//! handles on one file, and files that stay open while they are renamed or removed.
 #![tactic(auto)]
 
 mod bytes;

@@ -1,4 +1,4 @@
-// How a volume begins.
+// Mounts and formats a device for a volume.
 
 ghost use Rattle.std.specs.Prelude.{◌≡◌, ◌⊎◌, List, [], IfErr, IfOk};
 ghost use Rattle.lfs_device.specs.DeviceDisk.{profiled_disk};
@@ -23,11 +23,11 @@ use lfs_device::{BlockDevice, Error};
 use lfs_fs::{NameOrder, Profile, Profiled};
 use std::alloc::Global;
 
-/// Begins a volume over the image of a device, as `lfs_fs::mount` begins a session. No file is open.
+/// Mounts a device as `lfs_fs::mount` does, and returns a volume over the session. No file is open.
 ///
 /// # Errors
 ///
-/// Errors are those of `lfs_fs::mount`.
+/// Those of `lfs_fs::mount`, with the device.
 pub fn mount<D: BlockDevice>(alloc: Global, device: D) -> Result<Volume<D>, (D, Error)>
     ensures begun { IfOk result (λ v. HasNoHandles v × BeginsByMount (ordered_disk v.session.tree.disk.order (disk_of_device D.BlockDevice device)) (D.history device) v.session) }
     ensures state { IfOk result (λ v. IsMounted (ordered_disk v.session.tree.disk.order (disk_of_device D.BlockDevice device)) (system_state v.session)) }
@@ -42,12 +42,12 @@ pub fn mount<D: BlockDevice>(alloc: Global, device: D) -> Result<Volume<D>, (D, 
     }
 }
 
-/// Begins a volume over the image of a device, by a profile and the limits of the image, as
-/// `lfs_fs::mount_with_limits` begins a session. No file is open.
+/// Mounts a device by a profile and the limits of its image, as `lfs_fs::mount_with_limits` does,
+/// and returns a volume over the session. No file is open.
 ///
 /// # Errors
 ///
-/// Errors are those of `lfs_fs::mount_with_limits`.
+/// Those of `lfs_fs::mount_with_limits`, with the device.
 pub fn mount_with_limits<D: BlockDevice>(
     alloc: Global,
     device: D,
@@ -66,12 +66,12 @@ pub fn mount_with_limits<D: BlockDevice>(
     }
 }
 
-/// Makes an empty file system on a device, in littlefs's own order of names, and begins a volume over
-/// it. No file is open.
+/// Writes an empty file system to a device, in littlefs's own order of names, and returns a volume
+/// over it. No file is open.
 ///
 /// # Errors
 ///
-/// Errors are those of [`format_ordered`].
+/// Those of [`format_ordered`], with the device.
 pub fn format<D: BlockDevice>(alloc: Global, device: D) -> Result<Volume<D>, (D, Error)>
     ensures formatted { IfOk result (λ v. HasNoHandles v × IsFormatted (kept_thread v.session.tree)) }
     ensures state { IfOk result (λ v. (system_state v.session).state ≡ Healthy (mounted_session empty_tree)) }
@@ -82,12 +82,12 @@ pub fn format<D: BlockDevice>(alloc: Global, device: D) -> Result<Volume<D>, (D,
     format_ordered(alloc, device, NameOrder::LongerFirst)
 }
 
-/// Makes an empty file system on a device, as `lfs_fs::format_ordered` does, and begins a volume over
-/// it. No file is open.
+/// Writes an empty file system to a device, as `lfs_fs::format_ordered` does, and returns a volume
+/// over it. No file is open.
 ///
 /// # Errors
 ///
-/// Errors are those of `lfs_fs::format_ordered`.
+/// Those of `lfs_fs::format_ordered`, with the device.
 pub fn format_ordered<D: BlockDevice>(
     alloc: Global,
     device: D,

@@ -1,4 +1,4 @@
-// How the session stores what changed of a file.
+// Stores the changed bytes of a file through the session.
 
 ghost use Rattle.std.specs.Prelude.{◌≡◌, ◌≤◌, ◌+◌, ◌<◌, ◌^◌, ◌∷◌, [], ◌++◌, length, IfErr, IfOk, false, true, List, ℕ};
 ghost use Rattle.lfs_model.specs.format.Disk.{profile_file_max};
@@ -18,7 +18,7 @@ use lfs_file::blocks_for;
 use lfs_fs::{OpenFlags, Session};
 use std::alloc::Global;
 
-// Returns how many blocks a file of so many bytes takes until it is stored.
+// Returns how many free blocks a save of a file of `size` bytes needs.
 fn saving_need(geometry: Geometry, size: u32) -> u64
     ensures need { result ≡ 2 + list_block_count geometry.profile geometry.block_size size }
     ensures few { result < 2 ^ 34 }
@@ -30,7 +30,7 @@ fn saving_need(geometry: Geometry, size: u32) -> u64
     }
 }
 
-// Returns whether there is room to store a file of so many bytes.
+// Returns whether the device has the free blocks that a save of a file of `size` bytes needs.
 fn has_saving_room<D: BlockDevice>(session: &Session<D>, size: u32) -> Result<bool, Error>
     ensures { session.now.tree.failed ≡ false → IsRoomAnswer session.now size result }
 {
@@ -39,7 +39,8 @@ fn has_saving_room<D: BlockDevice>(session: &Session<D>, size: u32) -> Result<bo
     Ok(u64::from(used) + saving_need(geometry, size) <= u64::from(geometry.block_count))
 }
 
-// Opens a file for writing, and sets the position. Returns its number.
+// Opens a file for writing, and moves to the offset `from`. Returns the file's number in the
+// session.
 fn open_at<D: BlockDevice>(
     alloc: Global,
     session: &mut Session<D>,
@@ -55,7 +56,7 @@ fn open_at<D: BlockDevice>(
     Ok(fd)
 }
 
-// Gives the open file its new length, where that is shorter, and writes the hull.
+// Cuts the open file to its new length if that is shorter, and writes the bytes of the hull.
 fn write_hull<D: BlockDevice>(
     alloc: Global,
     session: &mut Session<D>,
@@ -78,12 +79,12 @@ fn write_hull<D: BlockDevice>(
     Ok(())
 }
 
-// Stores the new bytes of a file, which differ from the stored ones in the hull alone. The room is
-// asked for before anything is written. The tree changes when the file is closed, and not before.
+// Stores the new bytes of a file, which may differ from the stored ones in the hull alone. Asks for
+// the room before anything is written. The tree changes only when the file is closed.
 //
-// Errors: those of the session's `open` for writing, and `NoSpace` where there are fewer blocks than
-// the file takes: nothing has changed then. `Io`, and `NoMemory` within the session: the session has
-// failed then.
+// Errors: those of the session's `open` for writing, and `NoSpace` if there are fewer free blocks
+// than the save needs; the tree is unchanged then. `Io`, and `NoMemory` within the session: the
+// session has failed then.
 pub(crate) fn save<D: BlockDevice>(
     alloc: Global,
     session: &mut Session<D>,

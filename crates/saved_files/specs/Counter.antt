@@ -11,35 +11,35 @@ use Rattle.saved_files.specs.Working.{SurvivesWith}
 abbrev pub counter_path : Path
 counter_path = codes "counter" ∷ []
 
--- the number in the first four bytes, the lowest byte first; 0 where there are fewer
+-- the number in the first four bytes, the lowest byte first; 0 if there are fewer
 abbrev pub number_of : List ℕ → ℕ
 number_of (a ∷ b ∷ c ∷ d ∷ more) = from_le_bytes w32 (a ∷ b ∷ c ∷ d ∷ [])
 number_of _ = 0
 
--- 0 where there is no file
+-- 0 if there is no file
 abbrev pub counter_in : Tree → ℕ
 counter_in tree = number_of (file_bytes (tree counter_path))
 
--- wherever power is lost between these states, the next start finds the old number, or the next one
+-- if power is lost anywhere between these states, the next start finds the old number, or the next one
 abbrev pub SurvivesRaise : SystemState → SystemState → Type 0
 SurvivesRaise from to = (s : Session) → from.state ≡ Healthy s → SurvivesWith (λ tree. (counter_in tree ≡ counter_in s.tree) ⊎ (counter_in tree ≡ counter_in s.tree + 1)) from to
 
--- wherever power is lost between these states, the next start finds the old number
+-- if power is lost anywhere between these states, the next start finds the old number
 abbrev pub SurvivesCount : SystemState → SystemState → Type 0
 SurvivesCount from to = (s : Session) → from.state ≡ Healthy s → SurvivesWith (λ tree. counter_in tree ≡ counter_in s.tree) from to
 
--- the session works on, and has that number as before
+-- the session works on, with this number as before
 abbrev pub CountsTo : ℕ → SystemState → SystemState → Type 0
 CountsTo number from to = (s : Session) → from.state ≡ Healthy s → (number ≡ counter_in s.tree) × ((t : Session) × ((to.state ≡ Healthy t) × (counter_in t.tree ≡ number)))
 
--- the session works on, and has the number after the old one
+-- the session works on, with the number after the old one
 abbrev pub RaisesTo : ℕ → SystemState → SystemState → Type 0
 RaisesTo number from to = (s : Session) → from.state ≡ Healthy s → (number ≡ counter_in s.tree + 1) × ((t : Session) × ((to.state ≡ Healthy t) × (counter_in t.tree ≡ number)))
 
--- wherever power is lost between these states, the next start finds the old number, or this one
+-- if power is lost anywhere between these states, the next start finds the old number, or this one
 abbrev pub SurvivesSet : SystemState → ℕ → SystemState → Type 0
 SurvivesSet from number to = (s : Session) → from.state ≡ Healthy s → SurvivesWith (λ tree. (counter_in tree ≡ counter_in s.tree) ⊎ (counter_in tree ≡ number)) from to
 
--- the session works on, and has that number
+-- the session works on, with this number
 abbrev pub SetsTo : ℕ → SystemState → SystemState → Type 0
 SetsTo number from to = (s : Session) → from.state ≡ Healthy s → (t : Session) × ((to.state ≡ Healthy t) × (counter_in t.tree ≡ number))

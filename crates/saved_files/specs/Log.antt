@@ -15,12 +15,12 @@ use Rattle.saved_files.specs.Working.{SurvivesWith, WorksOn}
 abbrev pub log_path : Path
 log_path = codes "log" ∷ []
 
--- what was logged; nothing where there is no file
+-- the bytes of the log; none if there is no file
 abbrev pub log_in : Tree → List ℕ
 log_in tree = file_bytes (tree log_path)
 
--- These bytes are appended between these states, or the append fails. Wherever power is lost in it, the next start finds the old
--- log, or the one with these bytes at its end.
+-- These bytes are appended between these states, or the append fails. If power is lost anywhere in it, the next start finds the
+-- old log, or the old log followed by these bytes.
 pub record IsAppend (from : SystemState) (bytes : List ℕ) (to : SystemState) : Type 0 where
   pub survives : (s : Session) → from.state ≡ Healthy s → SurvivesWith (λ tree. (log_in tree ≡ log_in s.tree) ⊎ (log_in tree ≡ log_in s.tree ++ bytes)) from to
   pub lived : LivesOn from to
@@ -33,20 +33,20 @@ pub record IsDoneAppend (from : SystemState) (bytes : List ℕ) (to : SystemStat
 
 -- ---- one append after another
 
--- a session appends these, one after another, at least one; an error may end the last append
+-- a session appends these, at least one, one after another; the last append may end in an error
 abbrev pub AreAppends : SystemState → List (List ℕ) → SystemState → Type 0
 AreAppends from [] to = ⊥
 AreAppends from (bytes ∷ []) to = IsAppend from bytes to
 AreAppends from (bytes ∷ next ∷ more) to = (middle : SystemState) × (IsDoneAppend from bytes middle × AreAppends middle (next ∷ more) to)
 
--- the log is the old one, with the first of these at its end, none or some or all of them
+-- the log is the old one, followed by the first few of these entries, or none, or all of them
 abbrev pub HasBeginning : List ℕ → List (List ℕ) → List ℕ → Type 0
 HasBeginning old [] log = log ≡ old
 HasBeginning old (bytes ∷ more) log = (log ≡ old) ⊎ HasBeginning (old ++ bytes) more log
 
 -- ---- any number of losses
 
--- A session mounted the disk, and appended these. Power was lost then, and another disk was left.
+-- A session mounted the disk, and appended these. Then power was lost, and another disk was left.
 pub record AreCutAppends (disk : Disk) (entries : List (List ℕ)) (left : Disk) : Type 0 where
   pub begin : SystemState
   pub same : SameBytes disk begin.disk
@@ -61,7 +61,7 @@ abbrev pub AreCutSessions : Disk → List (List (List ℕ)) → Disk → Type 0
 AreCutSessions disk [] left = left ≡ disk
 AreCutSessions disk (entries ∷ sessions) left = (next : Disk) × (AreCutAppends disk entries next × AreCutSessions next sessions left)
 
--- the log has a beginning of what each session appended
+-- the log is the old one, followed by the first entries of each session
 abbrev pub HasBeginnings : List ℕ → List (List (List ℕ)) → List ℕ → Type 0
 HasBeginnings old [] log = log ≡ old
 HasBeginnings old (entries ∷ sessions) log = (kept : List ℕ) × (HasBeginning old entries kept × HasBeginnings kept sessions log)

@@ -23,21 +23,22 @@ settings_in tree = bytes_if_file (tree settings_path)
 abbrev pub IsEither : Option (List ℕ) → List ℕ → Option (List ℕ) → Type 0
 IsEither old bytes is = (is ≡ old) ⊎ (is ≡ Some bytes)
 
--- Wherever power is lost between these states of a session, which saves these bytes, the next start finds the old settings or these.
+-- If power is lost anywhere between these states of a session, which saves these bytes, the next start finds the old settings or
+-- these.
 abbrev pub SurvivesSave : SystemState → List ℕ → SystemState → Type 0
 SurvivesSave from bytes to = (s : Session) → from.state ≡ Healthy s → SurvivesWith (λ tree. IsEither (settings_in s.tree) bytes (settings_in tree)) from to
 
--- the session works on, and has these settings
+-- the session works on, with these settings
 abbrev pub SavesSettings : SystemState → List ℕ → SystemState → Type 0
 SavesSettings from bytes to = (s : Session) → from.state ≡ Healthy s → (t : Session) × ((to.state ≡ Healthy t) × (settings_in t.tree ≡ Some bytes))
 
--- The session may lose power, and saves these bytes. The next one finds the old settings or these.
+-- The session saves these bytes, and power may be lost in it. The next session finds the old settings or these.
 abbrev pub FindsSave : SystemState → List ℕ → SystemState → Type 0
 FindsSave from bytes next = (s t : Session) → from.state ≡ Healthy s → MayLosePower from → next.state ≡ Healthy t → IsEither (settings_in s.tree) bytes (settings_in t.tree)
 
 -- ---- any number of losses
 
--- A session mounted the disk and saved these bytes. Power was lost then, and another disk was left.
+-- A session mounted the disk and saved these bytes. Then power was lost, and another disk was left.
 pub record IsCutSave (disk : Disk) (bytes : List ℕ) (left : Disk) : Type 0 where
   pub begin : SystemState
   pub same : SameBytes disk begin.disk
@@ -57,6 +58,6 @@ abbrev pub IsOneOf : List (List ℕ) → Option (List ℕ) → Type 0
 IsOneOf [] is = ⊥
 IsOneOf (bytes ∷ saves) is = (is ≡ Some bytes) ⊎ IsOneOf saves is
 
--- The session began on a fresh disk. Wherever power was lost since, the next start finds no settings, or these.
+-- The session began on a fresh disk. If power was lost at any moment since, the next start finds no settings, or these.
 abbrev pub IsFirstSave : List ℕ → SystemState → Type 0
 IsFirstSave bytes to = (from : SystemState) × (IsFreshDisk from.disk × ((left : Disk) → LeftBetween from to left → StartsSafely (λ tree. IsEither None bytes (settings_in tree)) left))

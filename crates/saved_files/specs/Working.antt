@@ -1,4 +1,4 @@
--- A life in which a session answers each operation and is never remounted, and what holds of a loss of power in part of a life.
+-- A life in which a session answers each operation and is never remounted, and the promise for a loss of power in part of a life.
 use Rattle.std.specs.Prelude.{◌≡◌, Bool, true, not, ◌&&◌, List, [], ◌∷◌}
 use Rattle.lfs_model.specs.format.Disk.{Disk}
 use Rattle.lfs_model.specs.tree.Tree.{Tree}
@@ -19,6 +19,6 @@ pub record WorksOn (from to : SystemState) : Type 0 where
   pub answered : all_answered turns ≡ true
   pub stayed : never_remounts turns ≡ true
 
--- wherever power is lost between these states, the next start has a tree with P
+-- if power is lost anywhere between these states, the next start has a tree with P
 abbrev pub SurvivesWith : (Tree → Type 0) → SystemState → SystemState → Type 0
 SurvivesWith P from to = (left : Disk) → MeetsRunPremises from to → LeftBetween from to left → StartsSafely P left

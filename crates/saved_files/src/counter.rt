@@ -1,4 +1,4 @@
-// A counter, written in place: the close commits all of a file at once.
+// A counter in a file that is rewritten in place: a close commits the whole file at once.
 
 ghost use Rattle.std.specs.Prelude.{◌≡◌, IfOk, OnOk};
 ghost use Rattle.lfs_fs.specs.SessionView.{system_state};
@@ -11,7 +11,7 @@ use lfs_device::{BlockDevice, Error};
 use lfs_fs::Session;
 use std::alloc::Global;
 
-// The number in the first four bytes, or 0 where there are fewer.
+// Returns the number in the first four bytes, the lowest byte first, or 0 if there are fewer.
 fn number_of(bytes: &[u8]) -> u32
     ensures { result ≡ number_of bytes.now }
 {
@@ -21,11 +21,11 @@ fn number_of(bytes: &[u8]) -> u32
     u32::from_le_bytes([bytes[0], bytes[1], bytes[2], bytes[3]])
 }
 
-/// Returns the number of the counter.
+/// Returns the counter's number.
 ///
 /// # Errors
 ///
-/// Those of [`read_file`], `NoEnt` where no counter was set.
+/// Those of [`read_file`]; `NoEnt` if no counter was set.
 pub fn read_counter<D: BlockDevice>(session: &mut Session<D>, alloc: Global) -> Result<u32, Error>
     ensures survives { SurvivesCount (system_state session.old) (system_state session.new) }
     ensures lived { LivesOn (system_state session.old) (system_state session.new) }
@@ -36,7 +36,8 @@ pub fn read_counter<D: BlockDevice>(session: &mut Session<D>, alloc: Global) -> 
     Ok(number_of(&bytes))
 }
 
-/// Sets the counter. Wherever power is lost in it, the next start reads the old number or this one. A counter that isn't there is 0.
+/// Sets the counter to `number`. If power is lost at any moment of the call, the next start reads
+/// the old number or this one. A counter that was never set is 0.
 ///
 /// # Errors
 ///
@@ -60,12 +61,12 @@ pub fn set_counter<D: BlockDevice>(
     Ok(())
 }
 
-/// Raises the counter by one, and returns the new number. Wherever power is lost in it, the next start reads the old number or the
-/// new one.
+/// Raises the counter by one, and returns the new number. If power is lost at any moment of the
+/// call, the next start reads the old number or the new one.
 ///
 /// # Errors
 ///
-/// `TooBig` where the number is `u32::MAX`, and those of [`read_counter`] and [`write_file`].
+/// `TooBig` if the number is `u32::MAX`; those of [`read_counter`] and [`write_file`].
 pub fn raise_counter<D: BlockDevice>(session: &mut Session<D>, alloc: Global) -> Result<u32, Error>
     ensures survives { SurvivesRaise (system_state session.old) (system_state session.new) }
     ensures lived { LivesOn (system_state session.old) (system_state session.new) }

@@ -1,4 +1,4 @@
-// Small examples of what promises are stated by: what is so, and what isn't.
+// Small examples for the definitions of the promises: what meets them, and what doesn't.
 
 ghost use Rattle.std.specs.Prelude.{ℕ, ◌≡◌, List, true, false, [], ◌∷◌, Some, None, codes};
 ghost use Rattle.lfs_model.specs.tree.Tree.{FileNode, DirectoryNode};
@@ -15,7 +15,8 @@ ghost use Rattle.saved_files.specs.Settings.{AreCutSaves, IsCutSave, IsEither, I
 ghost use Rattle.saved_files.specs.Counter.{CountsTo, RaisesTo, SetsTo, counter_in, number_of};
 ghost use Rattle.saved_files.specs.Log.{AreAppends, AreCutAppends, AreCutSessions, HasBeginning, HasBeginnings, IsDoneAppend};
 
-/// A session works on while it answers, and isn't remounted. Where it makes no call, a loss of power leaves its tree.
+/// A session works on as long as it answers and isn't remounted. If it makes no call, a loss of
+/// power leaves its tree.
 pub fn session_works_on_while_it_answers()
     ensures works { WorksOn fresh_state fresh_state }
     ensures failed { WorksOn fresh_state failed_state → ⊥ }
@@ -31,7 +32,7 @@ pub fn fresh_disk_starts_safely()
     ensures none { StartsSafely (λ tree. tree ≡ empty_tree) blockless_disk → ⊥ }
 {}
 
-/// A file has the written bytes, alone or at its end. A directory has none.
+/// A file that is written has the new bytes alone, or at its end. A directory has no bytes.
 pub fn file_has_the_written_bytes()
     ensures saved { bytes_written (codes "a" ∷ []) saving_flags (codes "old") (codes "new") ≡ codes "new" }
     ensures appended { bytes_written (codes "a" ∷ []) appending_flags (codes "old") (codes "new") ≡ codes "oldnew" }
@@ -41,7 +42,7 @@ pub fn file_has_the_written_bytes()
     ensures other { SameElsewhere (codes "b" ∷ []) empty_tree (tree_creating (codes "a" ∷ []) (FileNode [] []) empty_tree) → ⊥ }
 {}
 
-/// A new file may be empty after a loss of power, but has no part of what was written.
+/// A new file may be empty after a loss of power, but it never has a part of the written bytes.
 pub fn file_is_written_whole()
     ensures written { IsWritten (codes "a" ∷ []) saving_flags (codes "bc") empty_tree (tree_creating (codes "a" ∷ []) (FileNode [] (codes "bc")) empty_tree) }
     ensures not_written { IsWritten (codes "a" ∷ []) saving_flags (codes "bc") empty_tree empty_tree → ⊥ }
@@ -68,7 +69,7 @@ pub fn counter_is_four_bytes()
     ensures miscounts { CountsTo 1 fresh_state fresh_state → ⊥ }
 {}
 
-/// Where a session made no call, it counted, saved and logged nothing.
+/// A session that made no call has neither counted nor saved nor logged.
 pub fn nothing_is_done_without_call()
     ensures set { SetsTo 0 fresh_state fresh_state }
     ensures not_set { SetsTo 1 fresh_state fresh_state → ⊥ }
@@ -78,7 +79,7 @@ pub fn nothing_is_done_without_call()
     ensures no_append { AreAppends fresh_state [] fresh_state → ⊥ }
 {}
 
-/// A log has no part of an entry, and keeps the order of sessions.
+/// A log never has a part of an entry, and the entries are in the order of the sessions.
 pub fn log_has_whole_entries()
     ensures begins { HasBeginning (codes "a") (codes "bc" ∷ codes "d" ∷ []) (codes "abc") }
     ensures part { HasBeginning (codes "a") (codes "bc" ∷ codes "d" ∷ []) (codes "ab") → ⊥ }
@@ -86,7 +87,8 @@ pub fn log_has_whole_entries()
     ensures other_order { HasBeginnings [] (((1 ∷ []) ∷ []) ∷ ((2 ∷ []) ∷ []) ∷ []) (2 ∷ 1 ∷ []) → ⊥ }
 {}
 
-/// Power may be lost before the first call of a save or of an append. No number of losses leaves a disk without blocks.
+/// Power may be lost before the first call of a save or an append. No number of losses leaves a
+/// disk without blocks.
 pub fn saves_and_appends_may_be_cut()
     ensures save { IsCutSave small_image (codes "a") small_image }
     ensures saves { AreCutSaves small_image (codes "a" ∷ codes "b" ∷ []) small_image }

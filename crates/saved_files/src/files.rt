@@ -1,4 +1,4 @@
-// What settings, a counter and a log share: a start, a file that is written, and one that is read.
+// Shared by settings, counter and log: a start, a write of a whole file, and a read of one.
 
 ghost use Rattle.std.specs.Prelude.{◌≡◌, true, IfOk, OnOk};
 ghost use Rattle.lfs_model.specs.format.Disk.{ordered_disk};
@@ -18,11 +18,11 @@ use lfs_device::{BlockDevice, Error, RamDevice, lemma_ram_premises};
 use lfs_fs::{OpenFlags, Session, mount};
 use std::alloc::Global;
 
-/// Starts a program: mounts its device, and asks whether it may write.
+/// Mounts a device at the start of a program, and checks that its image may be written.
 ///
 /// # Errors
 ///
-/// `ReadOnly` where the image may not be written, and those of [`mount`].
+/// `ReadOnly` if the image may not be written, and those of [`mount`].
 pub fn start<D: BlockDevice + Drop>(alloc: Global, device: D) -> Result<Session<D>, Error>
     ensures mounted { IfOk result (λ session. IsMounted (ordered_disk session.tree.disk.order (disk_of_device D.BlockDevice device)) (system_state session)) }
     ensures may { IfOk result (λ session. MayLosePower (system_state session)) }
@@ -37,7 +37,7 @@ pub fn start<D: BlockDevice + Drop>(alloc: Global, device: D) -> Result<Session<
     Ok(session)
 }
 
-// For a file that is to have the written bytes alone.
+// Returns the flags for a file that is replaced by the written bytes.
 pub(crate) fn saving_flags() -> OpenFlags
     ensures { flags_view result ≡ saving_flags }
 {
@@ -46,7 +46,7 @@ pub(crate) fn saving_flags() -> OpenFlags
         .union(OpenFlags::TRUNCATE)
 }
 
-// For a file that gets the written bytes at its end.
+// Returns the flags for a file to which the written bytes are appended.
 pub(crate) fn appending_flags() -> OpenFlags
     ensures { flags_view result ≡ appending_flags }
 {
@@ -55,12 +55,14 @@ pub(crate) fn appending_flags() -> OpenFlags
         .union(OpenFlags::APPEND)
 }
 
-/// Opens a file, writes bytes, and closes it. Wherever power is lost in it, the next start finds the file from before the write,
-/// or from after it, whole: the close commits the bytes at once. A file that is new may be empty.
+/// Opens a file, writes bytes, and closes it. If power is lost at any moment of the call, the next
+/// start finds the file from before the write, or from after it, whole, since the close commits the
+/// bytes at once. A file that is new may be empty then.
 ///
 /// # Errors
 ///
-/// Those of `open`, `write` and `close`. After a refused write the file is still open, and then the next write is refused `Busy`.
+/// Those of `open`, `write` and `close`. After a refused write the file is still open, so the next
+/// write is refused with `Busy`.
 pub fn write_file<D: BlockDevice>(
     session: &mut Session<D>,
     alloc: Global,
@@ -80,12 +82,12 @@ pub fn write_file<D: BlockDevice>(
     Ok(())
 }
 
-/// Reads a file, whole. Wherever power is lost in it, the next start finds the same bytes there, and
-/// none if there were none.
+/// Returns all bytes of a file. If power is lost at any moment of the call, the next start finds
+/// the same bytes there, and none if there were none.
 ///
 /// # Errors
 ///
-/// `NoEnt` where there is no file, and those of `open`, `size`, `read` and `close`.
+/// `NoEnt` if there is no file, and those of `open`, `size`, `read` and `close`.
 pub fn read_file<D: BlockDevice>(
     session: &mut Session<D>,
     alloc: Global,
@@ -103,7 +105,7 @@ pub fn read_file<D: BlockDevice>(
     Ok(bytes)
 }
 
-/// Shows a proof that the erases of a device in memory are as the promises suppose. The call does nothing at run time.
+/// Proves that a device in memory meets the premise on erases. Does nothing at run time.
 pub fn memory_erases_cleanly(session: &Session<RamDevice>)
     ensures { (from : SystemState) → LivesOn from (system_state session.now) → AllCallsSince ErasesCleanly from.calls (system_state session.now).calls }
 {

@@ -1,4 +1,4 @@
-// A life in parts, for promises of functions that call others.
+// A life in two parts, for the promises of functions that call others.
 
 ghost use Rattle.std.specs.Prelude.{◌⊎◌};
 ghost use Rattle.lfs_model.specs.format.Disk.{Disk};
@@ -7,7 +7,8 @@ ghost use Rattle.lfs_model.specs.crash.RepeatedPowerLoss.{LeftBetween};
 ghost use Rattle.lfs_fs.specs.Starts.{LivesOn};
 ghost use Rattle.saved_files.specs.Working.{WorksOn};
 
-/// A loss of power between two states of a life is before or after any state between them, if the session worked up to there.
+/// A loss of power between two states of a life is before or after any state between them, if the
+/// session worked until that state.
 pub fn power_loss_is_in_one_part()
     ensures { (a b c : SystemState) (left : Disk) → WorksOn a b → LivesOn b c → LeftBetween a c left → LeftBetween a b left ⊎ LeftBetween b c left }
 {}

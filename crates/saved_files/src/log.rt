@@ -1,4 +1,4 @@
-// A log, to whose end each entry is written in place: the close commits all of an entry at once.
+// A log in a file that is appended to in place: a close commits all of an entry at once.
 
 ghost use Rattle.std.specs.Prelude.{ℕ, ◌≡◌, List, OnOk};
 ghost use Rattle.lfs_model.specs.format.Disk.{Disk};
@@ -16,7 +16,8 @@ use lfs_device::{BlockDevice, Error};
 use lfs_fs::Session;
 use std::alloc::Global;
 
-/// Appends an entry to the log. Wherever power is lost in it, the next start finds the log without the entry, or with all of it.
+/// Appends an entry to the log. If power is lost at any moment of the call, the next start finds
+/// the log without the entry, or with all of it.
 ///
 /// # Errors
 ///
@@ -33,8 +34,8 @@ pub fn append_to_log<D: BlockDevice>(
     Ok(())
 }
 
-/// Power may be lost in one session after another. The next start finds a log that has, of each session, a beginning of what it
-/// appended, and no part of an entry.
+/// Power may be lost in one session after another. The next start finds a log with the first few
+/// entries of each session, and no part of an entry.
 pub fn log_survives_any_losses()
     ensures once { (from : SystemState) (entries : List (List ℕ)) (to : SystemState) (s : SessionState) → AreAppends from entries to → from.state ≡ Healthy s
         → SurvivesWith (λ tree. HasBeginning (log_in s.tree) entries (log_in tree)) from to }

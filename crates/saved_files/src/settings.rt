@@ -1,4 +1,4 @@
-// Settings are written beside the old ones, and then renamed onto them.
+// Settings are written to a second file, which is then renamed onto the first.
 
 ghost use Rattle.std.specs.Prelude.{ℕ, ◌≡◌, ◌⊎◌, List, Option, Some, IfOk, OnOk};
 ghost use Rattle.lfs_model.specs.format.Disk.{Disk};
@@ -14,7 +14,8 @@ use lfs_device::{BlockDevice, Error, RamDevice};
 use lfs_fs::{Session, format};
 use std::alloc::Global;
 
-/// Saves settings. Wherever power is lost in it, the next start reads the old ones or these.
+/// Saves settings. If power is lost at any moment of the call, the next start reads the old ones or
+/// these.
 ///
 /// # Errors
 ///
@@ -33,7 +34,7 @@ pub fn save_settings<D: BlockDevice>(
     Ok(())
 }
 
-/// Makes an empty file system on a device in memory, and saves settings there. Nothing is supposed.
+/// Formats a device in memory, and saves settings there. The promise has no premise.
 ///
 /// # Errors
 ///
@@ -54,17 +55,18 @@ pub fn format_and_save(
     Ok(session)
 }
 
-/// Power may be lost in one save after another. The next start finds the settings from before them all, or those of one of them.
+/// Power may be lost in one save after another. The next start finds the settings from before the
+/// first save, or those of one of the saves.
 pub fn settings_survive_any_losses()
     ensures { (disk left : Disk) (old : Option (List ℕ)) (saves : List (List ℕ)) → StartsSafely (λ tree. settings_in tree ≡ old) disk → AreCutSaves disk saves left
         → StartsSafely (λ tree. (settings_in tree ≡ old) ⊎ IsOneOf saves (settings_in tree)) left }
 {}
 
-/// Reads the settings, whole.
+/// Returns the settings, whole.
 ///
 /// # Errors
 ///
-/// Those of [`read_file`], `NoEnt` where no settings were saved.
+/// Those of [`read_file`]; `NoEnt` if no settings were saved.
 pub fn read_settings<D: BlockDevice>(
     session: &mut Session<D>,
     alloc: Global,

@@ -1,4 +1,4 @@
--- The programs and erases of a device, and which of them are kept.
+-- The programs and erases of a device, and those of them that are kept.
 use Rattle.std.specs.Prelude.{ℕ, ◌≡◌, ◌+◌, ◌<◌, ◌^◌, ◌++◌, List, [], ◌∷◌, drop, length, map}
 use Rattle.lfs_model.specs.session.History.{DeviceCall, CallEvent}
 use Rattle.lfs_model.specs.session.History.DeviceCall.{Read, Program, Erase, Blank}
@@ -9,7 +9,7 @@ abbrev pub change_call : Change → DeviceCall
 change_call (change.Program block off bytes) = Program block off bytes.items
 change_call (change.Erase block) = Erase block
 
--- a call that is a program or an erase
+-- the call, if it is a program or an erase
 abbrev pub call_if_writing : DeviceCall → List DeviceCall
 call_if_writing (Read block off len) = []
 call_if_writing (Program block off bytes) = Program block off bytes ∷ []
@@ -21,6 +21,6 @@ abbrev pub history_writes : List CallEvent → List DeviceCall
 history_writes [] = []
 history_writes (e ∷ older) = history_writes older ++ call_if_writing e.call
 
--- The changes that are kept are the calls from a number on, all of them and in order.
+-- The kept changes are the calls from the number `first` on, all of them and in order, as long as there are numbers for them.
 abbrev pub AreNoted : ℕ → List Change → List DeviceCall → Type 0
 AreNoted first kept calls = first < 2 ^ 62 → (first + length kept ≡ length calls) × (map change_call kept ≡ drop first calls)

@@ -1,8 +1,8 @@
--- What contracts see of an open directory.
+-- An open directory, as contracts see it.
 use Rattle.std.specs.Prelude.{ℕ, List}
 use Rattle.lfs_lookup.specs.declared.kinds.ListItem.{ListItem}
 
--- its path, its entries when they were listed, and how many of them are before the position
+-- its path, its entries at the time of the listing, and its position, an index of these
 pub record DirectoryView : Type 0 where
   pub path : List ℕ
   pub items : List ListItem

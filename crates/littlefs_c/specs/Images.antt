@@ -20,7 +20,7 @@ use Rattle.lfs_lookup.specs.RefusalErrors.{is_refusal, error_refusal}
 
 -- ---- a session over an image
 
--- A device of that profile that has the image, and has had no call.
+-- A device with this image and profile, before its first call.
 pub record IsImageDevice (block_size page : ℕ) (profile : Profile) (image : List ℕ) (d : RamDevice) : Type 0 where
   pub whole : IsWholeImage block_size page image
   pub size : (ram_geometry d).block_size ≡ block_size
@@ -29,8 +29,8 @@ pub record IsImageDevice (block_size page : ℕ) (profile : Profile) (image : Li
   pub bytes : ram_bytes d ≡ image
   pub no_call : ram_history d ≡ []
 
--- A session as a mount of the image by that profile begins it. The image is accepted, in the order with the longer names first
--- where both orders fit.
+-- A session at its mount of the image by that profile. The image is accepted. If both orders of names fit, the session's is the
+-- one with the longer names first.
 pub record IsImageSession (block_size page : ℕ) (profile : Profile) (image : List ℕ) (from : SystemState) : Type 0 where
   pub whole : IsWholeImage block_size page image
   pub disk : from.disk ≡ disk_of_image block_size page profile from.disk.order image
@@ -39,8 +39,8 @@ pub record IsImageSession (block_size page : ℕ) (profile : Profile) (image : L
   pub accepted : IsAccepted from.disk pairs
   pub mounts : from.state ≡ Healthy (mounted_session (disk_tree from.disk pairs))
 
--- What keeps a call from running an operation: the bytes are no image of that geometry, the image isn't accepted, or memory
--- wasn't granted.
+-- The reason why a call runs no operation: the bytes are no image of that geometry, the image isn't accepted, or memory wasn't
+-- granted.
 abbrev pub PreventsSession : ℕ → ℕ → Profile → List ℕ → Error → Type 0
 PreventsSession block_size page profile image Invalid = ¬ IsWholeImage block_size page image
 PreventsSession block_size page profile image Corrupt = (order : NameOrder) (ps : List Pair) → ¬ IsAccepted (disk_of_image block_size page profile order image) ps

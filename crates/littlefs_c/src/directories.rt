@@ -11,8 +11,8 @@ use lfs_volume::{Error, Item, Volume};
 use std::alloc::Global;
 use std::marker::Model;
 
-/// An open directory: its path, its entries as they were listed, and how many of them are before the
-/// position.
+/// An open directory: its path, its entries at the time of the listing, and its position, the index
+/// of the entry that is read next.
 #[derive(Drop)]
 pub struct Directory {
     path: Vec<u8>,
@@ -31,7 +31,7 @@ impl Model for Directory {
     ghost invariant = { λ d. d.position ≤ length d.items.items };
 }
 
-// Returns the least number that is free.
+// Returns the least free number.
 fn free_number(directories: &[Option<Directory>]) -> usize
     ensures { result ≡ free_entry directories.now }
 {
@@ -45,7 +45,8 @@ fn free_number(directories: &[Option<Directory>]) -> usize
     number
 }
 
-// Makes an open directory of a listing.
+// Returns an open directory with these entries, at position 0. Errors: `NoMemory` if memory isn't
+// granted.
 fn new_directory(alloc: Global, path: &[u8], items: Vec<Item>) -> Result<Directory, Error>
     ensures is { IfOk result (λ d. d ≡ opened_directory path.now items.items) }
     ensures none { IfErr result (λ e. e ≡ Error.NoMemory) }
@@ -60,7 +61,8 @@ fn new_directory(alloc: Global, path: &[u8], items: Vec<Item>) -> Result<Directo
     }
 }
 
-// Puts a directory under a number that is free, the least one or the next.
+// Stores a directory under a free number, or appends it if the table is shorter. Errors: `NoMemory`
+// if memory isn't granted; the table is unchanged then.
 fn put_directory(
     directories: &mut Vec<Option<Directory>>,
     number: usize,
@@ -79,7 +81,8 @@ fn put_directory(
     }
 }
 
-// Keeps a listing as an open directory. Returns its number, the least that is free.
+// Stores a listing as an open directory. Returns its number, the least that is free. Errors: the
+// listing's own, and `NoMemory` if memory isn't granted.
 pub(crate) fn keep_listing(
     alloc: Global,
     directories: &mut Vec<Option<Directory>>,
@@ -98,7 +101,8 @@ pub(crate) fn keep_listing(
     Ok(number as u32)
 }
 
-// Shows the entry at a directory's position, which is after it then. Returns whether there is one.
+// Copies the entry at a directory's position to `shown` and `name`, and moves to the next one.
+// Returns false if there is no entry.
 fn read_next(directory: &mut Directory, shown: &mut ShownEntry, name: &mut [u8]) -> bool
     ensures { ShowsNext directory.old result directory.new shown.old shown.new name.old name.new }
 {
@@ -111,7 +115,8 @@ fn read_next(directory: &mut Directory, shown: &mut ShownEntry, name: &mut [u8])
     true
 }
 
-// The same of the directory with that number.
+// Reads the next entry of the directory with that number, as `read_next` does. `BadFile` if no such
+// directory is open.
 pub(crate) fn read_directory(
     directories: &mut Vec<Option<Directory>>,
     number: u32,
@@ -130,7 +135,8 @@ pub(crate) fn read_directory(
     }
 }
 
-// Sets the position of the directory with that number.
+// Sets the position of the directory with that number. `BadFile` if no such directory is open,
+// `Invalid` if the position is more than the number of its entries.
 pub(crate) fn seek_directory(
     directories: &mut Vec<Option<Directory>>,
     number: u32,
@@ -154,7 +160,7 @@ pub(crate) fn seek_directory(
     }
 }
 
-// Returns the position of the directory with that number.
+// Returns the position of the directory with that number. `BadFile` if no such directory is open.
 pub(crate) fn directory_position(
     directories: &[Option<Directory>],
     number: u32,
@@ -176,7 +182,7 @@ pub(crate) fn directory_position(
     }
 }
 
-// Lists a directory again. Its position is 0 then.
+// Lists a directory again, and sets its position to 0. Errors: those of the volume's `list`.
 fn list_again(
     alloc: Global,
     volume: &mut Volume<HeldDevice>,
@@ -190,7 +196,8 @@ fn list_again(
     Ok(())
 }
 
-// Lists the directory with that number again.
+// Lists the directory with that number again, and sets its position to 0. `BadFile` if no such
+// directory is open, and the errors of the volume's `list`.
 pub(crate) fn rewind_directory(
     alloc: Global,
     volume: &mut Volume<HeldDevice>,
@@ -209,7 +216,7 @@ pub(crate) fn rewind_directory(
     }
 }
 
-// Closes the directory with that number.
+// Closes the directory with that number. `BadFile` if no such directory is open.
 pub(crate) fn close_directory(
     directories: &mut Vec<Option<Directory>>,
     number: u32,

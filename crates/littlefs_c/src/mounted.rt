@@ -1,10 +1,10 @@
-// What C has a handle of.
+// The state behind a handle in C.
 
 use crate::directories::Directory;
 use crate::noted::HeldDevice;
 use lfs_volume::Volume;
 
-/// A mounted image: a volume, and the directories that are open, by their numbers.
+/// A mounted image: a volume, and its open directories by their numbers.
 #[derive(Drop)]
 pub struct Mounted {
     pub volume: Volume<HeldDevice>,

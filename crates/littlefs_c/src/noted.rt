@@ -1,4 +1,4 @@
-// A device that notes its programs and erases, and the device of a volume that C holds.
+// A device that records its programs and erases, and the device behind a handle in C.
 
 ghost use Rattle.std.specs.Prelude.{◌≡◌, []};
 ghost use Rattle.lfs_device.specs.RamDevice.{ram_history};
@@ -9,7 +9,7 @@ use crate::notes::Notes;
 use lfs_device::{BlockDevice, Error, Geometry, Profile, Profiled, RamDevice};
 use std::alloc::Global;
 
-/// A device that notes its programs and erases, in order. Its blocks and calls are those of the
+/// A device that records its programs and erases, in order. Its blocks and calls are those of the
 /// device below.
 #[derive(Drop)]
 pub struct Noted<D: BlockDevice> {
@@ -19,7 +19,7 @@ pub struct Noted<D: BlockDevice> {
 }
 
 impl<D: BlockDevice> Noted<D> {
-    /// Notes what is written to a device from its first call on.
+    /// Wraps a device that has had no call, and records its programs and erases.
     pub fn new(alloc: Global, inner: D) -> Noted<D>
         requires { D.history inner ≡ [] }
         ensures { result.inner ≡ inner }
@@ -37,7 +37,7 @@ impl<D: BlockDevice> Noted<D> {
         &self.inner
     }
 
-    /// Borrows the notes.
+    /// Borrows the record.
     pub fn notes(&self) -> &Notes
         ensures { AreNoted result.now.first result.now.changes.items (history_writes (D.history self.now.inner)) }
     {
@@ -82,10 +82,10 @@ impl<D: BlockDevice> BlockDevice for Noted<D> {
     }
 }
 
-/// The device of a volume that C holds: one in memory, with notes of its changes and a profile.
+/// The device behind a handle in C: one in memory, with a record of its changes, and a profile.
 pub type HeldDevice = Profiled<Noted<RamDevice>>;
 
-// Makes such a device of one in memory that has had no call.
+// Returns such a device over one in memory that has had no call.
 pub(crate) fn held_device(alloc: Global, ram: RamDevice, profile: Profile) -> HeldDevice
     requires { ram_history ram ≡ [] }
     ensures ram { result.inner.inner ≡ ram }

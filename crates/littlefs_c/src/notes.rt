@@ -1,4 +1,4 @@
-// The programs and erases of a device that are kept for C.
+// A record of a device's programs and erases, for C.
 
 ghost use Rattle.std.specs.Prelude.{◌≡◌, ◌≤◌, ◌<◌, ◌+◌, ◌^◌, ◌∷◌, ◌++◌, [], List, IfSome, length, slice_get, Some, true};
 ghost use Rattle.lfs_model.specs.session.History.{DeviceCall};
@@ -8,35 +8,35 @@ ghost use Rattle.littlefs_c.specs.ChangeLog.{AreNoted, change_call};
 use std::alloc::Global;
 use std::cell::Cell;
 
-// Numbers from here on aren't given to changes.
+// The first number that no change gets, 2 to the 62nd.
 const NUMBERS: u64 = 4_611_686_018_427_387_904;
 
-// What nobody wants: no change is kept.
+// The value of `wanted` before anybody wants changes: none is kept.
 const NONE_WANTED: u64 = u64::MAX;
 
-/// What was done to a block.
+/// A change of a block.
 #[derive(Drop)]
 pub enum Change {
-    /// The block, the offset in it, and the bytes that were programmed there.
+    /// A program: the block, the offset in it in bytes, and the programmed bytes.
     Program(u32, u32, Vec<u8>),
-    /// The block that was erased.
+    /// An erase of this block.
     Erase(u32),
 }
 
-/// The newest changes of a device, the oldest of them first. Changes are numbered from 0 on, and
-/// those before a number are let go once a later one is wanted.
+/// The newest changes of a device, the oldest of them first. Changes are numbered from 0. They may
+/// be dropped once only later ones are wanted.
 #[derive(Drop)]
 pub struct Notes {
     alloc: Global,
     first: u64,
     changes: Vec<Change>,
-    // Callers that read a device say by it from which number on they want changes.
+    // The number from which on changes are wanted. A `Cell`, since callers only borrow the device.
     wanted: Cell<u64>,
     ghost small: { first ≤ 2 ^ 62 },
 }
 
 impl Notes {
-    /// Notes of a device that has had no program and no erase. None is kept.
+    /// Returns the record of a device without any program or erase. No change is kept.
     pub fn new(alloc: Global) -> Notes
         ensures { AreNoted result.first result.changes.items [] }
     {
@@ -55,7 +55,7 @@ impl Notes {
         self.first + self.changes.len() as u64
     }
 
-    // Keeps no change up to the next one, and not that one.
+    // Drops all changes, and counts the next one without keeping it.
     fn skip_change(&mut self)
         ensures { (before : List DeviceCall) (call : DeviceCall) → AreNoted self.old.first self.old.changes.items before → AreNoted self.new.first self.new.changes.items (before ++ call ∷ []) }
     {
@@ -63,7 +63,7 @@ impl Notes {
         self.changes.clear();
     }
 
-    // Lets all changes go where none of them is wanted any more.
+    // Drops all changes if none of them is wanted any more.
     fn let_go(&mut self)
         ensures { (before : List DeviceCall) → AreNoted self.old.first self.old.changes.items before → AreNoted self.new.first self.new.changes.items before }
     {
@@ -74,7 +74,7 @@ impl Notes {
         }
     }
 
-    // Keeps a change. All are let go where memory isn't granted.
+    // Keeps a change. Drops it and all others if memory isn't granted.
     fn keep_change(&mut self, change: Change)
         ensures { (before : List DeviceCall) → AreNoted self.old.first self.old.changes.items before → AreNoted self.new.first self.new.changes.items (before ++ change_call change ∷ []) }
     {
@@ -84,7 +84,7 @@ impl Notes {
         }
     }
 
-    /// Notes a program.
+    /// Counts a program, and keeps it if changes are wanted and memory for it is granted.
     pub fn note_program(&mut self, block: u32, off: u32, bytes: &[u8])
         ensures { (before : List DeviceCall) → AreNoted self.old.first self.old.changes.items before → AreNoted self.new.first self.new.changes.items (before ++ Program block off bytes.now ∷ []) }
     {
@@ -98,7 +98,7 @@ impl Notes {
         }
     }
 
-    /// Notes an erase.
+    /// Counts an erase, and keeps it if changes are wanted and memory for it is granted.
     pub fn note_erase(&mut self, block: u32)
         ensures { (before : List DeviceCall) → AreNoted self.old.first self.old.changes.items before → AreNoted self.new.first self.new.changes.items (before ++ Erase block ∷ []) }
     {
@@ -109,8 +109,8 @@ impl Notes {
         }
     }
 
-    /// Keeps changes from the next one on, if none are kept yet. Returns the number of the next
-    /// change; None where there are no numbers any more.
+    /// Keeps changes from the next one on, unless some are wanted already. Returns the number of
+    /// the next change, or None if there are no numbers left.
     pub fn begin(&self) -> Option<u64>
         ensures number { IfSome result (λ n. (calls : List DeviceCall) → AreNoted self.now.first self.now.changes.items calls → n ≡ length calls) }
         ensures small { IfSome result (λ n. n < 2 ^ 63) }
@@ -125,19 +125,20 @@ impl Notes {
         Some(next)
     }
 
-    /// Lets the changes before a number go, when the next one is noted.
+    /// Says that no change before `number` is wanted any more. Such changes may be dropped when the
+    /// next one is recorded.
     pub fn want(&self, number: u64) {
         self.wanted.set(number);
     }
 
-    /// Returns whether the change of that number is still to come.
+    /// Returns whether the change of that number hasn't happened yet.
     pub fn is_to_come(&self, number: u64) -> bool
         ensures { (calls : List DeviceCall) → AreNoted self.now.first self.now.changes.items calls → result ≡ true → length calls ≤ number }
     {
         self.first < NUMBERS && number >= self.next()
     }
 
-    /// Borrows the change of that number; None where it isn't kept.
+    /// Borrows the change of that number. None if it isn't kept.
     pub fn change(&self, number: u64) -> Option<&Change>
         ensures { IfSome result (λ c. (calls : List DeviceCall) → AreNoted self.now.first self.now.changes.items calls → slice_get calls number ≡ Some (change_call c.now)) }
     {

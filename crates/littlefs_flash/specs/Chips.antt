@@ -1,16 +1,16 @@
--- What a driver may be asked to do with a chip, and what it leaves as it is.
+-- The conditions of a driver's calls, and the parts of a chip that they leave unchanged.
 use Rattle.std.specs.Prelude.{ℕ, ◌≡◌, ◌≤◌, ◌<◌, ◌+◌, ◌%◌}
 use Rattle.lfs_model.specs.session.History.{AreUnprogrammed}
 use Rattle.littlefs_flash.specs.declared.chip.Chip.{Chip}
 
--- the number and the sizes stay
+-- the number and the sizes are unchanged
 pub record KeepsSizes (old new : Chip) : Type 0 where
   pub number : new.number ≡ old.number
   pub block_size : new.block_size ≡ old.block_size
   pub page : new.page ≡ old.page
   pub block_count : new.block_count ≡ old.block_count
 
--- the bytes are within a block of the chip
+-- the bytes are within one block of the chip
 pub record IsWithinChip (chip : Chip) (b off len : ℕ) : Type 0 where
   pub in_device : b < chip.block_count
   pub in_block : off + len ≤ chip.block_size

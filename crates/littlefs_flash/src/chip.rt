@@ -9,8 +9,8 @@ ghost use Rattle.lfs_device.specs.Bytes.{AreByteBlocks};
 
 use std::marker::Model;
 
-/// The bytes of a chip and the calls that it has had. Only proofs read them: the struct has no
-/// bytes of its own.
+/// The bytes of a chip and its calls so far. Only proofs read them: the struct is empty at run
+/// time.
 #[repr(C)]
 #[derive(Drop)]
 pub struct FlashState {
@@ -23,7 +23,7 @@ impl Model for FlashState {
 }
 
 impl FlashState {
-    /// Returns the state of a chip without blocks. Neither reference is read.
+    /// Returns the state of a chip without blocks. Reads neither reference.
     pub fn none<S, T>(_one: &S, _other: &T) -> FlashState
         ensures { (result.blocks ≡ []) × (result.history ≡ []) }
     {

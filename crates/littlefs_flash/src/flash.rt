@@ -13,12 +13,12 @@ use crate::chip::Chip;
 use lfs_device::{BlockDevice, Error, Geometry, Profile};
 use std::marker::PhantomData;
 
-/// A flash driver: four functions, which may be C's. Their clauses are those of `BlockDevice`, of a
-/// chip instead of a device. A function returns 0 if it did its work, and another number if the
-/// flash failed.
+/// A flash driver: four functions, which may be written in C. Their clauses are those of
+/// `BlockDevice`, for a chip instead of a device. Each returns a number for success, as it says,
+/// and another one if the flash failed.
 pub trait Flash {
-    /// Reads the bytes of a block from the offset `off` on into the buffer. After a failure the
-    /// buffer may hold any bytes.
+    /// Reads bytes of a block, from the offset `off` on, into the buffer. Returns 0 on success.
+    /// After a failure the buffer may hold any bytes.
     fn read(chip: &mut Chip, block: u32, off: u32, buf: &mut [u8]) -> u32
         requires { IsWithinChip chip.old block off (length buf.old) }
         ensures bytes { OnOk (status_result result) (buf.new ≡ slice_range (block_bytes chip.old.state.blocks block) off (off + length buf.old)) }
@@ -27,8 +27,9 @@ pub trait Flash {
         ensures history { chip.new.state.history
             ≡ call_event (Read block off (length buf.old)) chip.old.state.blocks chip.new.state.blocks (is_err (status_result result)) ∷ chip.old.state.history };
 
-    /// Programs whole pages of a block from the offset `off` on. Their bytes are unprogrammed since
-    /// the block's last erase. After a failure these pages may hold any bytes, and no others change.
+    /// Programs whole pages of a block, from the offset `off` on. Their bytes are unprogrammed
+    /// since the block's last erase. Returns 0 on success. After a failure these pages may hold any
+    /// bytes, and no others change.
     fn prog(chip: &mut Chip, block: u32, off: u32, bytes: &[u8]) -> u32
         requires { CanProgramChip chip.old block off (length bytes.now) }
         ensures programs { Programs block off bytes.now chip.old.state.blocks chip.new.state.blocks (status_result result) }
@@ -36,8 +37,8 @@ pub trait Flash {
         ensures history { chip.new.state.history
             ≡ call_event (Program block off bytes.now) chip.old.state.blocks chip.new.state.blocks (is_err (status_result result)) ∷ chip.old.state.history };
 
-    /// Erases a block. It may then hold any bytes, all of them unprogrammed. After a failure they
-    /// count as programmed, and no other block changes.
+    /// Erases a block. It may then hold any bytes, all of them unprogrammed. Returns 0 on success.
+    /// After a failure they count as programmed, and no other block changes.
     fn erase(chip: &mut Chip, block: u32) -> u32
         requires { block < chip.old.block_count }
         ensures others { SameExcept block chip.old.state.blocks chip.new.state.blocks }
@@ -45,8 +46,9 @@ pub trait Flash {
         ensures history { chip.new.state.history
             ≡ call_event (Erase block) chip.old.state.blocks chip.new.state.blocks (is_err (status_result result)) ∷ chip.old.state.history };
 
-    /// Returns 1 if it is sure that `len` bytes of a block from the offset `off` on are unprogrammed
-    /// since the block's last erase, 0 if it isn't, and another number if the flash failed.
+    /// Returns 1 if `len` bytes of a block, from the offset `off` on, are certainly unprogrammed
+    /// since the block's last erase, 0 if that isn't certain, and another number if the flash
+    /// failed.
     fn is_blank(chip: &mut Chip, block: u32, off: u32, len: u32) -> u32
         requires { IsWithinChip chip.old block off len }
         ensures same { chip.new.state.blocks ≡ chip.old.state.blocks }
@@ -54,7 +56,7 @@ pub trait Flash {
         ensures asks { AsksIfBlank block off len chip.old.state.blocks chip.new.state.blocks chip.old.state.history chip.new.state.history (blank_result result) };
 }
 
-// Returns `Io` for each status but 0.
+// Returns Ok for the status 0, and `Io` for any other.
 fn result_of_status(status: u32) -> Result<(), Error>
     ensures is { result ≡ status_result status }
     ensures error { IfErr result (λ e. e ≡ Error.Io) }
@@ -65,7 +67,7 @@ fn result_of_status(status: u32) -> Result<(), Error>
     }
 }
 
-// Returns `Io` for each answer but 0 and 1.
+// Returns false for the answer 0, true for 1, and `Io` for any other.
 fn result_of_blank(answer: u32) -> Result<bool, Error>
     ensures is { result ≡ blank_result answer }
     ensures error { IfErr result (λ e. e ≡ Error.Io) }
@@ -77,7 +79,7 @@ fn result_of_blank(answer: u32) -> Result<bool, Error>
     }
 }
 
-/// A block device on a chip, by the functions of its driver.
+/// A block device over a chip, through its driver's functions.
 #[derive(Drop)]
 pub struct FlashDevice<F: Flash> {
     geometry: Geometry,
@@ -89,7 +91,8 @@ pub struct FlashDevice<F: Flash> {
 }
 
 impl<F: Flash> FlashDevice<F> {
-    /// Makes a device of a chip, with that profile. Returns the chip if its sizes are out of range.
+    /// Returns a device over a chip, with that profile. Returns the chip if its sizes are out of
+    /// range.
     pub fn new(chip: Chip, profile: Profile) -> Result<FlashDevice<F>, Chip>
         ensures { MatchResult result
             (λ d. (d.chip ≡ chip) × (d.geometry.profile ≡ profile))
@@ -105,7 +108,7 @@ impl<F: Flash> FlashDevice<F> {
         }
     }
 
-    /// Ends the device, and returns its chip.
+    /// Returns the chip of a device that is used no more.
     pub fn into_chip(self) -> Chip
         ensures { result ≡ self.chip }
     {

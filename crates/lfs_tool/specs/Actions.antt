@@ -4,7 +4,7 @@ use Rattle.lfs_model.specs.layers.Listing.{UnpackingAction, MakeDirectory, PutFi
 use Rattle.lfs_tool.specs.declared.target_memory.TargetAction.{TargetAction}
 use Rattle.lfs_tool.specs.declared.target_memory.TargetAction.TheVariants as variant
 
--- one action more, where the actions are known
+-- the actions are the old ones and this one, if they are known
 abbrev pub AddsAction : Option (List UnpackingAction) → Option (List UnpackingAction) → UnpackingAction → Type 0
 AddsAction None new a = Unit {0}
 AddsAction (Some done) None a = ⊥

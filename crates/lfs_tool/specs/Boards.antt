@@ -1,4 +1,4 @@
--- The numbers of boards and of firmware.
+-- The sizes and limits of boards and of firmware.
 use Rattle.std.specs.Prelude.{ℕ, if◌then◌else◌, Option, Some, None, codes}
 use Rattle.std.specs.Str.{bytes_eq}
 use Rattle.clap.specs.Words.{Text}
@@ -8,7 +8,7 @@ use Rattle.lfs_model.specs.declared.limits.Profile.{Profile}
 use Rattle.lfs_tool.specs.declared.board.Board.{Board}
 use Rattle.lfs_tool.specs.declared.board.Board.TheVariants as board
 
--- the board of this name
+-- the board of this name, if there is one
 abbrev pub board_named : Text → Option Board
 board_named text =
     if bytes_eq text (codes "esp8266") then Some board.Esp8266
@@ -16,7 +16,7 @@ board_named text =
     else (if bytes_eq text (codes "rp2040") then Some board.Rp2040
     else (if bytes_eq text (codes "micropython") then Some board.Micropython else None)))
 
--- the size of a block where none is given
+-- the default size of a block, in bytes
 abbrev pub board_block_size : Board → ℕ
 board_block_size board.Unnamed = 4096
 board_block_size board.Esp8266 = 8192
@@ -24,11 +24,11 @@ board_block_size board.Esp32 = 4096
 board_block_size board.Rp2040 = 4096
 board_block_size board.Micropython = 4096
 
--- firmware with names of so many bytes, which keeps a file inline up to so many
+-- the profile of firmware with names of at most `name_max` bytes and inline files of at most `inline_max` bytes
 abbrev pub profile_of_firmware : ℕ → ℕ → Profile
 profile_of_firmware name_max inline_max = record default_profile { versions = AlsoTwoOne; name_max = name_max; inline_max = inline_max }
 
--- what holds where no limit and no version is given
+-- the default limits and versions
 abbrev pub board_profile : Board → Profile
 board_profile board.Unnamed = default_profile
 board_profile board.Esp8266 = profile_of_firmware 32 64

@@ -25,15 +25,15 @@ orders_text orders.LongerFirst = codes "longer-first"
 orders_text orders.ShorterFirst = codes "shorter-first"
 orders_text orders.Either = codes "either"
 
--- `version 2.1`; nothing where it is 2.0
+-- `version 2.1`; nothing if it is 2.0
 abbrev pub version_line : ℕ → List ℕ
 version_line version = if version == 0x00020000 then [] else codes "version " ++ decimal (version / 65536) ++ codes "." ++ decimal (version % 65536) ++ codes "\n"
 
--- the limit behind its name; nothing where it is the default one
+-- the name and the limit; nothing if it is the default one
 abbrev pub limit_line : List ℕ → ℕ → ℕ → List ℕ
 limit_line name default limit = if limit == default then [] else name ++ codes " " ++ decimal limit ++ codes "\n"
 
--- the version and each limit that isn't the default one, where the superblock is told of
+-- the version and each limit that isn't the default one, if the superblock is known
 abbrev pub superblock_lines : Option Superblock → List ℕ
 superblock_lines None = []
 superblock_lines (Some s) =
@@ -46,12 +46,12 @@ other_limit_text (limit.Name n) = codes "name_max " ++ decimal n
 other_limit_text (limit.File n) = codes "file_max " ++ decimal n
 other_limit_text (limit.Attr n) = codes "attr_max " ++ decimal n
 
--- the profile's limit of a file that is inline, where it is less than an eighth of a block
+-- the profile's limit of inline files, if it is less than an eighth of a block
 abbrev pub inline_limit_text : Option ℕ → List ℕ
 inline_limit_text None = codes "an eighth of a block"
 inline_limit_text (Some n) = codes "inline_max " ++ decimal n
 
--- which rule of the writing profile an image breaks
+-- the rule of the writing profile that an image breaks
 abbrev pub breach_text : Option ℕ → ProfileBreach → List ℕ
 breach_text inline_max (breach.OtherLimits pair slot limit) =
     pair_text (address_view pair) ++ codes ", slot " ++ decimal slot ++ codes ": a superblock with other limits than the options give, " ++ other_limit_text limit

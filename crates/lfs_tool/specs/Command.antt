@@ -6,27 +6,27 @@ use Rattle.lfs_tool.specs.declared.options.OptionRow.{OptionRow}
 use Rattle.lfs_tool.specs.declared.options.Value.{Value}
 use Rattle.lfs_tool.specs.declared.options.Value.TheVariants as value
 
--- an option whose long name is its id, with a letter or without one, that takes so many values
+-- an option whose long name is its id, with a letter or without one, and with so many values
 abbrev pub option_of : Text → Option ℕ → ℕ → Rule
 option_of name letter count = record (new_rule name) { short = letter; long = Some name; action = Some Set; value_names = count }
 
--- one that has this value where it isn't given
+-- an option with this default
 abbrev pub defaulted : Text → Text → Rule
 defaulted name default = record (option_of name None 1) { defaults = default ∷ [] }
 
--- one that may be given several times
+-- an option that may be given several times
 abbrev pub repeated : Text → Rule
 repeated name = record (option_of name None 1) { action = Some Append }
 
--- an option that takes nothing
+-- an option without a value
 abbrev pub flag_of : Text → Option ℕ → Rule
 flag_of name letter = record (new_rule name) { short = letter; long = Some name; action = Some SetTrue }
 
--- an argument that has to be there
+-- a required argument
 abbrev pub needed : Text → Rule
 needed name = record (new_rule name) { action = Some Set; value_names = 1; required = true }
 
--- the rule that a row of a table says
+-- the rule of a row of a table
 abbrev pub rule_of_row : OptionRow → Rule
 rule_of_row row = go row.value
   where
@@ -63,7 +63,7 @@ abbrev pub with_rules : App → List Rule → App
 with_rules app [] = app
 with_rules app (rule ∷ rules) = with_rules (with_rule app rule) rules
 
--- the command without its arguments, which prints its version where that is requested
+-- the command without its arguments, which prints its version on request
 abbrev pub bare_command : App
 bare_command = let app = new_app (codes "mklittlefs") in record app { top = record app.top { has_version = true } }
 

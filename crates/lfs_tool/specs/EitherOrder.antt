@@ -1,14 +1,14 @@
--- What holds with the names in one of the two orders.
+-- Views of a disk whose names are in one of the two orders.
 use Rattle.std.specs.Prelude.{ℕ, List}
 use Rattle.lfs_tool.specs.declared.image_layout.ImageLayout.{ImageLayout}
 use Rattle.lfs_model.specs.format.Disk.{ordered_disk, Disk, disk_of_image}
 use Rattle.lfs_model.specs.tree.View.{HasDiskView, DiskView}
 use Rattle.lfs_model.specs.declared.order.NameOrder.{NameOrder}
 
--- the disk of these bytes is accepted with its names in one of the orders, and shows that
+-- the disk of these bytes is accepted in one of the orders of names, and has this view then
 abbrev pub IsImageView : ImageLayout → List ℕ → DiskView → Type 0
 IsImageView layout image view = (order : NameOrder) × HasDiskView (disk_of_image layout.block_size layout.page layout.profile order image) view
 
--- the same of a disk, whatever its own order
+-- the same for a disk, whatever its own order
 abbrev pub IsEitherView : Disk → DiskView → Type 0
 IsEitherView disk view = (order : NameOrder) × HasDiskView (ordered_disk order disk) view

@@ -1,4 +1,4 @@
--- The line that shows an error, and the status with which the program ends.
+-- The line of an error, and the exit status of the program.
 use Rattle.std.specs.Prelude.{◌++◌, ℕ, List, codes}
 use Rattle.std.specs.Fmt.{decimal}
 use Rattle.lfs_model.specs.layers.Listing.{newline}

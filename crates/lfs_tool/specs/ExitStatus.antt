@@ -1,4 +1,4 @@
--- The status of a fault, and the line that shows it.
+-- The exit status of a fault, and its line.
 use Rattle.std.specs.Prelude.{◌++◌, ℕ, List, Option, Some, None, Bool, true, false, codes}
 use Rattle.clap.specs.Words.{kind_of}
 use Rattle.clap.specs.declared.error.ErrorKind.{ErrorKind}
@@ -14,7 +14,7 @@ use Rattle.lfs_device.specs.declared.error.Error.TheVariants.{NoMemory}
 use Rattle.lfs_tool.specs.declared.errors.Fault.{Fault}
 use Rattle.lfs_tool.specs.declared.errors.Fault.TheVariants.{Line, Tool}
 
--- which writer gets the parser's text
+-- the writer of the parser's text
 pub data ParserOutcome : Type 0 where
   memory : ParserOutcome
   help : ParserOutcome
@@ -47,11 +47,11 @@ outcome_line memory = Some (error_line NoMemory)
 outcome_line help = None
 outcome_line mistake = None
 
--- the line that says which rule a limit breaks
+-- the line with the rule that a limit breaks
 abbrev pub broken_limit_line : Limit → List ℕ
 broken_limit_line limit = codes "error: " ++ limit_rule limit ++ newline
 
--- the line on the standard error, where it is the tool's own
+-- the line on the standard error, if it is the tool's own
 abbrev pub failure_line : Fault → Option (List ℕ)
 failure_line (Line Modes) = Some (codes "error: give exactly one of -c, -u, -l" ++ newline)
 failure_line (Line Order) = Some (codes "error: --order is longer-first or shorter-first" ++ newline)

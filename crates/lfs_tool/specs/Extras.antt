@@ -1,4 +1,4 @@
--- What the words request beside the image.
+-- The requests of the words besides the image.
 use Rattle.std.specs.Prelude.{◌≡◌, ◌&&◌, ◌||◌, if◌then◌else◌, ℕ, Bool, List, Option, Some, None, codes, [], false, is_some, map, not, unwrap_or}
 use Rattle.std.specs.Borrow.{Bor}
 use Rattle.std.specs.Global.{Vec}
@@ -9,11 +9,11 @@ use Rattle.lfs_tool.specs.declared.extras.Extras.{Extras}
 use Rattle.lfs_tool.specs.declared.extras.Misuse.{Misuse}
 use Rattle.lfs_tool.specs.declared.extras.Misuse.TheVariants as misuse
 
--- the patterns are those that the words give
+-- the patterns are those of the words
 abbrev pub ArePatternsOf : List Row → Vec (Bor Text) → Type 0
 ArePatternsOf rows patterns = unwrap_or (all_of (codes "exclude") rows) [] ≡ map (λ pattern. pattern.now) patterns.items
 
--- each flag and number is the one that the words give
+-- each flag and number is the one of the words
 pub record AreExtrasOf (rows : List Row) (extras : Extras) : Type 0 where
   pub is_size_auto : is_option_auto (codes "size") rows ≡ extras.is_size_auto
   pub spare : number_or 0 (codes "spare") rows ≡ extras.spare
@@ -35,25 +35,25 @@ names_stream (Some text) = bytes_eq text (codes "-")
 abbrev pub is_standard_stream : Text → List Row → Bool
 is_standard_stream id rows = names_stream (first_of id rows)
 
--- an image is to be changed in its place
+-- an image is to be changed in place
 abbrev pub changes_image : List Row → Bool
 changes_image rows = is_given (codes "put") rows || (is_given (codes "remove") rows || is_given (codes "mkdir") rows)
 
--- an option is given that the image's superblock decides
+-- an option is given for something that the image's superblock decides
 abbrev pub gives_decided : List Row → Bool
 gives_decided rows =
     (is_given (codes "block") rows || is_given (codes "board") rows)
     || ((is_given (codes "name-max") rows || is_given (codes "file-max") rows)
     || (is_given (codes "attr-max") rows || flag_in_rows (codes "also-2.1") rows))
 
--- why `--auto` has no meaning where it is given
+-- the misuse of `--auto`, if there is one
 abbrev pub misused_auto : List Row → Option Misuse
 misused_auto rows =
     if flag_in_rows (codes "auto") rows then
     (if is_given (codes "create") rows then Some misuse.Auto else (if gives_decided rows then Some misuse.Decided else None))
     else None
 
--- the first option of those for sizes, times, pairs and files that has no meaning where it is given
+-- the first misused option of those for sizes, times, pairs and files
 abbrev pub misused_extra : List Row → Option Misuse
 misused_extra rows =
     if not (is_given (codes "create") rows) && is_option_auto (codes "size") rows then Some misuse.Size else
@@ -62,7 +62,7 @@ misused_extra rows =
     (if is_given (codes "pair-cycles") rows && not (changes_image rows) then Some misuse.Cycles else
     (if is_standard_stream (codes "put") rows && is_standard_stream (codes "image") rows then Some misuse.Streams else misused_auto rows))))
 
--- the first option that has no meaning where it is given
+-- the first misused option
 abbrev pub misused_option : List Row → Option Misuse
 misused_option rows =
     if not (is_given (codes "create") rows)
@@ -72,7 +72,7 @@ misused_option rows =
     (if flag_in_rows (codes "json") rows && not (flag_in_rows (codes "list") rows || flag_in_rows (codes "check") rows)
     then Some misuse.Json else misused_extra rows))
 
--- where the option has a meaning
+-- the rule that the option breaks, as its error line states it
 abbrev pub misuse_rule : Misuse → List ℕ
 misuse_rule misuse.Folder = codes "--exclude, --follow-links and --skip-links are for -c"
 misuse_rule misuse.Links = codes "give one of --follow-links and --skip-links"

@@ -1,4 +1,4 @@
--- What an accepted image has.
+-- The summary of an accepted image.
 use Rattle.std.specs.Prelude.{ℕ, ◌≡◌, ◌≢◌, ◌+◌, ◌/◌, ◌==◌, ◌||◌, if◌then◌else◌, nat_lt, min, not, Bool, true, false, List, Option, None, Some, length, count_by, option_map}
 use Rattle.lfs_model.specs.format.Disk.{ordered_disk, Disk, block_count, default_profile}
 use Rattle.lfs_model.specs.layers.Listing.{PathNode, IsWalk}
@@ -40,19 +40,19 @@ is_file_item i = is_file_struct (owned_view i.structure)
 
 -- ---- an accepted image
 
--- the global state has an operation to end
+-- the global state has an operation to complete
 abbrev pub gstate_needs_recovery : Gstate → Bool
 gstate_needs_recovery g = g.sync || not (g.kind == no_move_kind)
 
--- by the default profile nothing is told of the superblock, and by any other one that with which the root directory begins
+-- by the default profile no superblock is reported, and by any other one that at the beginning of the root directory
 abbrev pub IsSuperblockTold : Profile → List Pair → Option Superblock → Type 0
 IsSuperblockTold profile ps told = (profile ≡ default_profile → told ≡ None) × (profile ≢ default_profile → option_map superblock_view told ≡ image_fields ps)
 
--- the profile's own limit of a file that is inline, where it is less than that of the blocks
+-- the profile's own limit of inline files, if it is less than that of the blocks
 abbrev pub lesser_inline_max : Profile → ℕ → Option ℕ
 lesser_inline_max profile block_size = if nat_lt profile.inline_max (min (block_size / 8) data_limit) then Some profile.inline_max else None
 
--- what the image of these pairs has: all entries beneath its root are files or directories
+-- the summary of the image of these pairs: all entries beneath its root are files or directories
 pub record HasSummary (disk : Disk) (ps : List Pair) (c : ImageSummary) : Type 0 where
   pub entries : List PathNode
   pub walk : IsWalk (disk_tree disk ps) entries

@@ -1,4 +1,4 @@
--- The limits that options give, and their rules.
+-- The limits that options set, and their rules.
 use Rattle.std.specs.Prelude.{◌/◌, ◌&&◌, if◌then◌else◌, nat_le, min, ℕ, List, Bool, true, Option, Some, None, codes}
 use Rattle.lfs_model.specs.format.Disk.{attribute_limit, size_limit}
 use Rattle.lfs_model.specs.format.Names.{name_limit}
@@ -8,12 +8,12 @@ use Rattle.lfs_tool.specs.Values.{number_in_rows}
 use Rattle.lfs_tool.specs.declared.limits.Limit.{Limit}
 use Rattle.lfs_tool.specs.declared.limits.Limit.TheVariants as limit
 
--- the number is from 1 to the most, where one is given
+-- the number is from 1 to `most`, or isn't given
 abbrev pub is_limit_within : ℕ → Option ℕ → Bool
 is_limit_within most None = true
 is_limit_within most (Some n) = nat_le 1 n && nat_le n most
 
--- the first limit that breaks its rule, with blocks of this size
+-- the first limit that breaks its rule, with blocks of this size in bytes
 abbrev pub first_broken_limit : ℕ → List Row → Option Limit
 first_broken_limit block_size rows =
     if is_limit_within name_limit (number_in_rows (codes "name-max") rows) then
@@ -22,7 +22,7 @@ first_broken_limit block_size rows =
     (if is_limit_within (min (block_size / 8) data_limit) (number_in_rows (codes "inline-max") rows) then None
     else Some limit.Inline) else Some limit.Attr) else Some limit.File) else Some limit.Name
 
--- what the limit's rule says
+-- the text of the limit's rule
 abbrev pub limit_rule : Limit → List ℕ
 limit_rule limit.Name = codes "--name-max is from 1 to 255"
 limit_rule limit.File = codes "--file-max is from 1 to 2147483647"

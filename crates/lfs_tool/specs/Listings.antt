@@ -1,4 +1,4 @@
--- What a list returns.
+-- The results of a list.
 use Rattle.std.specs.Prelude.{ℕ, ◌≡◌, false, List, ◌++◌, Option, Some, None, codes}
 use Rattle.std.specs.List.{flat_map}
 use Rattle.std.specs.Fmt.{decimal}
@@ -15,7 +15,7 @@ use Rattle.lfs_device.specs.declared.error.Error.TheVariants.{Invalid, Corrupt, 
 use Rattle.lfs_tool.specs.EitherOrder.{IsImageView}
 use Rattle.lfs_lookup.specs.ListAt.{listed_struct_size}
 
--- the bytes are an image that this text lists
+-- the bytes are an image, and this text is its listing
 abbrev pub IsImageListing : ImageLayout → List ℕ → List ℕ → Type 0
 IsImageListing layout image text = IsWholeImage layout.block_size layout.page image × ((view : DiskView) × (IsImageView layout image view × IsListing view.tree text))
 
@@ -23,7 +23,7 @@ IsImageListing layout image text = IsWholeImage layout.block_size layout.page im
 abbrev pub ImageAcceptedInNeither : ImageLayout → List ℕ → Type 0
 ImageAcceptedInNeither layout image = IsWholeImage layout.block_size layout.page image × ((view : DiskView) → ¬ IsImageView layout image view)
 
--- why bytes aren't listed; memory may run out at any
+-- the reason why bytes aren't listed; memory may run out for any bytes
 abbrev pub RefusesToList : ImageLayout → List ℕ → Error → Type 0
 RefusesToList layout image Invalid = ¬ IsWholeImage layout.block_size layout.page image
 RefusesToList layout image NoMemory = Unit {0}
@@ -43,23 +43,23 @@ place_lines places = flat_map place_line places
 
 -- ---- an image that is mounted
 
--- the disk is accepted, and the text has a line for each place of its tree's walk
+-- the disk is accepted, and the text has a line for each path of its tree's walk
 abbrev pub IsDiskListing : Disk → List ℕ → Type 0
 IsDiskListing disk text = (ps : List Pair) × (IsAccepted disk ps × ((places : List PathStruct) × (AreWalkItems disk ps places × (text ≡ place_lines places))))
 
--- the bytes are an image that is accepted in an order of names, and these are the places of its tree's walk
+-- the bytes are an image that is accepted in an order of names, and these are the paths of its tree's walk
 abbrev pub IsImageWalk : ImageLayout → List ℕ → List PathStruct → Type 0
 IsImageWalk layout image places = IsWholeImage layout.block_size layout.page image × ((order : NameOrder) × ((ps : List Pair)
     × (IsAccepted (disk_of_image layout.block_size layout.page layout.profile order image) ps × AreWalkItems (disk_of_image layout.block_size layout.page layout.profile order image) ps places)))
 
--- the thread is that of the disk, accepted in the thread's order of names, and these are the places of its tree's walk
+-- the thread is that of the disk, accepted in the thread's order of names, and these are the paths of its tree's walk
 pub record IsWalkedThread (disk : Disk) (t : ThreadView) (places : List PathStruct) : Type 0 where
   pub works : t.failed ≡ false
   pub disk_is : t.kept.disk ≡ ordered_disk t.kept.disk.order disk
   pub accepted : IsAccepted (ordered_disk t.kept.disk.order disk) t.kept.pairs
   pub walked : AreWalkItems (ordered_disk t.kept.disk.order disk) t.kept.pairs places
 
--- why a disk in memory isn't mounted or walked: it isn't accepted in either order of names, or memory ran out
+-- the reason why a disk in memory isn't mounted or walked: it is accepted in neither order of names, or memory ran out
 abbrev pub IsMountError : Disk → Error → Type 0
 IsMountError disk Corrupt = (order : NameOrder) (ps : List Pair) → ¬ IsAccepted (ordered_disk order disk) ps
 IsMountError disk NoMemory = Unit {0}

@@ -1,4 +1,4 @@
--- The values of a line of words.
+-- The values in the words of a command line.
 use Rattle.std.specs.Prelude.{◌≡◌, ◌≤◌, ◌+◌, ◌∷◌, ◌||◌, ◌&&◌, if◌then◌else◌, ℕ, [], Bool, List, Option, Some, None, false, true, codes, is_some, nat_eq, not, unwrap_or, count_by}
 use Rattle.std.specs.Str.{bytes_eq}
 use Rattle.clap.specs.Words.{Kinds, Row, Text, all_of, fault_of, first_of, matches_of}
@@ -28,11 +28,11 @@ use Rattle.lfs_tool.specs.declared.line.Mode.TheVariants as mode
 use Rattle.lfs_tool.specs.declared.modes.GivenModes.{GivenModes}
 use Rattle.lfs_tool.specs.declared.modes.GivenModes.TheVariants as given
 
--- the matches that clap's definition of a simple command gives for the words
+-- the matches of the words, by clap's definition of a simple command
 unfoldable pub rows : List Text → List Row
 rows words = matches_of mklittlefs words
 
--- the error with which the words are refused: that of clap, or that of a number; empty where they are taken
+-- the error that refuses the words: that of clap, or that of a text that is no number; empty if they are accepted
 unfoldable pub faults : List Text → Kinds
 faults words = or_else (fault_of mklittlefs words) (number_errors (rows words))
 
@@ -89,13 +89,13 @@ IsModeOf rows (mode.Put file path) = given_two_texts (codes "put") rows ≡ Some
 IsModeOf rows (mode.Remove path) = first_of (codes "remove") rows ≡ Some path.now
 IsModeOf rows (mode.Mkdir path) = first_of (codes "mkdir") rows ≡ Some path.now
 
--- what is given of the modes with these flags
+-- whether none, one or several of the modes with these flags are given
 abbrev pub AreGivenModes : List Bool → List Row → GivenModes → Type 0
 AreGivenModes flags rows given.None = given_count flags ≡ 0
 AreGivenModes flags rows (given.One mode) = (given_count flags ≡ 1) × IsModeOf rows mode
 AreGivenModes flags rows given.Several = 2 ≤ given_count flags
 
--- the order of names that a text names
+-- the order of names with this name
 abbrev pub order_named : Text → Option NameOrder
 order_named text = if bytes_eq text (codes "longer-first") then Some LongerFirst else (if bytes_eq text (codes "shorter-first") then Some ShorterFirst else None)
 
@@ -106,11 +106,11 @@ order_if_present (Some text) = order_named text
 abbrev pub order_in_rows : List Row → Option NameOrder
 order_in_rows rows = order_if_present (first_of (codes "order") rows)
 
--- the order that is given is one
+-- the order that is given is one of the two
 abbrev pub HasValidOrder : List Row → Type 0
 HasValidOrder rows = is_some (order_in_rows rows) ≡ true
 
--- the board that is given
+-- the board that is given, or the default
 abbrev pub board_if_present : Option Text → Option Board
 board_if_present None = Some Unnamed
 board_if_present (Some text) = board_named text
@@ -118,18 +118,18 @@ board_if_present (Some text) = board_named text
 abbrev pub board_in_rows : List Row → Option Board
 board_in_rows rows = board_if_present (first_of (codes "board") rows)
 
--- the board that is given is one
+-- the board that is given is one of the four
 abbrev pub KnownBoard : List Row → Type 0
 KnownBoard rows = is_some (board_in_rows rows) ≡ true
 
 abbrev pub board_or_none : List Row → Board
 board_or_none rows = unwrap_or (board_in_rows rows) Unnamed
 
--- the size of a block, which is the board's where none is given
+-- the size of a block that is given, or the board's
 abbrev pub given_block_size : List Row → ℕ
 given_block_size rows = number_or (board_block_size (board_or_none rows)) (codes "block") rows
 
--- the versions that are accepted
+-- the accepted versions: 2.0 and 2.1 if `--also-2.1` is given
 abbrev pub versions_given_or : AcceptedVersions → List Row → AcceptedVersions
 versions_given_or other rows = if flag_in_rows (codes "also-2.1") rows then AlsoTwoOne else other
 
@@ -144,7 +144,7 @@ profile_given_or other rows = record other {
   pair_cycles = number_or other.pair_cycles (codes "pair-cycles") rows;
 }
 
--- the profile, which is the board's where no limit and no version is given
+-- the profile: the board's, with the limits and versions that are given
 abbrev pub given_profile : List Row → Profile
 given_profile rows = profile_given_or (board_profile (board_or_none rows)) rows
 
@@ -156,7 +156,7 @@ broken_limit rows = first_broken_limit (given_block_size rows) rows
 abbrev pub has_auto_blocks : List Row → Bool
 has_auto_blocks rows = is_option_auto (codes "block") rows || flag_in_rows (codes "auto") rows
 
--- each part of the line is the value that the words give it, or its default
+-- each part of the line is the value in the words, or its default
 pub record IsLineOf (rows : List Row) (line : Line) : Type 0 where
   pub one_mode : OneMode rows
   pub mode : IsModeOf rows line.mode
@@ -173,7 +173,7 @@ pub record IsLineOf (rows : List Row) (line : Line) : Type 0 where
   pub profile : given_profile rows ≡ line.profile
   pub image : first_of (codes "image") rows ≡ Some line.image.now
 
--- a part of a file is given, and what is behind it isn't known to stay
+-- an option for a part of a file is given, so the rest of the file might not be kept
 abbrev pub gives_part : Line → Bool
 gives_part line = not (nat_eq line.offset 0) || (line.is_auto && not line.has_own_limits)
 
@@ -184,27 +184,28 @@ makes_part_with (mode.Remove path) part = part
 makes_part_with (mode.Mkdir path) part = part
 makes_part_with other part = false
 
--- the line's mode writes an image, and a part of a file is given
+-- the line's mode writes an image, and an option for a part of a file is given
 abbrev pub makes_part : Line → Bool
 makes_part line = makes_part_with line.mode (gives_part line)
 
--- the line and what it requests beside its image
+-- the line, and its requests besides the image
 pub record IsRequestOf (rows : List Row) (request : Request) : Type 0 where
   pub line : IsLineOf rows request.line
   pub extras : AreExtrasOf rows request.extras
   pub whole : makes_part request.line ≡ false
 
--- the image is there
+-- the image is given
 abbrev pub HasImage : Found → Type 0
 HasImage f = is_some (first_value f (codes "image")) ≡ true
 
--- the parser takes the words, which name one mode, and an order and a board that are known
+-- the parser accepts the words, which name one mode, and a known order and board
 abbrev pub NamesKnownModes : List Text → Type 0
 NamesKnownModes words = ParserAccepts words × OneMode (rows words) × HasValidOrder (rows words) × KnownBoard (rows words)
 
--- The cause for which there is no line: the parser refuses the words; or it takes them and not exactly one mode is given; or an
--- order is none of the two; or a board is none of the four; or a limit breaks its rule, and none before it does;
--- or a part of a file is to be written; or an option has no meaning where it is given, and none before it. Text is UTF-8.
+-- The reason why there is no line: the parser refuses the words; or it accepts them, and not exactly one mode is given; or the
+-- order is neither of the two; or the board is none of the four; or a limit breaks its rule, and none before it does; or an
+-- option for a part of a file is given, in a mode that writes an image; or an option is misused, and none before it is. Text is
+-- UTF-8.
 abbrev pub IsLineError : List Text → LineError → Type 0
 IsLineError words (Parser e) = HasKind (faults words) e
 IsLineError words Modes = ParserAccepts words × ¬ OneMode (rows words)

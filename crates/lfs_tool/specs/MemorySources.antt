@@ -23,7 +23,7 @@ abbrev pub has_no_bytes : Option (List ℕ) → Bool
 has_no_bytes None = true
 has_no_bytes (Some bytes) = false
 
--- the path is a name directly in the folder
+-- the path is that of an entry directly in the folder
 abbrev pub is_directly_in : List ℕ → List ℕ → Bool
 is_directly_in folder path = nat_lt (length folder) (length path) && (bytes_eq (take (length folder) path) folder
     && (slice_index path (length folder) == slash_byte
@@ -32,7 +32,7 @@ is_directly_in folder path = nat_lt (length folder) (length path) && (bytes_eq (
 abbrev pub memory_entry_name : List ℕ → PathAndBytes → Name × Bool
 memory_entry_name folder e = (drop (length folder + 1) e.0, has_no_bytes e.1)
 
--- the name of the entry at a path, where it is directly in the folder
+-- the name of the entry at a path, if it is directly in the folder
 abbrev pub name_in_folder : List ℕ → PathAndBytes → List (Name × Bool)
 name_in_folder folder e = if is_directly_in folder e.0 then memory_entry_name folder e ∷ [] else []
 

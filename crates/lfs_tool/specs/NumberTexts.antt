@@ -1,4 +1,4 @@
--- Addresses and wrong numbers, as lines show them.
+-- Addresses and wrong numbers, as lines print them.
 use Rattle.std.specs.Prelude.{ℕ, ◌/◌, ◌%◌, ◌++◌, List, codes}
 use Rattle.std.specs.Fmt.{decimal}
 use Rattle.lfs_tool.specs.declared.verdict.WrongNumber.{WrongNumber}
@@ -9,7 +9,7 @@ use Rattle.lfs_tool.specs.declared.verdict.GivenSizes.{GivenSizes}
 abbrev pub pair_text : ℕ × ℕ → List ℕ
 pair_text at = codes "pair " ++ decimal at.0 ++ codes " " ++ decimal at.1
 
--- which number of a superblock is wrong
+-- the wrong number of a superblock
 abbrev pub wrong_number_text : GivenSizes → WrongNumber → List ℕ
 wrong_number_text given (stated.BlockSize n) = codes "superblock: block size " ++ decimal n ++ codes ", given " ++ decimal given.block_size
 wrong_number_text given (stated.BlockCount n) = codes "superblock: block count " ++ decimal n ++ codes ", given " ++ decimal given.blocks

@@ -1,57 +1,57 @@
--- Which number a text names: 4096, 0x1000, 4k and 1.5M name one each.
+-- The number of a text, such as 4096, 0x1000, 4k or 1.5M.
 use Rattle.std.specs.Prelude.{◌+◌, ◌-◌, ◌*◌, ◌/◌, ◌%◌, ◌^◌, ◌==◌, ◌&&◌, ◌||◌, ◌++◌, ◌∷◌, [], ℕ, Bool, List, Option, Some, None, if◌then◌else◌, nat_lt, option_map, length, take, drop, position, slice_index}
 use Rattle.std.specs.Char.{digit_value}
 
--- the number, where it has 32 bits
+-- the number, if it has 32 bits
 abbrev pub fitting_number : Option ℕ → Option ℕ
 fitting_number None = None
 fitting_number (Some n) = if nat_lt n (2 ^ 32) then Some n else None
 
--- the number that digits name behind those of n
+-- the number of these digits, behind those of n
 abbrev pub number_after : ℕ → ℕ → List ℕ → Option ℕ
 number_after radix n [] = Some n
 number_after radix n (c ∷ cs) = if nat_lt (digit_value c) radix then number_after radix (n * radix + digit_value c) cs else None
 
--- the number that digits name, one or more
+-- the number of one or more digits
 abbrev pub number_of_digits : ℕ → List ℕ → Option ℕ
 number_of_digits radix [] = None
 number_of_digits radix (c ∷ cs) = number_after radix 0 (c ∷ cs)
 
--- no number but 0 has a minus
+-- the number with a minus before it: only 0 may have one
 abbrev pub zero_or_none : Option ℕ → Option ℕ
 zero_or_none None = None
 zero_or_none (Some n) = if n == 0 then Some n else None
 
--- the number that decimal digits name, with a sign or without one
+-- the number of decimal digits, with a sign or without one
 abbrev pub decimal_number : List ℕ → Option ℕ
 decimal_number text =
     if slice_index text 0 == 43 then number_of_digits 10 (drop 1 text)
     else (if slice_index text 0 == 45 then zero_or_none (number_of_digits 10 (drop 1 text))
     else number_of_digits 10 text)
 
--- the bytes of a unit: k or K, and m or M
+-- the size in bytes of a unit: k or K, and m or M
 abbrev pub bytes_of_unit : ℕ → Option ℕ
 bytes_of_unit letter =
     if letter == 107 || letter == 75 then Some 1024
     else (if letter == 109 || letter == 77 then Some 1048576 else None)
 
--- n parts of a unit that has so many of them, where that is a whole number of bytes
+-- the bytes of n parts, of which a unit has `parts`, if they are a whole number of bytes
 abbrev pub parts_bytes : ℕ → ℕ → Option ℕ → Option ℕ
 parts_bytes unit parts None = None
 parts_bytes unit parts (Some n) = if (n * unit) % parts == 0 then Some (n * unit / parts) else None
 
--- the number of digits on both sides of a point: 1.25 of a unit is 125 of its hundred parts
+-- the number of the digits before and behind a point: 1.25 of a unit is 125 of its hundred parts
 abbrev pub fractional_number : ℕ → List ℕ → List ℕ → Option ℕ
 fractional_number unit [] fraction = None
 fractional_number unit (c ∷ cs) [] = None
 fractional_number unit (c ∷ cs) (d ∷ ds) = parts_bytes unit (10 ^ length (d ∷ ds)) (number_of_digits 10 ((c ∷ cs) ++ (d ∷ ds)))
 
--- the number that the text before a unit's letter names, with its first point at this place
+-- the number of the text before a unit's letter, whose first point is at this index
 abbrev pub number_by_point : ℕ → List ℕ → Option ℕ → Option ℕ
 number_by_point unit text None = option_map (λ n. n * unit) (number_of_digits 10 text)
 number_by_point unit text (Some i) = fractional_number unit (take i text) (drop (i + 1) text)
 
--- the number that a text names whose last letter is that of this unit, or of none
+-- the number of a text whose last letter is that of this unit, or of none
 abbrev pub number_by_unit : List ℕ → Option ℕ → Option ℕ
 number_by_unit text None = decimal_number text
 number_by_unit text (Some unit) = let front = take (length text - 1) text in number_by_point unit front (position (λ c. c == 46) front)
@@ -60,7 +60,7 @@ number_by_unit text (Some unit) = let front = take (length text - 1) text in num
 abbrev pub is_hex : List ℕ → Bool
 is_hex text = slice_index text 0 == 48 && (slice_index text 1 == 120 || slice_index text 1 == 88)
 
--- the number that a text names
+-- the number of a text
 unfoldable pub number_in_text : List ℕ → Option ℕ
 number_in_text text =
     if is_hex text then number_of_digits 16 (drop 2 text)

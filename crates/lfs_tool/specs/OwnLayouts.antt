@@ -1,4 +1,4 @@
--- The layout of an image as its own superblock gives it.
+-- The layout of an image, by its own superblock.
 use Rattle.std.specs.Prelude.{◌≡◌, ◌*◌, ◌/◌, ℕ, List, min}
 use Rattle.lfs_device.specs.declared.error.Error.{Error}
 use Rattle.lfs_device.specs.declared.error.Error.TheVariants as error
@@ -29,19 +29,19 @@ own_profile profile s = record (profile_with_limits (superblock_view s) profile)
 abbrev pub own_sizes : OwnLayout → Sizes
 own_sizes own = record { size = own.size; block_size = own.layout.block_size; page = own.layout.page }
 
--- the layout that `--auto` takes from this superblock
+-- the layout of `--auto`, by this superblock
 abbrev pub whole_own_layout : ImageLayout → Superblock → OwnLayout
 whole_own_layout layout s = own_layout (record layout { profile = own_profile layout.profile s }) s
 
--- the layout has the blocks of the superblock with which the image begins
+-- the layout has the blocks of the image's first superblock
 abbrev pub HasOwnBlocks : List ℕ → ImageLayout → OwnLayout → Type 0
 HasOwnBlocks head layout own = (s : Superblock) × (IsFirstSuperblock head s × (own ≡ own_layout layout s))
 
--- the layout is that of the superblock with which the image begins, and there are images of its sizes
+-- the layout is that of the image's first superblock, and there are images of its sizes
 abbrev pub IsOwnLayout : List ℕ → ImageLayout → OwnLayout → Type 0
 IsOwnLayout head layout own = (s : Superblock) × (IsFirstSuperblock head s × (own ≡ whole_own_layout layout s) × AreImageSizes (own_sizes own))
 
--- block 0 begins with no superblock; or the sizes in the one with which the image begins break a rule
+-- block 0 doesn't begin with a superblock; or the sizes in the image's first superblock break a rule
 abbrev pub IsOwnLayoutError : List ℕ → ImageLayout → Error → Type 0
 IsOwnLayoutError head layout error.Corrupt = (fields : SuperblockFields) → ¬ IsSuperblockAt head 0 fields
 IsOwnLayoutError head layout error.Invalid =

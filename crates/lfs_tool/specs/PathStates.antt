@@ -1,4 +1,4 @@
--- What stands at a path, by what the system says of it.
+-- The kind of file at a path, by the system's metadata.
 use Rattle.std.specs.Prelude.{◌≡◌, ◌≢◌, Result, Ok, Err}
 use Rattle.std.specs.Fs.{IsFile, file_type, metadata_mode, permissions_mode}
 use Rattle.std.specs.IoError.{error_kind}
@@ -8,7 +8,7 @@ use Rattle.std.specs.declared.io.ErrorKind.TheVariants.{NotFound}
 use Rattle.lfs_tool.specs.declared.path_state.PathState.{PathState}
 use Rattle.lfs_tool.specs.declared.path_state.PathState.TheVariants.{File, Nothing, Other}
 
--- a file is told with its permissions; nothing, only where the system says so
+-- a file has its permissions; there is nothing only if the system says so
 abbrev pub IsPathState : Result Metadata Error → PathState → Type 0
 IsPathState (Ok there) Nothing = ⊥
 IsPathState (Ok there) (File permissions) = IsFile (file_type there) × (permissions_mode permissions ≡ metadata_mode there)

@@ -1,4 +1,4 @@
--- The rules for the sizes of an image, and the lines that say which is broken.
+-- The rules for the sizes of an image, and the lines of broken ones.
 use Rattle.std.specs.Prelude.{◌≡◌, ◌<◌, ◌≢◌, ◌⊎◌, ◌*◌, ◌/◌, ◌%◌, ◌++◌, ℕ, [], List, false, codes}
 use Rattle.std.specs.Fmt.{decimal}
 use Rattle.lfs_model.specs.format.Geometry.{IsValidGeometry, is_page}
@@ -17,7 +17,7 @@ BreaksSizeRule s rule.ImageSize = 268435456 < s.size
 BreaksSizeRule s rule.WholeBlocks = s.size % s.block_size ≢ 0
 BreaksSizeRule s rule.BlockCount = (s.size / s.block_size < 2) ⊎ (65536 < s.size / s.block_size)
 
--- the rule's place among the rules
+-- the index of the rule among the rules
 abbrev pub rule_index : SizeRule → ℕ
 rule_index rule.PageSize = 0
 rule_index rule.BlockSize = 1
@@ -27,7 +27,7 @@ rule_index rule.ImageSize = 4
 rule_index rule.WholeBlocks = 5
 rule_index rule.BlockCount = 6
 
--- the sizes break no rule before this place
+-- the sizes break no rule before this index
 abbrev pub BreaksNoneBefore : Sizes → ℕ → Type 0
 BreaksNoneBefore s place = (rule : SizeRule) → rule_index rule < place → ¬ BreaksSizeRule s rule
 
@@ -52,7 +52,7 @@ sizes_text s rule.ImageSize = []
 sizes_text s rule.WholeBlocks = number_text (codes "size ") s.size ++ number_text (codes ", block ") s.block_size
 sizes_text s rule.BlockCount = number_text (codes "size ") s.size ++ number_text (codes ", block ") s.block_size
 
--- what the rule says
+-- the text of the rule
 abbrev pub rule_words : SizeRule → List ℕ
 rule_words rule.PageSize = codes ": a page has 8, 16, 32, 64, 128, 256 or 512 bytes" ++ newline
 rule_words rule.BlockSize = codes ": a block has from 1024 to 65536 bytes" ++ newline

@@ -5,7 +5,7 @@ use Rattle.lfs_tool.specs.declared.source.SourceKind.{SourceKind}
 use Rattle.lfs_tool.specs.declared.source.SourceKind.TheVariants.{File, Folder}
 use Rattle.lfs_tool.specs.declared.source.ListedName.{ListedName}
 
--- a known tree stays
+-- a tree that is known is unchanged
 abbrev pub IsUnchanged : {X : Type 0} → Option X → Option X → Type 0
 IsUnchanged None new = Unit {0}
 IsUnchanged (Some x) None = ⊥

@@ -1,9 +1,9 @@
--- Names beside a path.
+-- Names of temporary files beside a path.
 use Rattle.std.specs.Prelude.{ℕ, ◌≡◌, ◌++◌, List, codes}
 use Rattle.std.specs.Fmt.{decimal}
 use Rattle.std.specs.Path.{path_with_file_name}
 
--- what each of these names begins with, in the folder of a path
+-- the beginning of each of these names, in the folder of a path
 abbrev pub temporary_prefix : List ℕ → List ℕ
 temporary_prefix path = path_with_file_name path (codes ".mklittlefs-")
 

@@ -5,7 +5,7 @@ use Rattle.clap.specs.Words.{Kinds, Row, Text, first_of, one_of}
 use Rattle.clap.specs.declared.error.ErrorKind.TheVariants.{ValueValidation}
 use Rattle.lfs_tool.specs.Numbers.{number_in_text, fitting_number}
 
--- the number of a text that is given
+-- the number of a text, if it is given
 abbrev pub given_number : Option Text → Option ℕ
 given_number None = None
 given_number (Some text) = fitting_number (number_in_text text)
@@ -13,49 +13,49 @@ given_number (Some text) = fitting_number (number_in_text text)
 abbrev pub number_in_rows : Text → List Row → Option ℕ
 number_in_rows id rows = given_number (first_of id rows)
 
--- the text that is given, where it names no number
+-- the text that is given, if it is no number
 abbrev pub bad_given_text : Option Text → Option Text
 bad_given_text None = None
 bad_given_text (Some text) = if is_some (fitting_number (number_in_text text)) then None else Some text
 
--- the text of an option that takes a number, where it names none
+-- the text of an option that has to be a number, if it isn't one
 abbrev pub bad_option_number : Text → List Row → Option Text
 bad_option_number id rows = bad_given_text (first_of id rows)
 
--- the first text, where there is one
+-- the first of two texts, if it is given, else the second
 abbrev pub first_text : Option Text → Option Text → Option Text
 first_text None next = next
 first_text (Some text) next = Some text
 
--- the first option's text that names no number
+-- the first option's text that is no number
 abbrev pub first_bad_number : List Text → List Row → Option Text
 first_bad_number [] rows = None
 first_bad_number (id ∷ ids) rows = first_text (bad_option_number id rows) (first_bad_number ids rows)
 
--- the text says that the number is found elsewhere
+-- the text is `auto`
 abbrev pub says_auto : Option Text → Bool
 says_auto None = false
 says_auto (Some text) = bytes_eq text (codes "auto")
 
--- the number of an option is found elsewhere: in the superblock, or by what the folder has
+-- the option is `auto`: its number is that of the superblock, or the least that suffices for the folder
 abbrev pub is_option_auto : Text → List Row → Bool
 is_option_auto id rows = says_auto (first_of id rows)
 
--- the text of an option that takes a number or `auto`, where it is neither
+-- the text of an option that has to be a number or `auto`, if it is neither
 abbrev pub bad_option_size : Text → List Row → Option Text
 bad_option_size id rows = if is_option_auto id rows then None else bad_option_number id rows
 
--- the options that take a number alone, behind those for sizes
+-- the options whose text has to be a number, behind those for sizes
 abbrev pub other_numbers : List Text
 other_numbers = codes "offset" ∷ codes "name-max" ∷ codes "file-max" ∷ codes "attr-max" ∷ codes "inline-max" ∷ codes "pair-cycles" ∷ codes "spare" ∷ []
 
--- the first option's text that names no number, where it takes one
+-- the first option's text that has to be a number and is none
 abbrev pub first_bad_text : List Row → Option Text
 first_bad_text rows = first_text (bad_option_size (codes "block") rows)
     (first_text (bad_option_number (codes "page") rows)
     (first_text (bad_option_size (codes "size") rows) (first_bad_number other_numbers rows)))
 
--- the error of a text that names no number; empty where each names one
+-- the error of a text that is no number; empty if there is no such text
 abbrev pub number_errors : List Row → Kinds
 number_errors rows = if is_some (first_bad_text rows) then ValueValidation ∷ [] else []
 
@@ -68,6 +68,6 @@ is_true (Some text) = bytes_eq text (codes "true")
 abbrev pub flag_in_rows : Text → List Row → Bool
 flag_in_rows id rows = is_true (one_of id rows)
 
--- the number of an option, or this one where none is given
+-- the number of an option, or `other` if it isn't given
 abbrev pub number_or : ℕ → Text → List Row → ℕ
 number_or other id rows = unwrap_or (number_in_rows id rows) other

@@ -1,4 +1,4 @@
--- What a verdict means for a disk.
+-- The meaning of a verdict on a disk.
 use Rattle.std.specs.Prelude.{ℕ, ◌≡◌, false, List}
 use Rattle.lfs_model.specs.format.Disk.{ordered_disk, Disk}
 use Rattle.lfs_model.specs.format.Thread.{Pair, count_before_root}
@@ -16,7 +16,7 @@ use Rattle.lfs_tool.specs.declared.verdict.ImageSummary.{ImageSummary}
 use Rattle.lfs_tool.specs.declared.verdict.ImageVerdict.{ImageVerdict}
 use Rattle.lfs_tool.specs.declared.verdict.ImageVerdict.TheVariants as verdict
 
--- the disk is accepted in these orders of names, and has that
+-- the disk is accepted in these orders of names, with this summary
 pub record IsSummarized (disk : Disk) (summary : ImageSummary) (orders : AcceptedOrders) : Type 0 where
   pub order : NameOrder
   pub pairs : List Pair
@@ -24,7 +24,8 @@ pub record IsSummarized (disk : Disk) (summary : ImageSummary) (orders : Accepte
   pub has : HasSummary (ordered_disk order disk) pairs summary
   pub fits : HasAcceptedOrders disk orders
 
--- The thread of an image that is accepted in these orders of names, one of which is `order`. Its root begins with that pair.
+-- The thread of an image that is accepted in the orders of names `orders`, of which `order` is one. Its root begins at the pair
+-- of index `root`.
 pub record IsAcceptedThread (t : ThreadView) (root : ℕ) (order : NameOrder) (orders : AcceptedOrders) : Type 0 where
   pub works : t.failed ≡ false
   pub accepted : IsAccepted (ordered_disk order t.kept.disk) t.kept.pairs
@@ -40,7 +41,7 @@ IsAcceptedInNeither disk = (order : NameOrder) (ps : List Pair) → ¬ IsAccepte
 abbrev pub BreaksInSomeOrder : Disk → Violation → Type 0
 BreaksInSomeOrder disk violation = (order : NameOrder) × Breaks (ordered_disk order disk) violation
 
--- accepted, and with what; or refused, and the rule that is broken there
+-- accepted, with its summary; or refused, with a rule that it breaks
 abbrev pub IsDiskVerdict : Disk → ImageVerdict → Type 0
 IsDiskVerdict disk (verdict.Accepted summary orders) = IsSummarized disk summary orders
 IsDiskVerdict disk (verdict.Refused rule) = IsAcceptedInNeither disk × BreaksInSomeOrder disk rule.violation

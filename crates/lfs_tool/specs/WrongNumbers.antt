@@ -1,4 +1,4 @@
--- The numbers of a superblock by its place in an image's bytes, whatever the image's blocks hold.
+-- The numbers of a superblock by its offset in an image's bytes, whatever the image's blocks contain.
 use Rattle.std.specs.Prelude.{false, true, ℕ, ◌≡◌, ◌≢◌, ◌⊎◌, ◌+◌, ◌/◌, ◌<◌, ◌≤◌, ◌++◌, List, bit_xor, length, slice_range}
 use Rattle.byteorder.specs.Endian.{big_bytes}
 use Rattle.lfs_model.specs.declared.limits.AcceptedVersions.{AcceptedVersions}
@@ -10,13 +10,13 @@ use Rattle.lfs_tag.specs.declared.fields.Superblock.{Superblock}
 use Rattle.lfs_tool.specs.declared.verdict.WrongNumber.{WrongNumber}
 use Rattle.lfs_tool.specs.declared.verdict.WrongNumber.TheVariants as stated
 
--- the fields give something else than blocks of that size, so many of them, and one of these versions
+-- the field has this value, which is another size or number of blocks, or a version that isn't accepted
 abbrev pub IsWrongField : ℕ → ℕ → AcceptedVersions → SuperblockFields → WrongNumber → Type 0
 IsWrongField block_size count versions fields (stated.BlockSize n) = (fields.block_size ≡ n) × (n ≢ block_size)
 IsWrongField block_size count versions fields (stated.BlockCount n) = (fields.block_count ≡ n) × (n ≢ count)
 IsWrongField block_size count versions fields (stated.Version n) = (fields.version ≡ n) × (accepts_version versions n ≡ false)
 
--- the fields give blocks of that size, so many of them, and one of these versions
+-- the fields are blocks of that size, so many of them, and an accepted version
 pub record AreFieldsRight (block_size count : ℕ) (versions : AcceptedVersions) (fields : SuperblockFields) : Type 0 where
   pub same_size : fields.block_size ≡ block_size
   pub same_count : fields.block_count ≡ count
@@ -26,21 +26,21 @@ pub record AreFieldsRight (block_size count : ℕ) (versions : AcceptedVersions)
 abbrev pub superblock_struct_tag : ℕ
 superblock_struct_tag = make_tag inline_type 0 24
 
--- how the superblock's name is stored as the first entry of a log, and then the tag of its struct
+-- the stored bytes of the superblock's name, as the first entry of a log, and of the tag of its struct behind it
 abbrev pub superblock_name_entry : List ℕ
 superblock_name_entry = big_bytes 4 (bit_xor superblock_entry.tag 0xffffffff) ++ superblock_entry.bytes ++ big_bytes 4 (bit_xor superblock_struct_tag superblock_entry.tag)
 
--- A block that begins there begins with a superblock: behind the revision stand its name and its struct.
+-- A block at that offset begins with a superblock: its name and its struct are behind the revision.
 pub record IsSuperblockAt (bytes : List ℕ) (from : ℕ) (fields : SuperblockFields) : Type 0 where
   pub inside : from + 44 ≤ length bytes
   pub tags : slice_range bytes (from + 4) (from + 20) ≡ superblock_name_entry
   pub struct : superblock_fields (slice_range bytes (from + 20) (from + 44)) ≡ fields
 
--- block 0 begins with that superblock, or block 1, with blocks of its size
+-- block 0 begins with that superblock, or block 1 if blocks have the size that it states
 abbrev pub IsFirstSuperblock : List ℕ → Superblock → Type 0
 IsFirstSuperblock bytes s = (from : ℕ) × (((from ≡ 0) ⊎ (from ≡ s.block_size)) × IsSuperblockAt bytes from (superblock_view s))
 
--- a number in the superblock of block 0 or 1 is wrong for these bytes, in blocks of that size
+-- a number in the superblock of block 0 or 1 is wrong for these bytes, with blocks of that size
 pub record IsSuperblockWrong (bytes : List ℕ) (block_size : ℕ) (versions : AcceptedVersions) (stated : WrongNumber) : Type 0 where
   pub sized : 0 < block_size
   pub from : ℕ

@@ -1,14 +1,14 @@
-// The numbers of boards and of firmware.
+// The sizes and limits of boards and of firmware.
 
 ghost use Rattle.std.specs.Prelude.{◌≡◌};
 ghost use Rattle.lfs_tool.specs.Boards.{board_block_size, board_named, board_profile, profile_of_firmware};
 
 use lfs_model::{AcceptedVersions, Profile};
 
-/// A board, or firmware, whose numbers hold where an option doesn't give another one.
+/// A board or a firmware, whose sizes and limits apply unless an option sets other ones.
 #[derive(Clone, Copy, Debug, PartialEq, Eq)]
 pub enum Board {
-    /// None is named: the numbers are the tool's own.
+    /// No board is named: the defaults are the tool's own.
     Unnamed,
     /// An ESP8266 with Arduino.
     Esp8266,
@@ -16,11 +16,12 @@ pub enum Board {
     Esp32,
     /// An RP2040 or RP2350 with Arduino.
     Rp2040,
-    /// Any with MicroPython.
+    /// Any board with MicroPython.
     Micropython,
 }
 
-// Returns the profile of firmware with names of so many bytes, which keeps a file inline up to so many.
+// Returns the profile of firmware with names of at most `name_max` bytes and inline files of at
+// most `inline_max` bytes.
 fn firmware_profile(name_max: u32, inline_max: u32) -> Profile
     ensures { result ≡ profile_of_firmware name_max inline_max }
 {
@@ -37,7 +38,7 @@ fn firmware_profile(name_max: u32, inline_max: u32) -> Profile
 }
 
 impl Board {
-    // Returns the board of this name.
+    // Returns the board of this name, if there is one.
     pub(crate) fn of_name(text: &str) -> Option<Board>
         ensures { result ≡ board_named text.now }
     {
@@ -64,8 +65,8 @@ impl Board {
         }
     }
 
-    // Returns the limits and the versions. The name's is LFS_NAME_MAX of the firmware, and the inline file's
-    // its cache_size.
+    // Returns the limits and the versions. The limit of names is the firmware's LFS_NAME_MAX, and
+    // that of inline files its cache_size.
     pub(crate) fn profile(self) -> Profile
         ensures { result ≡ board_profile self }
     {

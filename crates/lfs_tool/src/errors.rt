@@ -1,4 +1,4 @@
-// Errors, and the lines that show them, which are made without memory.
+// Errors, and their lines, which are written without an allocation.
 
 ghost use Rattle.std.specs.Prelude.{◌≡◌, ◌≤◌, ◌++◌, codes, false, length, true};
 ghost use Rattle.std.specs.Io.KnownBytes.{Appends};
@@ -19,7 +19,7 @@ use lfs_device::Error;
 use std::alloc::AllocError;
 use std::io::Write;
 
-/// The cause for which a call of the tool failed.
+/// The reason why a call of the tool failed.
 #[derive(Clone, Copy, Debug, PartialEq, Eq, thiserror::Error)]
 pub enum ToolError {
     /// The file system refused, or memory ran out.
@@ -33,10 +33,10 @@ pub enum ToolError {
     Output,
 }
 
-/// The cause for which a run of the program failed.
+/// The reason why a run of the program failed.
 #[derive(Debug, Drop, thiserror::Error)]
 pub enum Fault {
-    /// There is no command line.
+    /// The command line is wrong, or asks for help.
     #[error(transparent)]
     Line(LineError),
     /// A call of the tool failed.
@@ -88,7 +88,7 @@ impl ToolError {
     }
 }
 
-// A line of the tool's own.
+// The text of a line of the tool's own.
 type LineText = ArrayString<96>;
 
 fn line_of_words(words: &str) -> LineText
@@ -115,7 +115,8 @@ fn text_of_error(error: Error) -> LineText
     line
 }
 
-// Writes the line of a mistake in a command line, and returns its status. A failed write is ignored.
+// Writes the line of a mistake in a command line, and returns the exit status. A failed write is
+// ignored.
 fn write_mistake<E: Write>(err: &mut Stream<E>, rule: &str) -> u8
     requires { length rule.now ≤ 80 }
     ensures status { result ≡ 2 }
@@ -127,7 +128,7 @@ fn write_mistake<E: Write>(err: &mut Stream<E>, rule: &str) -> u8
     2
 }
 
-// Writes the line of an error. A failed write is ignored.
+// Writes the line of an error, and returns the exit status. A failed write is ignored.
 fn write_error_line<E: Write>(err: &mut Stream<E>, error: ToolError) -> u8
     ensures status { result ≡ error_status error }
     ensures beginning { AppendsBeginning (E.contents (stream_inner err.old)) (E.contents (stream_inner err.new)) (error_line_of error) }
@@ -138,18 +139,18 @@ fn write_error_line<E: Write>(err: &mut Stream<E>, error: ToolError) -> u8
     error.exit_status()
 }
 
-/// Shows the error of a run, and returns the status with which the program ends.
+/// Writes the error of a run, and returns the exit status of the program.
 ///
 /// | Status | Meaning | Text |
 /// |---|---|---|
 /// | 0 | help was asked for | the parser's text, to `out` |
 /// | 1 | the file system refused, or memory ran out | `error: <name> (<number>)`, to `err` |
-/// | 2 | there is no command line | the parser's text, or a line of the tool's own, as `error: give exactly one of -c, -u, -l`, to `err` |
+/// | 2 | the command line is wrong | the parser's text, or a line of the tool's own, such as `error: give exactly one of -c, -u, -l`, to `err` |
 /// | 3 | input or output failed | `error: input` or `error: output`, to `err` |
 ///
-/// A failed write is ignored. The writer that gets nothing isn't called. Unless its writer failed,
-/// a line of the tool's own is written whole, or the parser's text is shown. Either is flushed.
-/// No promise is made of the parser's text.
+/// A failed write is ignored. The other writer isn't called. Unless its writer failed, a line of
+/// the tool's own is written whole, or the parser's text is shown, and the writer is flushed. No
+/// promise is made of the parser's text.
 pub fn report<O: Write, E: Write>(fault: &Fault, out: &mut Stream<O>, err: &mut Stream<E>) -> u8
     ensures shown { IsFailureReported E.contents fault.now result err.old err.new }
     ensures out { is_help_request fault.now ≡ false → out.new ≡ out.old }

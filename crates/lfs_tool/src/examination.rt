@@ -1,4 +1,4 @@
-// Whether the bytes of an image are accepted, and with what, or why not.
+// Examines the bytes of an image: whether they are accepted, with a summary, or why not.
 
 ghost use Rattle.std.specs.Prelude.{◌≡◌, ◌≤◌, List, ℕ, IfErr, IfOk, None, length};
 ghost use Rattle.lfs_tool.specs.CheckResults.{AreRefusedBytes, IsCheckResult, AreGivenSizes, IsRefusalReason, IsBytesVerdict, IsWrongNumber};
@@ -12,7 +12,7 @@ use crate::verdict::{CheckResult, GivenSizes, ImageVerdict, RefusalReason, Wrong
 use lfs_device::Error;
 use std::alloc::Global;
 
-// Returns the verdict on an image. Returns None where no image has so many bytes.
+// Returns the verdict on an image. None if no image has so many bytes.
 fn judge_image(
     alloc: Global,
     image: Vec<u8>,
@@ -30,7 +30,8 @@ fn judge_image(
     }
 }
 
-// Returns the result for an image that isn't accepted. What its superblock states comes first.
+// Returns the result for an image that isn't accepted: the wrong number that its superblock states,
+// if any, or else the reason.
 fn refused_check_result(
     stated: Option<WrongNumber>,
     reason: RefusalReason,
@@ -79,12 +80,13 @@ fn result_of_bytes(alloc: Global, image: Vec<u8>, layout: ImageLayout) -> Result
     Ok(result_of_verdict(stated, verdict, given))
 }
 
-/// Returns whether an image is accepted, and with what, or why not. The result is `Accepted`
-/// exactly if a mount takes the image, in whichever order its names are. Each cause is true of
-/// its bytes. Of an image that isn't accepted, a wrong number in the superblock of block 0 or 1
-/// comes first. Then comes the rule at which a mount stops.
+/// Returns whether an image is accepted, with its summary, or why not. The result is `Accepted`
+/// exactly if a mount accepts the image, in either order of names. Each reason is true of the
+/// image's bytes. A wrong number in the superblock of block 0 or 1 is reported first, and otherwise
+/// the rule at which a mount stops.
 ///
-/// More bytes than the largest image has, 268,435,456, are no image, whatever its superblock says.
+/// More bytes than the largest image has, 268,435,456, are no image, whatever their superblock
+/// states.
 ///
 /// Errors: `NoMemory` if memory isn't granted.
 pub fn result_of_image(

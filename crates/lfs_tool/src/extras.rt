@@ -1,4 +1,4 @@
-// What a command line requests beside its image.
+// The requests of a command line besides its image.
 
 ghost use Rattle.std.specs.Prelude.{◌≡◌, IfOk};
 ghost use Rattle.clap.specs.Words.{found_of, rows_of};
@@ -8,52 +8,52 @@ use crate::values::{argument_text, flag_value, is_auto, number_given_or};
 use clap::ArgMatches;
 use std::alloc::{AllocError, Global};
 
-/// What a line requests beside its image, its sizes and its limits.
+/// The requests of a line besides its image, sizes and limits.
 #[derive(Debug, Drop)]
 pub struct Extras<'a> {
-    /// Whether the image has the fewest blocks that are enough, for `Mode::Create`.
+    /// Whether the image has as few blocks as suffice, for `Mode::Create`.
     pub is_size_auto: bool,
-    /// How many blocks it has beside these.
+    /// How many blocks are added to these.
     pub spare: u32,
     /// The patterns of the names that are left out, for `Mode::Create`.
     pub exclude: Vec<&'a str>,
-    /// Whether what symbolic links lead to is read, for `Mode::Create`.
+    /// Whether symbolic links are followed, for `Mode::Create`.
     pub follow_links: bool,
     /// Whether symbolic links are left out, for `Mode::Create`.
     pub skip_links: bool,
-    /// Whether times are kept or set, for `Mode::Create` and `Mode::Unpack`.
+    /// Whether files' times are stored, for `Mode::Create`, or restored, for `Mode::Unpack`.
     pub times: bool,
-    /// Whether lines are JSON, for `Mode::List` and `Mode::Check`.
+    /// Whether the output is JSON, for `Mode::List` and `Mode::Check`.
     pub json: bool,
 }
 
-/// An option that is given where it has no meaning.
+/// An option that has no meaning in its command line.
 #[derive(Clone, Copy, Debug, PartialEq, Eq, Drop)]
 pub enum Misuse {
-    /// What is read of a folder, without `-c`.
+    /// An option for reading a folder, without `-c`.
     Folder,
-    /// Links are to be followed and left out.
+    /// Symbolic links are to be both followed and left out.
     Links,
-    /// JSON, without lines.
+    /// JSON, with neither `-l` nor `--check`.
     Json,
-    /// A size that is enough, without `-c`.
+    /// The size `auto`, without `-c`.
     Size,
-    /// Blocks to spare, without such a size.
+    /// Spare blocks, without the size `auto`.
     Spare,
     /// Times, with neither `-c` nor `-u`.
     Times,
-    /// Pairs that move, without a change of an image.
+    /// Pair cycles, with none of `--put`, `--remove` and `--mkdir`.
     Cycles,
     /// A file and an image that are both standard input.
     Streams,
-    /// What the image decides, of an image that is made.
+    /// `--auto`, with `-c`.
     Auto,
-    /// What the image decides, and what it would decide.
+    /// `--auto`, with an option for something that it decides.
     Decided,
 }
 
 impl Misuse {
-    /// Returns where the option has a meaning.
+    /// Returns the rule that the option breaks, as its error line states it.
     pub fn rule(self) -> &'static str
         ensures { result.now ≡ misuse_rule self }
     {
@@ -91,14 +91,14 @@ fn is_standard_stream(matches: &ArgMatches<'_>, id: &str) -> bool
     }
 }
 
-// Returns whether an image is to be changed in its place.
+// Returns whether an image is to be changed in place.
 fn changes_image(matches: &ArgMatches<'_>) -> bool
     ensures { result ≡ changes_image (rows_of (found_of matches.now)) }
 {
     is_given(matches, "put") || is_given(matches, "remove") || is_given(matches, "mkdir")
 }
 
-// Returns the first option of those for sizes, times, pairs and files that has no meaning where it is given.
+// Returns the first misused option of those for sizes, times, pairs and files.
 fn misused_extra(matches: &ArgMatches<'_>) -> Option<Misuse>
     ensures { result ≡ misused_extra (rows_of (found_of matches.now)) }
 {
@@ -122,7 +122,7 @@ fn misused_extra(matches: &ArgMatches<'_>) -> Option<Misuse>
     misused_auto(matches)
 }
 
-// Returns whether an option is given that `--auto` decides.
+// Returns whether an option is given for something that `--auto` decides.
 fn gives_decided(matches: &ArgMatches<'_>) -> bool
     ensures { result ≡ gives_decided (rows_of (found_of matches.now)) }
 {
@@ -132,7 +132,7 @@ fn gives_decided(matches: &ArgMatches<'_>) -> bool
     gives_sizes || gives_names || gives_others
 }
 
-// Returns why `--auto` has no meaning where it is given.
+// Returns the misuse of `--auto`, if there is one.
 fn misused_auto(matches: &ArgMatches<'_>) -> Option<Misuse>
     ensures { result ≡ misused_auto (rows_of (found_of matches.now)) }
 {
@@ -148,7 +148,7 @@ fn misused_auto(matches: &ArgMatches<'_>) -> Option<Misuse>
     None
 }
 
-/// Returns the first option that has no meaning where it is given.
+/// Returns the first misused option, if there is one.
 pub(crate) fn misused_option(matches: &ArgMatches<'_>) -> Option<Misuse>
     ensures { result ≡ misused_option (rows_of (found_of matches.now)) }
 {
@@ -181,7 +181,7 @@ fn patterns_of_matches<'a>(
     }
 }
 
-/// Returns what the matches request beside the image.
+/// Returns the requests of the matches besides the image.
 pub(crate) fn extras_of_matches<'a>(
     alloc: Global,
     matches: &ArgMatches<'a>,

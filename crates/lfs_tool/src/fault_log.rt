@@ -5,17 +5,17 @@ use std::cell::RefCell;
 use std::io;
 use std::io::Write;
 
-/// A fault that a file or a folder met.
+/// A fault of a file or a folder.
 #[derive(Debug, PartialEq, Eq, Drop)]
 pub struct PathFault {
     /// The path of the file or the folder.
     pub path: Vec<u8>,
-    /// What is wrong there, in the system's words or the tool's.
+    /// The description of the fault, in the system's words or the tool's.
     pub words: Vec<u8>,
 }
 
-/// Keeps the first fault that is noted, or that memory ran out where one was to be noted. No contract says
-/// what a log has.
+/// Keeps the first fault that is noted, or the fact that memory for it ran out. No contract says
+/// what a log contains.
 #[derive(Drop)]
 pub struct FaultLog {
     first: RefCell<Result<Option<PathFault>, AllocError>>,
@@ -33,19 +33,20 @@ fn path_fault_of(alloc: Global, path: &[u8], error: &io::Error) -> Result<PathFa
 }
 
 impl FaultLog {
-    /// Makes a log that has no fault yet.
+    /// Returns an empty log.
     pub fn new() -> FaultLog {
         FaultLog {
             first: RefCell::new(Ok(None)),
         }
     }
 
-    /// Notes a fault at a path, unless something is noted already. Where memory runs out it notes that.
+    /// Notes a fault at a path, unless something is noted already. If memory runs out, notes that
+    /// instead.
     pub fn note(&self, alloc: Global, path: &[u8], error: &io::Error) {
         self.note_first(path_fault_of(alloc, path, error).map(|fault| Some(fault)));
     }
 
-    /// Notes that memory ran out as a fault was to be noted, unless something is noted already.
+    /// Notes that memory for a fault ran out, unless something is noted already.
     pub fn note_lost_fault(&self) {
         self.note_first(Err(AllocError));
     }
@@ -58,10 +59,10 @@ impl FaultLog {
         }
     }
 
-    /// Returns what is noted, and forgets it.
+    /// Returns the fault that is noted, and empties the log.
     ///
     /// # Errors
-    /// Where memory ran out as the first fault was to be noted.
+    /// `AllocError` if memory ran out for the first fault.
     pub fn take(&self) -> Result<Option<PathFault>, AllocError> {
         self.first.try_replace(Ok(None)).unwrap_or(Ok(None))
     }

@@ -2,7 +2,7 @@ ghost use Rattle.std.specs.Prelude.{◌≡◌, IfOk};
 
 use std::alloc::Global;
 
-/// The cause for which a source gave nothing, or a target took nothing.
+/// The reason why a source returned nothing, or a target stored nothing.
 #[derive(Clone, Copy, Debug, PartialEq, Eq, Drop)]
 pub enum FileError {
     /// It couldn't be read or written, or a folder has bad names.

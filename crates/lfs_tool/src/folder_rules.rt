@@ -1,26 +1,27 @@
-// What of a folder is left out, and what is read of its symbolic links.
+// The names of a folder that are left out, and the treatment of its symbolic links.
 
-/// What is read of a symbolic link.
+/// The treatment of a symbolic link.
 #[derive(Clone, Copy, Debug, PartialEq, Eq)]
 pub enum Links {
-    /// Nothing: it is a fault.
+    /// It is refused, as a fault.
     Refuse,
-    /// What it leads to.
+    /// It is followed.
     Follow,
-    /// Nothing: it is left out.
+    /// It is left out.
     Skip,
 }
 
 /// The rules by which a folder is read.
 #[derive(Clone, Copy, Debug, PartialEq, Eq)]
 pub struct FolderRules<'a> {
-    /// The patterns of what is left out. `*` stands for any bytes of a name, and `?` for one character. A pattern
-    /// with `/` is matched with the path below the folder, and another one with each name.
+    /// The patterns of the names that are left out. `*` matches any bytes of a name, and `?` one
+    /// character. A pattern with `/` is matched with the path below the folder, and any other with
+    /// each name.
     pub exclude: &'a [&'a str],
     pub links: Links,
 }
 
-// Returns where the character behind this byte begins.
+// Returns the offset of the character behind this byte.
 fn next_character_start(name: &[u8], at: usize) -> usize {
     let mut end = at.saturating_add(1);
     for _ in 0..3 {
@@ -32,10 +33,11 @@ fn next_character_start(name: &[u8], at: usize) -> usize {
     end
 }
 
-// Returns whether a pattern stands for all of a name or a path.
+// Returns whether a pattern matches all of a name or a path.
 fn fits(pattern: &[u8], name: &[u8]) -> bool {
     let (mut at, mut from) = (0usize, 0usize);
-    // Where the pattern goes on behind its last star, and up to where that star stands for bytes.
+    // The offset behind the pattern's last star, and the offset in the name up to which that star
+    // matches.
     let mut star: Option<(usize, usize)> = None;
     for _ in 0..u64::MAX {
         match (pattern.get(at), name.get(from)) {
@@ -65,7 +67,7 @@ fn fits(pattern: &[u8], name: &[u8]) -> bool {
     false
 }
 
-// Returns the path of a name in a folder as a pattern has it, which begins without `/`.
+// Returns a path in a folder without its leading `/`, as patterns are written.
 fn below_folder<'a>(path: &'a [u8]) -> &'a [u8] {
     match path {
         [b'/', rest @ ..] => rest,
@@ -74,7 +76,7 @@ fn below_folder<'a>(path: &'a [u8]) -> &'a [u8] {
 }
 
 impl<'a> FolderRules<'a> {
-    /// Leaves nothing out, and refuses symbolic links.
+    /// Returns the rules that leave nothing out, and refuse symbolic links.
     pub fn new() -> FolderRules<'a> {
         FolderRules {
             exclude: &[],
@@ -82,7 +84,7 @@ impl<'a> FolderRules<'a> {
         }
     }
 
-    // Returns whether a name is left out, whose path below the folder is this.
+    // Returns whether a name is left out, by its path below the folder.
     pub(crate) fn is_left_out(self, path: &[u8], name: &[u8]) -> bool {
         for pattern in self.exclude {
             let pattern = pattern.as_bytes();

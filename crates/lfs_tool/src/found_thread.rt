@@ -13,14 +13,14 @@ use lfs_thread::gstate_xor_delta;
 use std::alloc::{AllocError, Global};
 use std::fmt;
 
-// Returns a name as a list shows it.
+// Returns a name, escaped as in a listing.
 pub(crate) fn escaped_name(alloc: Global, name: &[u8]) -> Result<String, AllocError> {
     let mut text = Vec::new(alloc);
     push_escaped_path(&mut text, name)?;
     String::from_utf8_lossy(alloc, &text)
 }
 
-// Returns the block of a pair that holds, if it has one and both are on the device.
+// Returns the active block of a pair, if it has one and both of its blocks are on the device.
 pub(crate) fn current_block(
     alloc: Global,
     device: &mut RamDevice,
@@ -45,14 +45,14 @@ pub(crate) fn current_block(
 // A slot with a name and a struct.
 #[derive(Drop)]
 pub(crate) struct FoundSlot {
-    // Its pair, as the thread names it, and its number there.
+    // The address of its pair, as the thread names it, and its number in the pair.
     pub pair: [u32; 2],
     pub number: usize,
     // The first pair of its directory.
     pub directory: [u32; 2],
     pub kind: SlotNameKind,
     pub name: Vec<u8>,
-    // The name as a list shows it.
+    // The name, escaped as in a listing.
     pub shown: String,
     pub structure: OwnedStruct,
 }
@@ -65,7 +65,7 @@ impl fmt::Display for FoundSlot {
 }
 
 impl FoundSlot {
-    // Returns the address that it leads to, if it is a directory's.
+    // Returns the address of the directory that the slot leads to, if it is a directory's.
     pub(crate) fn branch(&self) -> Option<[u32; 2]> {
         match self.structure {
             OwnedStruct::Branch(to) => Some(to),
@@ -88,7 +88,7 @@ impl fmt::Display for Neighbours<'_> {
 }
 
 impl Neighbours<'_> {
-    // Returns whether the later name comes after the earlier one.
+    // Returns whether the later name follows the earlier one in that order of names.
     pub(crate) fn names_rise(&self, order: NameOrder) -> bool {
         name_cmp(order, &self.before.name, &self.slot.name).is_lt()
     }
@@ -99,14 +99,14 @@ pub(crate) struct FoundThread {
     pub alloc: Global,
     pub geometry: Geometry,
     pub pairs: Vec<[u32; 2]>,
-    // The first pairs of its directories. That of the root comes first.
+    // The first pairs of its directories. The root's is the first.
     pub directories: Vec<[u32; 2]>,
     pub slots: Vec<FoundSlot>,
     pub state: MoveState,
 }
 
 impl FoundThread {
-    // Reads the thread of a device, up to a pair at which to stop.
+    // Reads the thread of a device, up to a pair at which to stop, or to its end.
     pub(crate) fn read(
         alloc: Global,
         device: &mut RamDevice,
@@ -139,8 +139,9 @@ impl FoundThread {
         Ok(thread)
     }
 
-    // Adds a pair. Returns whether the superblock's chain may go on behind it. The root directory begins at the
-    // last superblock of the chain (SPEC.md of littlefs, "0x0ff LFS_TYPE_SUPERBLOCK").
+    // Adds a pair. Returns whether the superblock's chain may continue behind it. The root
+    // directory begins at the last superblock of the chain (SPEC.md of littlefs, "0x0ff
+    // LFS_TYPE_SUPERBLOCK").
     fn push_pair(
         &mut self,
         pair: [u32; 2],
@@ -199,7 +200,8 @@ impl FoundThread {
         slots.find(|slot| slot.number == number && is_same_pair(slot.pair, pair))
     }
 
-    // Returns whether a slot is an entry: no superblock's, and not the one that a set move names.
+    // Returns whether a slot is an entry: neither a superblock's, nor the one that a set move
+    // names.
     pub(crate) fn is_entry(&self, slot: &FoundSlot) -> bool {
         let is_moved = self.state.kind == DELETE
             && is_same_pair(self.state.pair, slot.pair)
@@ -217,7 +219,7 @@ impl FoundThread {
             .any(|first| is_same_pair(*first, at))
     }
 
-    // Returns the first neighbours in a directory whose names don't rise.
+    // Returns the first two neighbours in a directory whose names aren't sorted in that order.
     pub(crate) fn misordered_names(
         &self,
         order: NameOrder,
@@ -239,7 +241,7 @@ impl FoundThread {
         None
     }
 
-    // Returns the entries that lead to an address, of the directories that paths lead to.
+    // Returns the entries that lead to an address, of the directories that have a path.
     pub(crate) fn entries_naming(&self, at: [u32; 2]) -> Result<Vec<&FoundSlot>, AllocError> {
         let mut leading = Vec::new(self.alloc);
         let mut reached: Vec<[u32; 2]> = Vec::new(self.alloc);

@@ -7,7 +7,7 @@ pub(crate) const VERSION: &str = "1.0.0 (littlefs on-disk version 2.0)";
 pub(crate) const ABOUT: &str =
     "Creates, unpacks, lists, checks or changes an image of a littlefs file system.";
 
-/// The line of the help that says what a command line is.
+/// The usage line of the help.
 pub(crate) const USAGE: &str =
     "mklittlefs (-c DIR | -u DIR | -l | --check | --cat PATH | --put FILE PATH | --remove PATH | --mkdir PATH) [OPTIONS] IMAGE";
 

@@ -26,17 +26,19 @@ fn is_result_accepted(checked: &CheckResult) -> bool
     }
 }
 
-/// Writes what is wrong with an image, or what is in it, as `result_of_image` finds it. Returns whether the
-/// image is accepted. Nothing is written before that is known. The writer is flushed at the end.
+/// Writes whether an image is accepted, and either its summary or the reason, as `result_of_image`
+/// finds them. Returns whether it is accepted. Writes nothing before that is known, and flushes the
+/// writer at the end.
 ///
-/// Of an accepted image the lines are `ok`, `files <n>`, `directories <n>`, `used <n> of <m> blocks`,
-/// `free <n>`, `order <order>`, `recover yes` or `recover no`, and `writable yes` or `writable no` with
-/// its reason. By another profile than that of `Profile::new`, `version 2.1` and limits that aren't littlefs's own
-/// stand behind the order. Of another image the lines are `corrupt`, and one that says why.
+/// For an accepted image the lines are `ok`, `files <n>`, `directories <n>`, `used <n> of <m>
+/// blocks`, `free <n>`, `order <order>`, `recover yes` or `recover no`, and `writable yes` or
+/// `writable no` with its reason. With another profile than that of `Profile::new`, `version 2.1`
+/// and limits that aren't littlefs's own follow the order. For any other image the lines are
+/// `corrupt`, and one with the reason.
 ///
 /// # Errors
 /// - `Fs(NoMemory)` if memory isn't granted.
-/// - `Output` if the writer failed. It has then got a beginning of the lines.
+/// - `Output` if the writer failed. It has received a beginning of the lines then.
 pub fn check<W: Write>(
     alloc: Global,
     image: Vec<u8>,
@@ -46,12 +48,12 @@ pub fn check<W: Write>(
     ensures ok { IfOk result (λ accepted.
         (checked : _) × (IsCheckResult layout image.items checked × (accepted ≡ is_accepted_result checked) × Appends (W.contents (stream_inner out.old)) (W.contents (stream_inner out.new)) (result_text checked))) }
 
-    // Where the writer fails, a beginning of the lines may be written.
+    // If the writer fails, a beginning of the lines may be written.
     ensures writer { ReportsWriterFaults out.old out.new result }
     ensures beginning { IsErrOf result ToolError.Output →
         (checked : _) × (IsCheckResult layout image.items checked × AppendsBeginning (W.contents (stream_inner out.old)) (W.contents (stream_inner out.new)) (result_text checked)) }
 
-    // When each other error comes.
+    // The causes of the other errors.
     ensures refused { (e : _) → IsErrOf result (ToolError.Fs e) → e ≡ Error.NoMemory }
     ensures never { ¬ IsErrOf result ToolError.Input }
 {

@@ -6,8 +6,9 @@ ghost use Rattle.lfs_model.specs.format.Geometry.{IsValidGeometry};
 
 use lfs_device::{Error, Geometry, Profile};
 
-/// The sizes of an image's blocks and pages in bytes, and what of the image is accepted. By the profile's limits it is also
-/// said whether the image may be changed. By another profile than that of `Profile::new` a check says its version and limits.
+/// The sizes of an image's blocks and pages in bytes, and the profile by which it is accepted. The
+/// profile's limits also decide whether the image may be changed. With another profile than that of
+/// `Profile::new`, a check reports the image's version and limits.
 #[derive(Clone, Copy, Debug, PartialEq, Eq)]
 pub struct ImageLayout {
     pub block_size: u32,
@@ -35,10 +36,10 @@ impl ImageLayout {
     }
 }
 
-/// Makes the geometry of an image of `size` bytes, with blocks and pages of these sizes in bytes.
+/// Returns the geometry of an image of `size` bytes, with blocks and pages of these sizes in bytes.
 ///
 /// # Errors
-/// `Invalid` exactly where the image isn't a whole number of blocks, or the geometry is out of range.
+/// `Invalid` exactly if the image isn't a whole number of blocks, or the geometry is out of range.
 pub fn geometry_of_sizes(size: u32, block_size: u32, page: u32) -> Result<Geometry, Error>
     ensures sizes { IfOk result (λ g. (g.block_size ≡ block_size) × (g.page ≡ page)) }
     ensures count { IfOk result (λ g. (g.block_count ≡ size / block_size) × (size % block_size ≡ 0)) }

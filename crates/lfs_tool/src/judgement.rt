@@ -1,4 +1,4 @@
-// Whether an image is accepted, and with what, or why not.
+// Judges an image: whether it is accepted, with its summary, or why not.
 
 ghost use Rattle.std.specs.Prelude.{◌≡◌, ◌⊎◌, List, IfErr, IfOk};
 ghost use Rattle.lfs_device.specs.RamDevice.{ram_blocks, ram_geometry};
@@ -19,8 +19,9 @@ use lfs_mount::{ImageFindings, MountError, read_and_check};
 use lfs_thread::Thread;
 use std::alloc::Global;
 
-// Returns the rule to tell of an image that breaks one rule with longer names first and another one with shorter
-// names first. Names in a wrong order are told only where they are in both.
+// Returns the rule to report for an image that breaks one rule with longer names first and another
+// one with shorter names first. A wrong order of names is reported only if both rules are of that
+// kind.
 fn rule_to_tell(longer: Violation, shorter: Violation) -> Violation
     ensures { (result ≡ longer) ⊎ (result ≡ shorter) }
 {
@@ -48,8 +49,8 @@ fn refuse_image(
     Ok(ImageVerdict::Refused(rule))
 }
 
-// Returns the verdict on the image of a thread that is accepted in these orders of names. `order` is
-// one of them.
+// Returns the verdict on the image of a thread that is accepted in the orders of names `orders`, of
+// which `order` is one.
 fn accept_image(
     alloc: Global,
     mut thread: Thread<RamDevice>,
@@ -69,7 +70,7 @@ fn accept_image(
     }
 }
 
-// Returns the verdict on an image that was read, by what was found.
+// Returns the verdict on an image, by the findings of the mount.
 fn judge_findings(
     alloc: Global,
     thread: Thread<RamDevice>,
@@ -109,11 +110,11 @@ fn judge_findings(
     }
 }
 
-/// Returns whether the image of a device in memory is accepted, and with what, or why not. The
-/// result is `Accepted` exactly where a mount takes the image, in whichever order its names are.
-/// Where it isn't accepted, a rule that it breaks is named.
+/// Returns whether the image of a device in memory is accepted, with its summary, or else a rule
+/// that it breaks. The verdict is `Accepted` exactly if a mount accepts the image, in either order
+/// of names.
 ///
-/// Errors: `NoMemory` where memory isn't granted.
+/// Errors: `NoMemory` if memory isn't granted.
 pub fn judge_device(alloc: Global, device: RamDevice) -> Result<ImageVerdict, Error>
     ensures verdict { IfOk result (IsDiskVerdict (disk_of_blocks (ram_geometry device) (ram_blocks device))) }
     ensures err { IfErr result (λ e. e ≡ Error.NoMemory) }

@@ -9,7 +9,7 @@ use crate::values::{flag_value, given_number, number_given_or};
 use clap::ArgMatches;
 use lfs_model::{AcceptedVersions, Profile};
 
-/// A limit that an option gives.
+/// A limit that an option sets.
 #[derive(Clone, Copy, Debug, PartialEq, Eq, Drop)]
 pub enum Limit {
     /// The longest name.
@@ -23,7 +23,7 @@ pub enum Limit {
 }
 
 impl Limit {
-    /// Returns what the limit's rule says.
+    /// Returns the text of the limit's rule.
     pub fn rule(self) -> &'static str
         ensures { result.now ≡ limit_rule self }
     {
@@ -36,7 +36,7 @@ impl Limit {
     }
 }
 
-// Returns whether a limit is from 1 to the most, where one is given.
+// Returns whether a limit is from 1 to `most`, or isn't given.
 fn is_within(limit: Option<u32>, most: u32) -> bool
     ensures { result ≡ is_limit_within most limit }
 {
@@ -46,7 +46,7 @@ fn is_within(limit: Option<u32>, most: u32) -> bool
     }
 }
 
-// Returns the first limit that breaks its rule, with blocks of this size.
+// Returns the first limit that breaks its rule, with blocks of this size in bytes.
 pub(crate) fn first_broken_limit(matches: &ArgMatches<'_>, block_size: u32) -> Option<Limit>
     ensures { result ≡ first_broken_limit block_size (rows_of (found_of matches.now)) }
 {
@@ -68,7 +68,7 @@ pub(crate) fn first_broken_limit(matches: &ArgMatches<'_>, block_size: u32) -> O
     None
 }
 
-// Returns the versions that are accepted: 2.1, too, where that is given.
+// Returns the accepted versions: 2.0 and 2.1 if `--also-2.1` is given, else `other`.
 fn versions_given_or(matches: &ArgMatches<'_>, other: AcceptedVersions) -> AcceptedVersions
     ensures { result ≡ versions_given_or other (rows_of (found_of matches.now)) }
 {
@@ -79,7 +79,7 @@ fn versions_given_or(matches: &ArgMatches<'_>, other: AcceptedVersions) -> Accep
     }
 }
 
-// Returns the profile with the limits and versions that are given.
+// Returns the profile `other`, with the limits and versions that are given.
 pub(crate) fn profile_given_or(matches: &ArgMatches<'_>, other: Profile) -> Profile
     ensures { result ≡ profile_given_or other (rows_of (found_of matches.now)) }
 {

@@ -15,24 +15,24 @@ use std::alloc::Global;
 use std::convert::AsStr;
 use thiserror::Error;
 
-/// What the program does.
+/// The task of the program.
 #[derive(Clone, Copy, Debug, PartialEq)]
 pub enum Mode<'a> {
-    /// Create the image from this folder.
+    /// Creates the image from this folder.
     Create(&'a str),
-    /// Unpack the image into this folder.
+    /// Unpacks the image into this folder.
     Unpack(&'a str),
-    /// List the image.
+    /// Lists the image.
     List,
-    /// Check the image.
+    /// Checks the image.
     Check,
-    /// Write the bytes of the file at this path in the image.
+    /// Writes the bytes of the file at this path in the image to the output.
     Cat(&'a str),
-    /// Put the bytes of this file at this path in the image.
+    /// Puts the bytes of this file at this path in the image.
     Put(&'a str, &'a str),
-    /// Remove what is at this path in the image.
+    /// Removes the file or directory at this path in the image.
     Remove(&'a str),
-    /// Make a directory at this path in the image.
+    /// Makes a directory at this path in the image.
     Mkdir(&'a str),
 }
 
@@ -42,11 +42,11 @@ pub struct Line<'a> {
     pub mode: Mode<'a>,
     /// The size of a block in bytes.
     pub block_size: u32,
-    /// Whether the size and the number of blocks are those of the superblock: `-b auto` or `--auto`.
+    /// Whether the superblock decides the size and the number of blocks: `-b auto` or `--auto`.
     pub is_auto: bool,
-    /// Whether the versions and the limits are those of the superblock too: `--auto`.
+    /// Whether the superblock decides the versions and the limits, too: `--auto`.
     pub has_own_limits: bool,
-    /// How many bytes are before the image.
+    /// The offset of the image in its file, in bytes.
     pub offset: u32,
     /// The size of a page in bytes, the unit that a device programs.
     pub page: u32,
@@ -54,22 +54,22 @@ pub struct Line<'a> {
     pub size: u32,
     /// The order of the names in the image, for `Mode::Create`.
     pub order: NameOrder,
-    /// Whether each error is explained by further lines: `--explain`.
+    /// Whether further lines explain each error: `--explain`.
     pub explain: bool,
-    /// What is accepted of the image, and the limits of the one to be made.
+    /// The versions and limits by which the image is accepted or created.
     pub profile: Profile,
     /// The path of the image.
     pub image: &'a str,
 }
 
-/// A line, and what it requests beside its image.
+/// A line, and its requests besides the image.
 #[derive(Debug, Drop)]
 pub struct Request<'a> {
     pub line: Line<'a>,
     pub extras: Extras<'a>,
 }
 
-// What of a line is one of several names.
+// The options of a line whose value is one of several names.
 #[derive(Clone, Copy)]
 struct Choices<'a> {
     mode: Mode<'a>,
@@ -77,11 +77,11 @@ struct Choices<'a> {
     board: Board,
 }
 
-/// The cause for which there is no command line.
+/// The reason why the words are no command line.
 #[derive(Debug, Drop, Error)]
 pub enum LineError {
-    /// The parser's own error, which also comes of a number that is none, with a request for help, and where memory
-    /// isn't granted.
+    /// The parser's own error. It is also returned for a text that is no number, for a request for
+    /// help, and if memory isn't granted.
     #[error(transparent)]
     Parser(clap::Error),
     /// None of the modes is given, or more than one is.
@@ -90,7 +90,7 @@ pub enum LineError {
     /// The order of names is neither `longer-first` nor `shorter-first`.
     #[error("error: --order is longer-first or shorter-first")]
     Order,
-    /// The board has another name than the four.
+    /// The board's name isn't one of the four.
     #[error("error: --board is esp8266, esp32, rp2040 or micropython")]
     Board,
     /// A limit is 0, or larger than it may be.
@@ -99,15 +99,15 @@ pub enum LineError {
     /// An option has no meaning with the mode.
     #[error("error: {}", .0.rule())]
     Misuse(Misuse),
-    /// An image is to be written, and a part of a file is given.
+    /// An option for a part of a file is given, in a mode that writes an image.
     #[error("error: -b auto and --offset are for -l, -u, --check and --cat")]
     Part,
-    /// A word isn't UTF-8. `read_line` doesn't return this, since its words are text.
+    /// A word isn't UTF-8. `read_line` never returns this, since its words are text.
     #[error("error: the command line is not UTF-8")]
     NotUtf8,
 }
 
-// Returns the order that a text names.
+// Returns the order of this name, if there is one.
 fn order_of_text(text: &str) -> Option<NameOrder>
     ensures { result ≡ order_named text.now }
 {
@@ -120,7 +120,7 @@ fn order_of_text(text: &str) -> Option<NameOrder>
     }
 }
 
-// Returns the order that is given, or the default.
+// Returns the order that is given, or the default. None if there is no order of the given name.
 fn order_of_matches(matches: &ArgMatches<'_>) -> Option<NameOrder>
     ensures { result ≡ order_in_rows (rows_of (found_of matches.now)) }
 {
@@ -130,7 +130,7 @@ fn order_of_matches(matches: &ArgMatches<'_>) -> Option<NameOrder>
     }
 }
 
-// Returns the board that is given, or none.
+// Returns the board that is given, or `Unnamed`. None if there is no board of the given name.
 fn board_of_matches(matches: &ArgMatches<'_>) -> Option<Board>
     ensures { result ≡ board_in_rows (rows_of (found_of matches.now)) }
 {
@@ -140,7 +140,7 @@ fn board_of_matches(matches: &ArgMatches<'_>) -> Option<Board>
     }
 }
 
-// Returns the choices of the matches, or the first one that is wrong.
+// Returns the choices of the matches, or the error of the first one that is wrong.
 fn choices_of_matches<'a>(matches: &ArgMatches<'a>) -> Result<Choices<'a>, LineError>
     ensures ok { IfOk result (AreChoicesOf (rows_of (found_of matches.now))) }
     ensures err { (words : List Text) → ParserAccepts words → rows_of (found_of matches.now) ≡ rows words → IfErr result (IsLineError words) }
@@ -157,7 +157,7 @@ fn choices_of_matches<'a>(matches: &ArgMatches<'a>) -> Result<Choices<'a>, LineE
     }
 }
 
-// Returns whether a line's mode writes an image, and a part of a file is given.
+// Returns whether a line's mode writes an image, and an option for a part of a file is given.
 fn makes_part(line: &Line<'_>) -> bool
     ensures { result ≡ makes_part line.now }
 {
@@ -203,18 +203,20 @@ fn line_of_matches<'a>(matches: &ArgMatches<'a>, choices: Choices<'a>) -> Result
     })
 }
 
-/// Reads the words of a command line, the program's name first. `--help` and docs/TOOL.md have the options.
+/// Reads the words of a command line. The first is the program's name. `--help` and docs/TOOL.md
+/// list the options.
 ///
-/// An option that isn't given has its default: blocks of 4096 bytes, pages of 256, an image of 65536, the longer names
-/// first, and the format's own limits. A board replaces the block size, the limits and the versions among these.
-/// ORDER and the limits are read in each mode.
+/// An option that isn't given has its default: blocks of 4096 bytes, pages of 256, an image of
+/// 65536, the longer names first, and the format's own limits. A board sets the block size, the
+/// limits and the versions among these. The order and the limits are checked in each mode.
 ///
 /// # Errors
-/// `LineError::Parser` if the parser refuses the words, an option has no number, the words ask for help or for the
-/// version, or memory isn't granted. Else the first of these that applies: `LineError::Modes` unless exactly one mode is
-/// given, `LineError::Order` and `LineError::Board` for a name that is none, `LineError::Limit` for a limit that is 0 or
-/// too large, `LineError::Part` for `-b auto` or an offset if the mode writes an image, `LineError::Misuse` for another
-/// option that has no meaning where it is given.
+/// `LineError::Parser` if the parser refuses the words, an option's text is no number, the words
+/// ask for help or for the version, or memory isn't granted. Otherwise the first of these that
+/// applies: `LineError::Modes` unless exactly one mode is given, `LineError::Order` and
+/// `LineError::Board` for an unknown name, `LineError::Limit` for a limit that is 0 or too large,
+/// `LineError::Part` for `-b auto` or an offset if the mode writes an image, `LineError::Misuse`
+/// for another option that has no meaning in this command line.
 pub fn read_request<'a, S: AsStr>(alloc: Global, words: &'a [S]) -> Result<Request<'a>, LineError>
     ensures ok { IfOk result (λ request. ParserAccepts (map S.text words.entry.now)
         × IsRequestOf (rows (map S.text words.entry.now)) request) }

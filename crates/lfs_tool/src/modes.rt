@@ -8,7 +8,7 @@ use crate::line::Mode;
 use crate::values::{argument_text, flag_value};
 use clap::ArgMatches;
 
-// What is given of some modes.
+// Whether none, one or several of some modes are given.
 #[derive(Clone, Copy)]
 enum GivenModes<'a> {
     None,
@@ -16,7 +16,7 @@ enum GivenModes<'a> {
     Several,
 }
 
-// Returns what is given of the modes for a whole image.
+// Returns which of the modes for a whole image are given.
 fn given_folder_modes<'a>(matches: &ArgMatches<'a>) -> GivenModes<'a>
     ensures { AreGivenModes (folder_flags (rows_of (found_of matches.now))) (rows_of (found_of matches.now)) result }
 {
@@ -34,7 +34,7 @@ fn given_folder_modes<'a>(matches: &ArgMatches<'a>) -> GivenModes<'a>
     }
 }
 
-// Returns the texts of a list of two.
+// Returns the two texts of a list, if it has exactly two.
 fn two_texts<'a>(texts: &[&'a str]) -> Option<(&'a str, &'a str)>
     ensures { option_map (λ two. (two.0.now, two.1.now)) result ≡ exactly_two_texts (Some (map (λ t. t.now) texts.now)) }
 {
@@ -45,7 +45,7 @@ fn two_texts<'a>(texts: &[&'a str]) -> Option<(&'a str, &'a str)>
     }
 }
 
-// Returns the two texts of an option.
+// Returns the two texts of an option, if it is given.
 fn pair_of_texts<'a>(matches: &ArgMatches<'a>, id: &str) -> Option<(&'a str, &'a str)>
     ensures { option_map (λ two. (two.0.now, two.1.now)) result ≡ given_two_texts id.now (rows_of (found_of matches.now)) }
 {
@@ -55,7 +55,7 @@ fn pair_of_texts<'a>(matches: &ArgMatches<'a>, id: &str) -> Option<(&'a str, &'a
     }
 }
 
-// Returns what is given of the modes for a path in an image.
+// Returns which of the modes for a path in an image are given.
 fn given_path_modes<'a>(matches: &ArgMatches<'a>) -> GivenModes<'a>
     ensures { AreGivenModes (path_flags (rows_of (found_of matches.now))) (rows_of (found_of matches.now)) result }
 {
@@ -73,7 +73,7 @@ fn given_path_modes<'a>(matches: &ArgMatches<'a>) -> GivenModes<'a>
     }
 }
 
-// Returns the mode, where exactly one is given.
+// Returns the mode, if exactly one is given.
 pub(crate) fn mode_of_matches<'a>(matches: &ArgMatches<'a>) -> Option<Mode<'a>>
     ensures { MatchOption result (¬ OneMode (rows_of (found_of matches.now)))
         (λ mode. OneMode (rows_of (found_of matches.now)) × IsModeOf (rows_of (found_of matches.now)) mode) }

@@ -11,18 +11,18 @@ use std::io::{ErrorKind, Write};
 use std::rt::Files;
 use std::{fs, io};
 
-/// The file of an image that is made. It is made at the first write, so where nothing is written an old
-/// one stays. From then on it stays the same file.
+/// The file of an image that is being made. It is created at the first write, so if nothing is
+/// written an old file stays. From then on it stays the same file.
 ///
-/// Where a file stands at the path, or nothing does, the new one is in the same folder under another name
-/// until `place` puts it at the path. Where it is dropped before, it is removed, and the old one stays. It
-/// gets the old one's permissions. Anything else at the path, as a device, a pipe or a link, is written as
-/// it is.
+/// If there is a file or nothing at the path, the new file is in the same folder under another
+/// name, until `place` moves it to the path. If it is dropped before, it is removed, and the old
+/// file stays. It has the old file's permissions. Anything else at the path, such as a device, a
+/// pipe or a link, is written directly.
 pub struct NewImage<'a, R: Files> {
     files: &'a R,
     paths: ImagePaths,
     file: Option<R::File>,
-    // Whether the file is beside its path.
+    // Whether the file is still under another name than that of its path.
     is_beside: bool,
 }
 
@@ -41,7 +41,7 @@ impl<'a, R: Files> Drop for NewImage<'a, R> {
 }
 
 impl<'a, R: Files> NewImage<'a, R> {
-    /// The file at a path. Nothing is made yet.
+    /// Returns the file for a path. Nothing is created yet.
     pub fn new(alloc: Global, files: &'a R, path: &str) -> Result<NewImage<'a, R>, AllocError>
         ensures path { IfOk result (λ i. image_path i ≡ path.now) }
         ensures file { IfOk result (λ i. i.file ≡ None) }
@@ -55,22 +55,23 @@ impl<'a, R: Files> NewImage<'a, R> {
         })
     }
 
-    /// Borrows its file, once it is made. A write of no bytes makes it, too.
+    /// Borrows the file, once it is created. A write of no bytes creates it, too.
     pub fn file(&self) -> Option<&R::File> {
         self.file.as_ref()
     }
 
-    /// Puts the image at its path. Flush it before, and place it only where each write has succeeded. Where
-    /// nothing was written an old file stays.
+    /// Moves the image to its path. Flush it first, and call this only if each write has succeeded.
+    /// If nothing was written, an old file stays.
     ///
     /// # Errors
-    /// Those of the system. The old file stays then, unless the system can't rename. The image is copied to
-    /// its path then, and that may end early, or the file beside the path may be left.
+    /// Those of the system. The old file stays then, unless the system can't rename: then the image
+    /// is copied to its path, and the copy may be incomplete, or the file with the other name may
+    /// be left.
     pub fn place(mut self) -> io::Result<()> {
         self.move_to_final()
     }
 
-    // Makes the file.
+    // Creates the file.
     fn create_own_file(&mut self) -> io::Result<()>
         ensures path { self.new.paths.path ≡ self.old.paths.path }
         ensures beside { OnOk result (self.new.is_beside ≡ true → IsNumberedPath (string_bytes self.old.paths.path) (string_bytes self.new.paths.beside)) }
@@ -82,7 +83,7 @@ impl<'a, R: Files> NewImage<'a, R> {
         Ok(())
     }
 
-    // Puts the file at its path, where it isn't there.
+    // Moves the file to its path, unless it is there.
     fn move_to_final(&mut self) -> io::Result<()>
         ensures file { (self.new.file ≡ self.old.file) × (self.new.paths ≡ self.old.paths) }
         ensures placed { OnOk result (self.new.is_beside ≡ false) }
@@ -97,7 +98,7 @@ impl<'a, R: Files> NewImage<'a, R> {
 }
 
 impl<'a, R: Files> Write for NewImage<'a, R> {
-    // What its file holds, once it is made.
+    // The contents of its file, once it is created.
     ghost contents = { λ i. option_and_then R.File.contents i.file };
 
     fn write(&mut self, buf: &[u8]) -> io::Result<usize>

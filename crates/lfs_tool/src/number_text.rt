@@ -1,4 +1,4 @@
-// Addresses and wrong numbers, as lines show them.
+// Addresses and wrong numbers, as lines print them.
 
 use crate::verdict::{GivenSizes, WrongNumber};
 use std::fmt;
@@ -19,7 +19,7 @@ impl fmt::Display for PairText {
     }
 }
 
-// A number of a superblock that is wrong, and the sizes that were given.
+// A wrong number of a superblock, and the sizes that were given.
 #[derive(Clone, Copy, Drop)]
 pub(crate) struct WrongNumberText {
     pub given: GivenSizes,
@@ -49,7 +49,7 @@ impl fmt::Display for WrongNumberText {
     }
 }
 
-// The sizes of which there is no image.
+// The given sizes, for which there is no image.
 #[derive(Clone, Copy, Drop)]
 pub(crate) struct NoImageText(pub GivenSizes);
 

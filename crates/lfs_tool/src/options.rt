@@ -1,4 +1,4 @@
-// The arguments of mklittlefs, and a parse of words by them.
+// The arguments of mklittlefs, and the parser for them.
 
 ghost use Rattle.std.specs.Prelude.{◌≡◌, IfOk, false, map};
 ghost use Rattle.clap.specs.Words.{FailsBy, app_of, fault_of, found_of, kind_of, rows_of, rule_of};
@@ -12,7 +12,7 @@ use clap::{Arg, ArgAction, ArgMatches, Command, Error};
 use std::alloc::{AllocError, Global};
 use std::convert::AsStr;
 
-// What an option takes, by the names that help has for its values.
+// The value of an option, with its name in the help.
 #[derive(Clone, Copy)]
 enum Value {
     Nothing,
@@ -20,13 +20,13 @@ enum Value {
     Each(&'static [&'static str]),
     // One in each of several uses.
     Several(&'static str),
-    // A value, and the one that holds where the option isn't given.
+    // A value, and its default if the option isn't given.
     Default(&'static str, &'static str),
-    // An argument without a name, which has to be there.
+    // A required argument without an option.
     Needed(&'static str),
 }
 
-// An option: its long name, its letter, what it takes, and its help.
+// An option: its long name, its letter, its value, and its help.
 #[derive(Clone, Copy)]
 struct OptionRow {
     name: &'static str,
@@ -79,7 +79,7 @@ const FURTHER: [OptionRow; 12] = rows![
     "times", None, Value::Nothing, "Store or set the times of files and folders, with -c and -u";
 ];
 
-// Returns the argument of a row.
+// Returns the parser's argument for a row.
 fn arg_of_row<'a>(alloc: Global, row: &OptionRow, is_common: bool) -> Arg<'a>
     ensures rule { rule_of result ≡ rule_of_row row.now }
     ensures local { result.global ≡ false }
@@ -106,7 +106,7 @@ fn arg_of_row<'a>(alloc: Global, row: &OptionRow, is_common: bool) -> Arg<'a>
     }
 }
 
-// Adds the options of a table.
+// Returns a command with the options of a table added.
 #[tactic(auto, using(crate::proofs::Table::row_added, crate::proofs::Table::rows_done))]
 fn with_options<'a>(
     alloc: Global,
@@ -123,7 +123,7 @@ fn with_options<'a>(
     Ok(command)
 }
 
-// Makes the command without its arguments, with the texts of its help.
+// Returns the command without its arguments, but with the texts of its help.
 fn bare_command<'a>(alloc: Global) -> Command<'a>
     ensures { app_of result ≡ bare_command }
 {
@@ -135,7 +135,7 @@ fn bare_command<'a>(alloc: Global) -> Command<'a>
         .after_long_help(RULES)
 }
 
-// Makes the command of mklittlefs.
+// Returns the command of mklittlefs.
 #[tactic(auto, unfolding(crate::specs::Command::mklittlefs))]
 fn mklittlefs_command<'a>(alloc: Global) -> Result<Command<'a>, AllocError>
     ensures { IfOk result (λ c. app_of c ≡ mklittlefs) }
@@ -145,7 +145,7 @@ fn mklittlefs_command<'a>(alloc: Global) -> Result<Command<'a>, AllocError>
     Ok(command)
 }
 
-// Returns the error of a text that names no number, with the option that it was given to.
+// Returns the error for a text that is no number, with the option that it was given to.
 fn number_error(alloc: Global, option: &str, text: &str) -> Result<Error, AllocError>
     ensures { IfOk result (λ e. kind_of e ≡ ErrorKind.ValueValidation) }
 {
@@ -165,7 +165,7 @@ fn clap_matches<'a, S: AsStr>(alloc: Global, words: &'a [S]) -> Result<ArgMatche
     mklittlefs_command(alloc)?.try_get_matches_from(words)
 }
 
-/// Returns the matches of the words, if each number is one.
+/// Returns the matches of the words, or an error if the text of a number is none.
 pub(crate) fn parse_words<'a, S: AsStr>(
     alloc: Global,
     words: &'a [S],

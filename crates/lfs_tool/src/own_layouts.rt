@@ -1,4 +1,4 @@
-// The layout of an image as its own superblock gives it.
+// The layout of an image, by its own superblock.
 
 ghost use Rattle.std.specs.Prelude.{◌≡◌, ◌*◌, None, IfErr, IfOk, IfSome};
 ghost use Rattle.lfs_model.specs.format.EntryTypes.{SuperblockFields};
@@ -11,10 +11,10 @@ use crate::superblocks::image_superblock_at;
 use lfs_device::{AcceptedVersions, Error, Profile};
 use lfs_tag::Superblock;
 
-/// The layout of an image that its superblock decides, and the length of the image in bytes.
+/// A layout by an image's superblock, and the length of the image in bytes.
 #[derive(Clone, Copy, Debug, PartialEq, Eq)]
 pub struct OwnLayout {
-    /// How the image is laid out, and what of it is accepted.
+    /// The sizes of blocks and pages, and the profile by which the image is accepted.
     pub layout: ImageLayout,
     /// The length of the image in bytes.
     pub size: usize,
@@ -33,7 +33,7 @@ impl OwnLayout {
     }
 }
 
-// Returns a layout with the blocks of a superblock. A page is at most an eighth of a block.
+// Returns a layout with the blocks of a superblock. The page is at most an eighth of a block.
 fn with_blocks(layout: ImageLayout, superblock: &Superblock) -> OwnLayout
     ensures { result ≡ own_layout layout superblock.now }
 {
@@ -57,8 +57,8 @@ fn with_limits(profile: Profile, superblock: &Superblock) -> Profile
     }
 }
 
-/// Returns the layout with the blocks that the superblock of an image gives, and the image's length. The bytes are those
-/// with which the image begins. Returns None if there is no superblock in block 0 or 1.
+/// Returns the layout with the blocks that an image's superblock states, and the image's length.
+/// `head` is the beginning of the image. Returns None if there is no superblock in block 0 or 1.
 pub fn layout_by_blocks(head: &[u8], layout: ImageLayout) -> Option<OwnLayout>
     ensures found { IfSome result (HasOwnBlocks head.now layout) }
     ensures none { result ≡ None → (fields : SuperblockFields) → ¬ IsSuperblockAt head.now 0 fields }
@@ -69,11 +69,12 @@ pub fn layout_by_blocks(head: &[u8], layout: ImageLayout) -> Option<OwnLayout>
     }
 }
 
-/// Returns the layout that the superblock of an image gives, with its version and its limits, and the image's length. The
-/// bytes are those with which the image begins.
+/// Returns the layout with the blocks, the version and the limits that an image's superblock
+/// states, and the image's length. `head` is the beginning of the image.
 ///
 /// # Errors
-/// `Corrupt` if there is no superblock in block 0 or 1. `Invalid` if no image has the sizes that it gives.
+/// `Corrupt` if there is no superblock in block 0 or 1. `Invalid` if no image has the sizes that it
+/// states.
 pub fn layout_by_superblock(head: &[u8], layout: ImageLayout) -> Result<OwnLayout, Error>
     ensures ok { IfOk result (IsOwnLayout head.now layout) }
     ensures err { IfErr result (IsOwnLayoutError head.now layout) }

@@ -1,4 +1,4 @@
-// What stands at a path before it is written.
+// The kind of file at a path before it is written.
 
 ghost use Rattle.lfs_tool.specs.PathStates.{IsPathState};
 
@@ -6,18 +6,19 @@ use std::fs::{Metadata, Permissions};
 use std::io;
 use std::io::ErrorKind;
 
-// What stands at a path.
+// The kind of file at a path.
 #[derive(Drop)]
 pub(crate) enum PathState {
-    // Nothing does.
+    // There is none.
     Nothing,
     // A file, with these permissions.
     File(Permissions),
-    // A device, a pipe, a link or a folder; or it isn't known.
+    // A device, a pipe, a link or a folder, or an unknown kind.
     Other,
 }
 
-// What stands at a path, by what the system says of the path itself: a link is one, wherever it leads.
+// Returns the kind of file at a path, by the system's metadata of the path itself: a link is a
+// link, whatever it leads to.
 pub(crate) fn state_of_metadata(found: io::Result<Metadata>) -> PathState
     ensures { IsPathState found result }
 {

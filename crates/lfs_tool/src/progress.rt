@@ -1,4 +1,4 @@
-// How far a work is, and the line at a terminal that says so.
+// The progress of a task, and the line at a terminal that shows it.
 
 use arrayvec::ArrayVec;
 use std::io::Write;
@@ -12,12 +12,12 @@ pub struct FilesAndBytes {
 }
 
 impl FilesAndBytes {
-    /// Returns one file of so many bytes.
+    /// Returns the count of one file of so many bytes.
     pub fn one_file(bytes: usize) -> FilesAndBytes {
         FilesAndBytes { files: 1, bytes }
     }
 
-    /// Returns both together, up to the greatest `usize`.
+    /// Returns the sum of both counts, at most the greatest `usize`.
     pub fn plus(self, more: FilesAndBytes) -> FilesAndBytes {
         FilesAndBytes {
             files: self.files.saturating_add(more.files),
@@ -26,12 +26,12 @@ impl FilesAndBytes {
     }
 }
 
-/// Is told how far the making or the unpacking of an image is. `()` does nothing with that.
+/// Follows the progress of a task, making or unpacking an image. `()` ignores it.
 pub trait FollowsProgress {
-    /// So many files and bytes are to be done.
+    /// Begins a task of so many files and bytes.
     fn begin(&mut self, whole: FilesAndBytes);
 
-    /// So many more are done.
+    /// Counts so many more as done.
     fn add(&mut self, more: FilesAndBytes);
 }
 
@@ -41,20 +41,20 @@ impl FollowsProgress for () {
     fn add(&mut self, _more: FilesAndBytes) {}
 }
 
-// What takes the line away: a return to its beginning, and an erasure to its end.
+// Erases the line: a return to its beginning, and an erasure to its end.
 const ERASURE: &str = "\r\x1b[K";
 
-// How many milliseconds a line stays as it is.
+// The time for which a line stays unchanged, in milliseconds.
 const PAUSE: u64 = 200;
 
-/// A line that is shown once more than a second has gone by, and written anew in its place from then on. It is taken
-/// away when this is dropped. Where the clock or a write fails, no more is written.
+/// A line that is shown once a task takes more than a second, and is rewritten in place from then
+/// on. Dropping it erases the line. If the clock or a write fails, no more is written.
 pub struct ProgressLine<W: Write + Drop, C: Clock + Drop> {
     out: W,
     clock: C,
-    // When the work began. There is nothing more to write where this is gone.
+    // The time at which the task began. None if nothing more is to be written.
     began: Option<Instant>,
-    // How long after that the line is written next.
+    // The time after that at which the line is written next.
     next: Duration,
     whole: FilesAndBytes,
     done: FilesAndBytes,
@@ -79,7 +79,7 @@ impl<W: Write + Drop, C: Clock + Drop> Drop for ProgressLine<W, C> {
     }
 }
 
-// The line, made without memory.
+// Returns the bytes of the line, without an allocation.
 fn progress_line(done: FilesAndBytes, whole: FilesAndBytes) -> ArrayVec<u8, 160> {
     let mut line = ArrayVec::new();
     let _ = write!(
@@ -91,7 +91,8 @@ fn progress_line(done: FilesAndBytes, whole: FilesAndBytes) -> ArrayVec<u8, 160>
 }
 
 impl<W: Write + Drop, C: Clock + Drop> ProgressLine<W, C> {
-    /// The line of a work that begins now. Nothing is written, and nothing ever where `out` is no terminal.
+    /// Returns the line of a task that begins now. Nothing is written yet, and nothing ever if
+    /// `out` is no terminal.
     pub fn new(out: W, clock: C, is_terminal: bool) -> ProgressLine<W, C> {
         let began = if is_terminal {
             Instant::now(&clock).ok()

@@ -40,7 +40,7 @@ fn is_page_size(page: u32) -> bool
     page == 8 || page == 16 || page == 32 || page == 64 || page == 128 || page == 256 || page == 512
 }
 
-// Adds a text and a number behind it.
+// Adds a text, followed by a number.
 fn push_labelled(text: &mut Vec<u8>, before: &str, number: usize) -> Result<(), AllocError>
     ensures { OnOk result (text.new.items ≡ text.old.items ++ number_text before.now number) }
 {
@@ -51,7 +51,7 @@ fn push_labelled(text: &mut Vec<u8>, before: &str, number: usize) -> Result<(), 
     Ok(())
 }
 
-// Returns what the rule says.
+// Returns the text of the rule.
 fn size_rule_text(rule: SizeRule) -> &'static str
     ensures { result.now ≡ rule_words rule }
 {
@@ -96,7 +96,8 @@ impl Sizes {
         Ok(())
     }
 
-    // Returns the first rule that the image's size breaks, where those of blocks and pages break none.
+    // Returns the first rule that the image's size breaks, if the sizes of blocks and pages break
+    // none.
     fn first_broken_rule(self) -> Option<SizeRule>
         requires { BreaksNoneBefore self (rule_index SizeRule.ImageSize) }
         ensures broken { IfSome result (IsFirstBroken self) }
@@ -116,8 +117,8 @@ impl Sizes {
         None
     }
 
-    /// Returns the first rule that the sizes break, in the order of `SizeRule`. None comes exactly
-    /// where there are images of these sizes.
+    /// Returns the first rule that the sizes break, in the order of `SizeRule`. None exactly if
+    /// there are images of these sizes.
     pub fn broken_rule(self) -> Option<SizeRule>
         ensures broken { IfSome result (IsFirstBroken self) }
         ensures fits { result ≡ None → AreImageSizes self }

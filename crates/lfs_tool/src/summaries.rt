@@ -1,4 +1,4 @@
-// What an accepted image has.
+// The summary of an accepted image.
 
 ghost use Rattle.std.specs.Prelude.{◌≡◌, ◌↔◌, ◌≤◌, IfOk, IsTrue, OnOk, count_by, false, length};
 ghost use Rattle.lfs_model.specs.layers.BlockSets.{AreUsed};
@@ -48,7 +48,7 @@ fn has_unfinished_operation(state: &MoveState) -> bool
     state.sync || state.kind != 0
 }
 
-// Returns the profile's own limit of a file that is inline, where it is less than that of the blocks.
+// Returns the profile's own limit of inline files, if it is less than that of the blocks.
 fn lesser_inline_max(geometry: &Geometry) -> Option<u32>
     ensures { result ≡ lesser_inline_max geometry.now.profile geometry.now.block_size }
 {
@@ -63,7 +63,7 @@ fn is_default_profile(profile: &Profile) -> bool
     *profile == Profile::new()
 }
 
-// Returns the superblock of the image, where the profile isn't the default one.
+// Returns the superblock of the image, unless the profile is the default one.
 fn superblock_to_tell<D: BlockDevice>(
     alloc: Global,
     thread: &mut Thread<D>,

@@ -1,4 +1,4 @@
-// The numbers of a superblock, by its place in the bytes alone.
+// The numbers of a superblock, which is found by its offset alone.
 
 ghost use Rattle.std.specs.Prelude.{◌≡◌, ◌⊎◌, ◌<◌, ◌/◌, ◌^◌, IfSome, None, length};
 ghost use Rattle.lfs_model.specs.format.EntryTypes.{SuperblockFields};
@@ -9,11 +9,11 @@ use crate::verdict::WrongNumber;
 use lfs_device::AcceptedVersions;
 use lfs_tag::{Superblock, superblock_of};
 
-// How a log with a superblock begins behind the revision: the tag of its name, the name, and the tag
-// of an inline struct of 24 bytes for the same slot.
+// The beginning of a log with a superblock, behind the revision: the tag of its name, the name, and
+// the tag of an inline struct of 24 bytes for the same slot.
 const FIRST_ENTRIES: &[u8] = b"\xf0\x0f\xff\xf7littlefs\x2f\xe0\x00\x10";
 
-// Returns which of these fields is wrong for so many blocks of that size.
+// Returns the number among these fields that is wrong for so many blocks of that size, if any.
 pub(crate) fn wrong_number_in(
     block_size: u32,
     count: usize,
@@ -35,7 +35,7 @@ pub(crate) fn wrong_number_in(
     None
 }
 
-// Returns the fields of the superblock at the beginning of a block at that offset.
+// Returns the fields of the superblock at the beginning of a block at that offset, if there is one.
 fn fields_at_offset(bytes: &[u8], from: usize) -> Option<Superblock>
     requires { from < 2 ^ 32 }
     ensures found { IfSome result (λ fields. IsSuperblockAt bytes.now from (superblock_view fields)) }
@@ -50,9 +50,9 @@ fn fields_at_offset(bytes: &[u8], from: usize) -> Option<Superblock>
     }
 }
 
-/// Returns the superblock with which block 0 begins, or block 1 where blocks are as large as it says. It is found by its
-/// place, as `image_wrong_number` finds it. So the size of the blocks needn't be known: in block 1 it is a
-/// power of two from 1024 to 65536.
+/// Returns the superblock at the beginning of block 0, or of block 1 if blocks are as large as it
+/// states. It is found by its offset, as in `image_wrong_number`. So the size of the blocks needn't
+/// be known: in block 1 it is a power of two from 1024 to 65536.
 pub fn image_superblock_at(bytes: &[u8]) -> Option<Superblock>
     ensures found { IfSome result (IsFirstSuperblock bytes.now) }
     ensures none { result ≡ None → (fields : SuperblockFields) → ¬ IsSuperblockAt bytes.now 0 fields }
@@ -69,7 +69,7 @@ pub fn image_superblock_at(bytes: &[u8]) -> Option<Superblock>
     None
 }
 
-// Returns which field of that superblock is wrong for the bytes.
+// Returns the field of that superblock that is wrong for the bytes, if any.
 fn wrong_number_at(
     bytes: &[u8],
     block_size: u32,
@@ -88,12 +88,12 @@ fn wrong_number_at(
     }
 }
 
-/// Returns which number in the superblock of block 0 or 1 is wrong for these bytes, with blocks of
-/// that size in bytes: the size or number of blocks, or a version that is none of these. The superblock is found by its
-/// place, without a checksum: its name and its struct are the first two entries of the block. So blocks
-/// of another size needn't be known.
+/// Returns the number in the superblock of block 0 or 1 that is wrong for these bytes, with blocks
+/// of that size in bytes: the size or number of blocks, or a version that isn't accepted. The
+/// superblock is found by its offset, without a checksum: its name and its struct are the first two
+/// entries of the block. So it is found even if the image has blocks of another size.
 ///
-/// Returns None exactly where no number of these two superblocks is wrong: a block that doesn't begin
+/// Returns None exactly if no number of these two superblocks is wrong: a block that doesn't begin
 /// with a superblock has none. Blocks of no bytes have none either.
 pub fn image_wrong_number(
     bytes: &[u8],

@@ -9,9 +9,9 @@ use std::io::{ErrorKind, Write};
 use std::rt::Files;
 use std::{fs, io};
 
-/// A folder of the real file system, or a link to one. It is made at the first call where it isn't there, and so
-/// are the folders above it. A name that isn't UTF-8 is a fault. So is a path in it with something else than a file
-/// or a folder, as a symbolic link. A fault is noted in a log, with the path that it comes from.
+/// A folder of the real file system, or a link to one. If it isn't there, the first call makes it
+/// and the folders above it. A name that isn't UTF-8 is a fault. So is a path in it with anything
+/// but a file or a folder, such as a symbolic link. Each fault is noted in a log, with its path.
 #[derive(Drop)]
 pub struct TargetFolder<'a, R> {
     root: Root<'a, R>,
@@ -40,7 +40,7 @@ fn make_folders<R: Files>(rt: &R, path: &str) -> io::Result<()> {
     }
 }
 
-// Refuses a path that has something else than a file.
+// Refuses a path at which there is anything but a file.
 fn check_free_path<R: Files>(rt: &R, path: &str) -> io::Result<()> {
     match fs::symlink_metadata(rt, path) {
         Ok(there) if !there.is_file() => Err(io::Error::new(
@@ -52,7 +52,7 @@ fn check_free_path<R: Files>(rt: &R, path: &str) -> io::Result<()> {
 }
 
 impl<'a, R: Files + AllocGlobal + Clone + Drop> TargetFolder<'a, R> {
-    /// Makes a target of the folder at a path of the file system. Nothing is made yet.
+    /// Returns the target for the folder at a path of the file system. Nothing is made yet.
     pub fn new(rt: &'a R, log: &'a FaultLog, root: &str) -> Result<TargetFolder<'a, R>, AllocError>
         ensures root { IfOk result (λ f. target_root f ≡ root.now) }
     {
@@ -61,7 +61,8 @@ impl<'a, R: Files + AllocGlobal + Clone + Drop> TargetFolder<'a, R> {
         })
     }
 
-    // Returns the path in the file system, where it is text. The folder itself is there then.
+    // Makes the target's folder if it isn't there, and returns the path in the file system. A path
+    // that isn't text is an error.
     fn make_target_folder(&self, path: &[u8]) -> io::Result<String> {
         let full = self.root.full_path(path)?;
         if let Err(error) = make_folders(self.root.rt, self.root.path.as_str()) {

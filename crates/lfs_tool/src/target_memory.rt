@@ -14,7 +14,7 @@ pub enum TargetAction {
     File(Vec<u8>, Vec<u8>),
 }
 
-/// A target that keeps the actions that were done, in order. It has no faults.
+/// A target that records the actions that were done, in order. It has no faults.
 #[derive(Drop)]
 pub struct MemoryTarget {
     pub done: Vec<TargetAction>,

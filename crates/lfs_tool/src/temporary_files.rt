@@ -1,4 +1,4 @@
-// Files beside a path, which come to stand there.
+// Files beside a path, which are moved to it.
 
 ghost use Rattle.std.specs.Prelude.{◌≡◌, ◌++◌, IfOk, OnOk, false, true};
 ghost use Rattle.std.specs.Fmt.{decimal};
@@ -13,19 +13,19 @@ use std::path::Path;
 use std::rt::Files;
 use std::{fs, io};
 
-// How many names are tried.
+// The number of names that are tried.
 const NAMES: u32 = 1000;
 
-// How many digits the number of a name may have.
+// The most digits of a name's number.
 const DIGITS: usize = 10;
 
-// The path of an image, and one beside it. The memory for each name that is tried is granted when this is
-// made.
+// The path of an image, and one beside it, in the same folder. `new` allocates the memory for each
+// name that is tried.
 #[derive(Drop)]
 pub(crate) struct ImagePaths {
-    // Where the image is to stand.
+    // The path of the finished image.
     pub(crate) path: String,
-    // What each path beside it begins with. A number follows.
+    // The beginning of each path beside it. A number follows.
     start: String,
     // The path beside it that was tried last.
     pub(crate) beside: String,
@@ -33,7 +33,7 @@ pub(crate) struct ImagePaths {
 }
 
 impl ImagePaths {
-    // The paths of an image that is to stand at this one.
+    // Returns the paths for an image at this path. Errors: `AllocError` if memory isn't granted.
     pub(crate) fn new(alloc: Global, path: &str) -> Result<ImagePaths, AllocError>
         ensures { IfOk result (λ p. string_bytes p.path ≡ path.now) }
     {
@@ -48,7 +48,7 @@ impl ImagePaths {
         })
     }
 
-    // Takes the path beside it of that number.
+    // Sets the path beside it to the one with that number.
     fn set_temporary_number(&mut self, number: u32) -> Result<(), AllocError>
         ensures path { self.new.path ≡ self.old.path }
         ensures beside { OnOk result (string_bytes self.new.beside ≡ temporary_prefix (string_bytes self.old.path) ++ decimal number) }
@@ -60,7 +60,7 @@ impl ImagePaths {
     }
 }
 
-// Makes a new file beside a path, under the first name that is free.
+// Creates a new file beside a path, under the first name that is free.
 fn create_temporary_file<R: Files>(files: &R, paths: &mut ImagePaths) -> io::Result<R::File>
     ensures path { paths.new.path ≡ paths.old.path }
     ensures beside { OnOk result (IsNumberedPath (string_bytes paths.old.path) (string_bytes paths.new.beside)) }
@@ -76,8 +76,8 @@ fn create_temporary_file<R: Files>(files: &R, paths: &mut ImagePaths) -> io::Res
     Err(io::Error::from(ErrorKind::AlreadyExists))
 }
 
-// Makes a new file beside a path. Where the folder takes no new file, makes or empties the one at the
-// path. Returns whether the file is beside it.
+// Creates a new file beside a path. If the folder can't have a new file, creates or empties the one
+// at the path. Returns the file, and whether it is beside the path.
 fn create_new_file<R: Files>(files: &R, paths: &mut ImagePaths) -> io::Result<(R::File, bool)>
     ensures path { paths.new.path ≡ paths.old.path }
     ensures beside { IfOk result (λ made. made.1 ≡ true → IsNumberedPath (string_bytes paths.old.path) (string_bytes paths.new.beside)) }
@@ -91,7 +91,8 @@ fn create_new_file<R: Files>(files: &R, paths: &mut ImagePaths) -> io::Result<(R
     }
 }
 
-// Makes the file that replaces one with these permissions. Fails where the old one may not be written.
+// Creates the file that replaces one with these permissions. Fails if the old one may not be
+// written.
 fn create_replacement_file<R: Files>(
     files: &R,
     paths: &mut ImagePaths,
@@ -104,12 +105,12 @@ fn create_replacement_file<R: Files>(
         .write(true)
         .open(files, paths.path.as_str())?;
     let made = create_new_file(files, paths)?;
-    // Where the system knows no permissions, the file has those of a new one.
+    // If the system knows no permissions, the file has those of a new one.
     let _ = made.0.set_permissions(permissions);
     Ok(made)
 }
 
-// Makes the file that is to stand at a path where that stands there now.
+// Creates the file for a path, by the kind of file that is there now.
 fn create_by_state<R: Files>(
     files: &R,
     paths: &mut ImagePaths,
@@ -126,8 +127,8 @@ fn create_by_state<R: Files>(
     }
 }
 
-// Makes the file that is to stand at a path, and says whether it is beside it until then. Where something
-// stands there that is no file, that is what is written.
+// Creates the file for a path, and returns whether it is beside the path for now. Anything at the
+// path that is no file is written directly.
 pub(crate) fn create_image_file<R: Files>(
     files: &R,
     paths: &mut ImagePaths,
@@ -139,8 +140,8 @@ pub(crate) fn create_image_file<R: Files>(
     create_by_state(files, paths, state_of_metadata(found))
 }
 
-// Puts the file beside a path in its place. Where the system refuses that, as at a file that is mounted
-// alone, its bytes are copied there.
+// Moves the file beside a path to the path. If the system refuses that, as for a single file that
+// is mounted there, copies its bytes.
 pub(crate) fn move_to_path<R: Files>(files: &R, paths: &ImagePaths) -> io::Result<()> {
     let (beside, path) = (paths.beside.as_str(), paths.path.as_str());
     if fs::rename(files, beside, path).is_ok() {

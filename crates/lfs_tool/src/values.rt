@@ -21,7 +21,7 @@ pub(crate) fn flag_value(matches: &ArgMatches<'_>, id: &str) -> bool
     matches.get_one::<bool>(id).unwrap_or(false)
 }
 
-// Returns the number of an option, where it is given.
+// Returns the number of an option, if it is given.
 pub(crate) fn given_number(matches: &ArgMatches<'_>, id: &str) -> Option<u32>
     ensures { result ≡ number_in_rows id.now (rows_of (found_of matches.now)) }
 {
@@ -31,14 +31,14 @@ pub(crate) fn given_number(matches: &ArgMatches<'_>, id: &str) -> Option<u32>
     }
 }
 
-// Returns the number of an option, or the other one where none is given.
+// Returns the number of an option, or `other` if it isn't given.
 pub(crate) fn number_given_or(matches: &ArgMatches<'_>, id: &str, other: u32) -> u32
     ensures { result ≡ number_or other id.now (rows_of (found_of matches.now)) }
 {
     given_number(matches, id).unwrap_or(other)
 }
 
-// Returns the text of an option that takes a number, where it names none.
+// Returns the text of an option that has to be a number, if it isn't one.
 fn bad_number<'a>(matches: &ArgMatches<'a>, id: &str) -> Option<&'a str>
     ensures { option_map (λ s. s.now) result ≡ bad_option_number id.now (rows_of (found_of matches.now)) }
 {
@@ -51,7 +51,7 @@ fn bad_number<'a>(matches: &ArgMatches<'a>, id: &str) -> Option<&'a str>
     }
 }
 
-// Returns whether an option says that its number is found elsewhere.
+// Returns whether the text of an option is `auto`.
 pub(crate) fn is_auto(matches: &ArgMatches<'_>, id: &str) -> bool
     ensures { result ≡ is_option_auto id.now (rows_of (found_of matches.now)) }
 {
@@ -61,7 +61,7 @@ pub(crate) fn is_auto(matches: &ArgMatches<'_>, id: &str) -> bool
     }
 }
 
-// Returns the text of an option that takes a number or `auto`, where it is neither.
+// Returns the text of an option that has to be a number or `auto`, if it is neither.
 fn bad_size<'a>(matches: &ArgMatches<'a>, id: &str) -> Option<&'a str>
     ensures { option_map (λ s. s.now) result ≡ bad_option_size id.now (rows_of (found_of matches.now)) }
 {
@@ -71,7 +71,7 @@ fn bad_size<'a>(matches: &ArgMatches<'a>, id: &str) -> Option<&'a str>
     bad_number(matches, id)
 }
 
-// Returns the first of these options whose text names no number, and the text.
+// Returns the first of these options whose text is no number, with the text.
 #[tactic(auto, using(crate::proofs::Table::bad_found, crate::proofs::Table::good_passed, crate::proofs::Table::none_bad))]
 fn bad_number_among<'a>(
     matches: &ArgMatches<'a>,
@@ -87,7 +87,7 @@ fn bad_number_among<'a>(
     None
 }
 
-// The options that take a number alone, but for the size of a page.
+// The options whose text has to be a number, except for the size of a page.
 const NUMBERS: [&str; 7] = [
     "offset",
     "name-max",
@@ -98,7 +98,7 @@ const NUMBERS: [&str; 7] = [
     "spare",
 ];
 
-/// Returns the first option whose text names no number, and the text.
+/// Returns the first option whose text is no number, with the text.
 pub(crate) fn first_bad_number<'a>(matches: &ArgMatches<'a>) -> Option<(&'static str, &'a str)>
     ensures { option_map (λ bad. bad.1.now) result ≡ first_bad_text (rows_of (found_of matches.now)) }
 {

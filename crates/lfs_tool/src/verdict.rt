@@ -12,11 +12,11 @@ use lfs_tag::Superblock;
 pub enum AcceptedOrders {
     LongerFirst,
     ShorterFirst,
-    /// Both: no name of a directory begins another one.
+    /// Both: no name of a directory is the beginning of another one.
     Either,
 }
 
-/// What an accepted image has.
+/// The summary of an accepted image.
 #[derive(Clone, Copy, Debug, PartialEq, Eq, Drop)]
 pub struct ImageSummary {
     pub files: usize,
@@ -28,25 +28,25 @@ pub struct ImageSummary {
     pub blocks: u32,
     /// Whether a loss of power left something to recover.
     pub recover: bool,
-    /// The superblock with which the root directory begins, where the profile is another one than that of
-    /// `Profile::new`. A check tells of its version and its limits then.
+    /// The superblock at the beginning of the root directory, if the profile is another than that
+    /// of `Profile::new`. A check then reports its version and its limits.
     pub superblock: Option<Superblock>,
-    /// The profile's `inline_max`, where it is less than an eighth of a block. A check tells of it where a
-    /// file has more bytes inline.
+    /// The profile's `inline_max` in bytes, if it is less than an eighth of a block. A check
+    /// reports it if a file has more bytes inline.
     pub inline_max: Option<u32>,
-    /// What of the writing profile the image breaks. Without any the image may be changed.
+    /// The rule of the writing profile that the image breaks. Without one the image may be changed.
     pub breach: Option<ProfileBreach>,
 }
 
-/// A rule that an image breaks, and what is said of it.
+/// A rule that an image breaks, with its line.
 #[derive(Drop)]
 pub struct BrokenRule {
     pub violation: Violation,
-    /// A line without its end, which says the rule and the place, with names and numbers.
+    /// A line without its end, with the rule and its location, in names and numbers.
     pub line: Vec<u8>,
 }
 
-/// Whether an image is accepted, and with what, or why not.
+/// Whether an image is accepted, with its summary, or a rule that it breaks.
 #[derive(Drop)]
 pub enum ImageVerdict {
     Accepted {
@@ -61,16 +61,18 @@ pub enum ImageVerdict {
 /// LFS_TYPE_SUPERBLOCK").
 #[derive(Clone, Copy, Debug, PartialEq, Eq, Drop)]
 pub enum WrongNumber {
-    /// Another size of a block, in bytes.
+    /// It states another block size, in bytes.
     BlockSize(u32),
-    /// Another number of blocks.
+    /// It states another number of blocks.
     BlockCount(u32),
-    /// A version that isn't accepted: the major number in the upper 16 bits, the minor one in the lower.
+    /// It states a version that isn't accepted: the major number is in the upper 16 bits, the minor
+    /// one in the lower.
     Version(u32),
 }
 
-/// The sizes with which an image is checked: of a block, a page and the image in bytes, and the number of
-/// whole blocks. Of bytes that are more than an image may have, one more than these is counted.
+/// The sizes with which an image is checked: those of a block, a page and the image in bytes, and
+/// the number of whole blocks. If there are more bytes than an image may have, `size` is one more
+/// than that.
 #[derive(Clone, Copy, Debug, PartialEq, Eq, Drop)]
 pub struct GivenSizes {
     pub block_size: u32,
@@ -80,7 +82,7 @@ pub struct GivenSizes {
 }
 
 impl GivenSizes {
-    // Returns the sizes with which an image of so many bytes is checked.
+    // Returns the sizes with which an image of `len` bytes is checked.
     pub(crate) fn of(len: usize, layout: ImageLayout) -> GivenSizes
         ensures { (image : List ℕ) → length image ≡ len → AreGivenSizes layout image result }
     {
@@ -93,10 +95,10 @@ impl GivenSizes {
     }
 }
 
-/// The cause for which an image isn't accepted.
+/// The reason why an image isn't accepted.
 #[derive(Drop)]
 pub enum RefusalReason {
-    /// The superblock in block 0 or 1 gives another size, number of blocks or version.
+    /// The superblock in block 0 or 1 states another block size, number of blocks or version.
     WrongNumber(WrongNumber),
     /// No image of blocks and pages of these sizes has so many bytes.
     NoImage,
@@ -104,7 +106,7 @@ pub enum RefusalReason {
     Broken(BrokenRule),
 }
 
-/// Whether an image is accepted, and with what, or why not.
+/// Whether an image is accepted, with its summary, or why not.
 #[derive(Drop)]
 pub enum CheckResult {
     Accepted {

@@ -1,4 +1,4 @@
-// The line that says which rule an image breaks, and where. What it tells is looked for in the image once more.
+// The line with the rule that an image breaks and its location. The image is read once more for it.
 
 ghost use Rattle.std.specs.Prelude.{◌≡◌, IfErr, IfOk};
 
@@ -17,7 +17,7 @@ use std::alloc::{AllocError, Global};
 
 // ---- rules of one pair
 
-// Returns for what a pair holds no content.
+// Returns the line that says why a pair has no content.
 fn no_content_line(alloc: Global, device: &mut RamDevice, pair: [u32; 2]) -> Result<String, Error> {
     let at = PairText(pair);
     let Some(block) = current_block(alloc, device, pair)? else {
@@ -50,7 +50,7 @@ fn no_superblock_line(alloc: Global) -> Result<String, AllocError> {
 
 // ---- rules of a thread
 
-// Returns for what a slot is no entry.
+// Returns why a slot is no entry.
 fn entry_flaw(slot: &FoundSlot) -> &'static str {
     match (slot.kind, &slot.structure) {
         (SlotNameKind::Superblock, _) => "is a second superblock",
@@ -80,7 +80,7 @@ fn has_list_block(
 }
 
 impl FoundThread {
-    // Returns which number of the superblock in a slot is wrong for the image.
+    // Returns the wrong number of the superblock in a slot, if it has one.
     fn wrong_number(&self, slot: &FoundSlot) -> Option<WrongNumberText> {
         let OwnedStruct::Inline(bytes) = &slot.structure else {
             return None;
@@ -108,7 +108,8 @@ impl FoundThread {
         }
     }
 
-    // Returns which number of a later superblock is wrong, or that it differs from the one before it.
+    // Returns the line of a later superblock: its wrong number, or that it differs from the first
+    // one.
     fn other_superblock_line(&self, pair: [u32; 2]) -> Result<String, AllocError> {
         let at = PairText(pair);
         if let Some(slot) = self.slot_at(pair, 0) {
@@ -120,8 +121,9 @@ impl FoundThread {
         format!(in self.alloc; "{at}, superblock: another one than in {first}")
     }
 
-    // Returns the names of a directory that don't rise with longer names first. With shorter ones first those of
-    // another directory don't, where the rule `other` says so.
+    // Returns the line of two neighbours that aren't sorted in either order of names, or else of
+    // two that aren't with longer names first and two that aren't with shorter names first. The
+    // latter may be in another directory, which the rule `other` names.
     fn names_line(&self, pair: [u32; 2], other: Violation) -> Result<String, AllocError> {
         let other = match other {
             Violation::Names { pair } => pair,
@@ -141,7 +143,7 @@ impl FoundThread {
         }
     }
 
-    // Returns the first entry of a directory that leads to no directory.
+    // Returns the line of the first entry in a directory that leads to no directory.
     fn branch_line(&self, pair: [u32; 2]) -> Result<String, AllocError> {
         for slot in &self.slots {
             if let Some(to) = slot.branch() {
@@ -156,7 +158,7 @@ impl FoundThread {
         Ok(String::new(self.alloc))
     }
 
-    // Returns the entries that lead to one directory, or one that leads to the root.
+    // Returns the line of two entries that lead to one directory, or of one that leads to the root.
     fn two_paths_line(&self, pair: [u32; 2]) -> Result<String, AllocError> {
         let root = self.directories.first().copied();
         let is_root = root.is_some_and(|root| is_same_pair(root, pair));
@@ -173,7 +175,8 @@ impl FoundThread {
         self.pairs.iter().copied().find(|p| p.contains(&block))
     }
 
-    // Returns who has a block of an entry's list beside it: a pair, or the first other entry.
+    // Returns the line of the other owner of a block in an entry's list: a pair, or the first other
+    // entry.
     fn two_owners_line(
         &self,
         device: &mut RamDevice,

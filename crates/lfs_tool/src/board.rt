@@ -20,8 +20,8 @@ pub enum Board {
     Micropython,
 }
 
-// Returns the profile of firmware with names of at most `name_max` bytes and inline files of at
-// most `inline_max` bytes.
+// Returns the profile of firmware with names of at most `name_max` bytes and inline files of at most
+// `inline_max` bytes.
 fn firmware_profile(name_max: u32, inline_max: u32) -> Profile
     ensures { result ≡ profile_of_firmware name_max inline_max }
 {
@@ -65,8 +65,8 @@ impl Board {
         }
     }
 
-    // Returns the limits and the versions. The limit of names is the firmware's LFS_NAME_MAX, and
-    // that of inline files its cache_size.
+    // Returns the limits and the versions. The limit of names is the firmware's LFS_NAME_MAX, and that of
+    // inline files its cache_size.
     pub(crate) fn profile(self) -> Profile
         ensures { result ≡ board_profile self }
     {

@@ -49,8 +49,7 @@ fn push_limit_line(text: &mut Vec<u8>, name: &str, default: u32, limit: u32) -> 
     write!(text, "{name} {limit}\n")
 }
 
-// Adds the lines of a superblock, if there is one: its version, and each limit that isn't the
-// default one.
+// Adds the lines of a superblock, if there is one: its version, and each limit that isn't the default one.
 fn push_superblock_lines(text: &mut Vec<u8>, superblock: Option<Superblock>) -> io::Result<()>
     ensures { OnOk result (text.new.items ≡ text.old.items ++ superblock_lines superblock) }
 {
@@ -211,8 +210,8 @@ fn push_check_result(text: &mut Vec<u8>, checked: &CheckResult) -> io::Result<()
     }
 }
 
-/// Returns the text of a rule of the writing profile that an image breaks, with its location, as
-/// `check` writes it behind `writable no: `.
+/// Returns the text of a rule of the writing profile that an image breaks, with its location, as `check` writes it
+/// behind `writable no: `.
 pub fn breach_line(
     alloc: Global,
     inline_max: Option<u32>,

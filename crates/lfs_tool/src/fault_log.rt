@@ -14,8 +14,8 @@ pub struct PathFault {
     pub words: Vec<u8>,
 }
 
-/// Keeps the first fault that is noted, or the fact that memory for it ran out. No contract says
-/// what a log contains.
+/// Keeps the first fault that is noted, or the fact that memory for it ran out. No contract says what a
+/// log contains.
 #[derive(Drop)]
 pub struct FaultLog {
     first: RefCell<Result<Option<PathFault>, AllocError>>,
@@ -40,8 +40,7 @@ impl FaultLog {
         }
     }
 
-    /// Notes a fault at a path, unless something is noted already. If memory runs out, notes that
-    /// instead.
+    /// Notes a fault at a path, unless something is noted already. If memory runs out, notes that instead.
     pub fn note(&self, alloc: Global, path: &[u8], error: &io::Error) {
         self.note_first(path_fault_of(alloc, path, error).map(|fault| Some(fault)));
     }

@@ -6,12 +6,12 @@ use std::alloc::Global;
 use std::io;
 use std::io::Read;
 
-// The least number of bytes that the first read asks for. Some files claim to be empty, and return
-// all of their bytes to the first read alone.
+// The least number of bytes that the first read asks for. Some files claim to be empty, and return all of
+// their bytes to the first read alone.
 const LEAST: usize = 512;
 
-// Returns a file's bytes, at most `most` of them. `len` is the length that the file was listed
-// with. If that is right, and less than 8192, the second read finds the end.
+// Returns a file's bytes, at most `most` of them. `len` is the length that the file was listed with. If
+// that is right, and less than 8192, the second read finds the end.
 pub(crate) fn read_at_most<R: Read + Drop>(
     alloc: Global,
     file: R,

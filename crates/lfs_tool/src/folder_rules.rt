@@ -14,9 +14,8 @@ pub enum Links {
 /// The rules by which a folder is read.
 #[derive(Clone, Copy, Debug, PartialEq, Eq)]
 pub struct FolderRules<'a> {
-    /// The patterns of the names that are left out. `*` matches any bytes of a name, and `?` one
-    /// character. A pattern with `/` is matched with the path below the folder, and any other with
-    /// each name.
+    /// The patterns of the names that are left out. `*` matches any bytes of a name, and `?` one character. A
+    /// pattern with `/` is matched with the path below the folder, and any other with each name.
     pub exclude: &'a [&'a str],
     pub links: Links,
 }
@@ -36,8 +35,7 @@ fn next_character_start(name: &[u8], at: usize) -> usize {
 // Returns whether a pattern matches all of a name or a path.
 fn fits(pattern: &[u8], name: &[u8]) -> bool {
     let (mut at, mut from) = (0usize, 0usize);
-    // The offset behind the pattern's last star, and the offset in the name up to which that star
-    // matches.
+    // The offset behind the pattern's last star, and the offset in the name up to which that star matches.
     let mut star: Option<(usize, usize)> = None;
     for _ in 0..u64::MAX {
         match (pattern.get(at), name.get(from)) {

@@ -139,9 +139,8 @@ impl FoundThread {
         Ok(thread)
     }
 
-    // Adds a pair. Returns whether the superblock's chain may continue behind it. The root
-    // directory begins at the last superblock of the chain (SPEC.md of littlefs, "0x0ff
-    // LFS_TYPE_SUPERBLOCK").
+    // Adds a pair. Returns whether the superblock's chain may continue behind it. The root directory begins at
+    // the last superblock of the chain (SPEC.md of littlefs, "0x0ff LFS_TYPE_SUPERBLOCK").
     fn push_pair(
         &mut self,
         pair: [u32; 2],
@@ -200,8 +199,7 @@ impl FoundThread {
         slots.find(|slot| slot.number == number && is_same_pair(slot.pair, pair))
     }
 
-    // Returns whether a slot is an entry: neither a superblock's, nor the one that a set move
-    // names.
+    // Returns whether a slot is an entry: neither a superblock's, nor the one that a set move names.
     pub(crate) fn is_entry(&self, slot: &FoundSlot) -> bool {
         let is_moved = self.state.kind == DELETE
             && is_same_pair(self.state.pair, slot.pair)

@@ -26,15 +26,13 @@ fn is_result_accepted(checked: &CheckResult) -> bool
     }
 }
 
-/// Writes whether an image is accepted, and either its summary or the reason, as `result_of_image`
-/// finds them. Returns whether it is accepted. Writes nothing before that is known, and flushes the
-/// writer at the end.
+/// Writes whether an image is accepted, and either its summary or the reason, as `result_of_image` finds them.
+/// Returns whether it is accepted. Writes nothing before that is known, and flushes the writer at the end.
 ///
-/// For an accepted image the lines are `ok`, `files <n>`, `directories <n>`, `used <n> of <m>
-/// blocks`, `free <n>`, `order <order>`, `recover yes` or `recover no`, and `writable yes` or
-/// `writable no` with its reason. With another profile than that of `Profile::new`, `version 2.1`
-/// and limits that aren't littlefs's own follow the order. For any other image the lines are
-/// `corrupt`, and one with the reason.
+/// For an accepted image the lines are `ok`, `files <n>`, `directories <n>`, `used <n> of <m> blocks`, `free <n>`,
+/// `order <order>`, `recover yes` or `recover no`, and `writable yes` or `writable no` with its reason. With
+/// another profile than that of `Profile::new`, `version 2.1` and limits that aren't littlefs's own follow the
+/// order. For any other image the lines are `corrupt`, and one with the reason.
 ///
 /// # Errors
 /// - `Fs(NoMemory)` if memory isn't granted.

@@ -6,9 +6,9 @@ ghost use Rattle.lfs_model.specs.format.Geometry.{IsValidGeometry};
 
 use lfs_device::{Error, Geometry, Profile};
 
-/// The sizes of an image's blocks and pages in bytes, and the profile by which it is accepted. The
-/// profile's limits also decide whether the image may be changed. With another profile than that of
-/// `Profile::new`, a check reports the image's version and limits.
+/// The sizes of an image's blocks and pages in bytes, and the profile by which it is accepted. The profile's limits
+/// also decide whether the image may be changed. With another profile than that of `Profile::new`, a check reports the
+/// image's version and limits.
 #[derive(Clone, Copy, Debug, PartialEq, Eq)]
 pub struct ImageLayout {
     pub block_size: u32,

@@ -19,9 +19,8 @@ use lfs_mount::{ImageFindings, MountError, read_and_check};
 use lfs_thread::Thread;
 use std::alloc::Global;
 
-// Returns the rule to report for an image that breaks one rule with longer names first and another
-// one with shorter names first. A wrong order of names is reported only if both rules are of that
-// kind.
+// Returns the rule to report for an image that breaks one rule with longer names first and another one with
+// shorter names first. A wrong order of names is reported only if both rules are of that kind.
 fn rule_to_tell(longer: Violation, shorter: Violation) -> Violation
     ensures { (result ≡ longer) ⊎ (result ≡ shorter) }
 {
@@ -49,8 +48,8 @@ fn refuse_image(
     Ok(ImageVerdict::Refused(rule))
 }
 
-// Returns the verdict on the image of a thread that is accepted in the orders of names `orders`, of
-// which `order` is one.
+// Returns the verdict on the image of a thread that is accepted in the orders of names `orders`, of which
+// `order` is one.
 fn accept_image(
     alloc: Global,
     mut thread: Thread<RamDevice>,
@@ -110,9 +109,8 @@ fn judge_findings(
     }
 }
 
-/// Returns whether the image of a device in memory is accepted, with its summary, or else a rule
-/// that it breaks. The verdict is `Accepted` exactly if a mount accepts the image, in either order
-/// of names.
+/// Returns whether the image of a device in memory is accepted, with its summary, or else a rule that it breaks.
+/// The verdict is `Accepted` exactly if a mount accepts the image, in either order of names.
 ///
 /// Errors: `NoMemory` if memory isn't granted.
 pub fn judge_device(alloc: Global, device: RamDevice) -> Result<ImageVerdict, Error>

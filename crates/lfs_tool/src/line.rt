@@ -80,8 +80,8 @@ struct Choices<'a> {
 /// The reason why the words are no command line.
 #[derive(Debug, Drop, Error)]
 pub enum LineError {
-    /// The parser's own error. It is also returned for a text that is no number, for a request for
-    /// help, and if memory isn't granted.
+    /// The parser's own error. It is also returned for a text that is no number, for a request for help, and if memory
+    /// isn't granted.
     #[error(transparent)]
     Parser(clap::Error),
     /// None of the modes is given, or more than one is.
@@ -203,20 +203,18 @@ fn line_of_matches<'a>(matches: &ArgMatches<'a>, choices: Choices<'a>) -> Result
     })
 }
 
-/// Reads the words of a command line. The first is the program's name. `--help` and docs/TOOL.md
-/// list the options.
+/// Reads the words of a command line. The first is the program's name. `--help` and docs/TOOL.md list the options.
 ///
-/// An option that isn't given has its default: blocks of 4096 bytes, pages of 256, an image of
-/// 65536, the longer names first, and the format's own limits. A board sets the block size, the
-/// limits and the versions among these. The order and the limits are checked in each mode.
+/// An option that isn't given has its default: blocks of 4096 bytes, pages of 256, an image of 65536, the longer names
+/// first, and the format's own limits. A board sets the block size, the limits and the versions among these. The order
+/// and the limits are checked in each mode.
 ///
 /// # Errors
-/// `LineError::Parser` if the parser refuses the words, an option's text is no number, the words
-/// ask for help or for the version, or memory isn't granted. Otherwise the first of these that
-/// applies: `LineError::Modes` unless exactly one mode is given, `LineError::Order` and
-/// `LineError::Board` for an unknown name, `LineError::Limit` for a limit that is 0 or too large,
-/// `LineError::Part` for `-b auto` or an offset if the mode writes an image, `LineError::Misuse`
-/// for another option that has no meaning in this command line.
+/// `LineError::Parser` if the parser refuses the words, an option's text is no number, the words ask for help or for
+/// the version, or memory isn't granted. Otherwise the first of these that applies: `LineError::Modes` unless exactly
+/// one mode is given, `LineError::Order` and `LineError::Board` for an unknown name, `LineError::Limit` for a limit
+/// that is 0 or too large, `LineError::Part` for `-b auto` or an offset if the mode writes an image,
+/// `LineError::Misuse` for another option that has no meaning in this command line.
 pub fn read_request<'a, S: AsStr>(alloc: Global, words: &'a [S]) -> Result<Request<'a>, LineError>
     ensures ok { IfOk result (λ request. ParserAccepts (map S.text words.entry.now)
         × IsRequestOf (rows (map S.text words.entry.now)) request) }

@@ -11,13 +11,13 @@ use std::io::{ErrorKind, Write};
 use std::rt::Files;
 use std::{fs, io};
 
-/// The file of an image that is being made. It is created at the first write, so if nothing is
-/// written an old file stays. From then on it stays the same file.
+/// The file of an image that is being made. It is created at the first write, so if nothing is written an
+/// old file stays. From then on it stays the same file.
 ///
-/// If there is a file or nothing at the path, the new file is in the same folder under another
-/// name, until `place` moves it to the path. If it is dropped before, it is removed, and the old
-/// file stays. It has the old file's permissions. Anything else at the path, such as a device, a
-/// pipe or a link, is written directly.
+/// If there is a file or nothing at the path, the new file is in the same folder under another name, until
+/// `place` moves it to the path. If it is dropped before, it is removed, and the old file stays. It has the
+/// old file's permissions. Anything else at the path, such as a device, a pipe or a link, is written
+/// directly.
 pub struct NewImage<'a, R: Files> {
     files: &'a R,
     paths: ImagePaths,
@@ -60,13 +60,12 @@ impl<'a, R: Files> NewImage<'a, R> {
         self.file.as_ref()
     }
 
-    /// Moves the image to its path. Flush it first, and call this only if each write has succeeded.
-    /// If nothing was written, an old file stays.
+    /// Moves the image to its path. Flush it first, and call this only if each write has succeeded. If
+    /// nothing was written, an old file stays.
     ///
     /// # Errors
-    /// Those of the system. The old file stays then, unless the system can't rename: then the image
-    /// is copied to its path, and the copy may be incomplete, or the file with the other name may
-    /// be left.
+    /// Those of the system. The old file stays then, unless the system can't rename: then the image is
+    /// copied to its path, and the copy may be incomplete, or the file with the other name may be left.
     pub fn place(mut self) -> io::Result<()> {
         self.move_to_final()
     }

@@ -57,8 +57,8 @@ fn with_limits(profile: Profile, superblock: &Superblock) -> Profile
     }
 }
 
-/// Returns the layout with the blocks that an image's superblock states, and the image's length.
-/// `head` is the beginning of the image. Returns None if there is no superblock in block 0 or 1.
+/// Returns the layout with the blocks that an image's superblock states, and the image's length. `head` is the
+/// beginning of the image. Returns None if there is no superblock in block 0 or 1.
 pub fn layout_by_blocks(head: &[u8], layout: ImageLayout) -> Option<OwnLayout>
     ensures found { IfSome result (HasOwnBlocks head.now layout) }
     ensures none { result ≡ None → (fields : SuperblockFields) → ¬ IsSuperblockAt head.now 0 fields }
@@ -69,12 +69,11 @@ pub fn layout_by_blocks(head: &[u8], layout: ImageLayout) -> Option<OwnLayout>
     }
 }
 
-/// Returns the layout with the blocks, the version and the limits that an image's superblock
-/// states, and the image's length. `head` is the beginning of the image.
+/// Returns the layout with the blocks, the version and the limits that an image's superblock states, and the image's
+/// length. `head` is the beginning of the image.
 ///
 /// # Errors
-/// `Corrupt` if there is no superblock in block 0 or 1. `Invalid` if no image has the sizes that it
-/// states.
+/// `Corrupt` if there is no superblock in block 0 or 1. `Invalid` if no image has the sizes that it states.
 pub fn layout_by_superblock(head: &[u8], layout: ImageLayout) -> Result<OwnLayout, Error>
     ensures ok { IfOk result (IsOwnLayout head.now layout) }
     ensures err { IfErr result (IsOwnLayoutError head.now layout) }

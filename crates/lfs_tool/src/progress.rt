@@ -47,8 +47,8 @@ const ERASURE: &str = "\r\x1b[K";
 // The time for which a line stays unchanged, in milliseconds.
 const PAUSE: u64 = 200;
 
-/// A line that is shown once a task takes more than a second, and is rewritten in place from then
-/// on. Dropping it erases the line. If the clock or a write fails, no more is written.
+/// A line that is shown once a task takes more than a second, and is rewritten in place from then on. Dropping it
+/// erases the line. If the clock or a write fails, no more is written.
 pub struct ProgressLine<W: Write + Drop, C: Clock + Drop> {
     out: W,
     clock: C,
@@ -91,8 +91,7 @@ fn progress_line(done: FilesAndBytes, whole: FilesAndBytes) -> ArrayVec<u8, 160>
 }
 
 impl<W: Write + Drop, C: Clock + Drop> ProgressLine<W, C> {
-    /// Returns the line of a task that begins now. Nothing is written yet, and nothing ever if
-    /// `out` is no terminal.
+    /// Returns the line of a task that begins now. Nothing is written yet, and nothing ever if `out` is no terminal.
     pub fn new(out: W, clock: C, is_terminal: bool) -> ProgressLine<W, C> {
         let began = if is_terminal {
             Instant::now(&clock).ok()

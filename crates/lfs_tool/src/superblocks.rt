@@ -9,8 +9,8 @@ use crate::verdict::WrongNumber;
 use lfs_device::AcceptedVersions;
 use lfs_tag::{Superblock, superblock_of};
 
-// The beginning of a log with a superblock, behind the revision: the tag of its name, the name, and
-// the tag of an inline struct of 24 bytes for the same slot.
+// The beginning of a log with a superblock, behind the revision: the tag of its name, the name, and the tag of an
+// inline struct of 24 bytes for the same slot.
 const FIRST_ENTRIES: &[u8] = b"\xf0\x0f\xff\xf7littlefs\x2f\xe0\x00\x10";
 
 // Returns the number among these fields that is wrong for so many blocks of that size, if any.
@@ -50,9 +50,9 @@ fn fields_at_offset(bytes: &[u8], from: usize) -> Option<Superblock>
     }
 }
 
-/// Returns the superblock at the beginning of block 0, or of block 1 if blocks are as large as it
-/// states. It is found by its offset, as in `image_wrong_number`. So the size of the blocks needn't
-/// be known: in block 1 it is a power of two from 1024 to 65536.
+/// Returns the superblock at the beginning of block 0, or of block 1 if blocks are as large as it states. It is found
+/// by its offset, as in `image_wrong_number`. So the size of the blocks needn't be known: in block 1 it is a power of
+/// two from 1024 to 65536.
 pub fn image_superblock_at(bytes: &[u8]) -> Option<Superblock>
     ensures found { IfSome result (IsFirstSuperblock bytes.now) }
     ensures none { result ≡ None → (fields : SuperblockFields) → ¬ IsSuperblockAt bytes.now 0 fields }
@@ -88,13 +88,13 @@ fn wrong_number_at(
     }
 }
 
-/// Returns the number in the superblock of block 0 or 1 that is wrong for these bytes, with blocks
-/// of that size in bytes: the size or number of blocks, or a version that isn't accepted. The
-/// superblock is found by its offset, without a checksum: its name and its struct are the first two
-/// entries of the block. So it is found even if the image has blocks of another size.
+/// Returns the number in the superblock of block 0 or 1 that is wrong for these bytes, with blocks of that size in
+/// bytes: the size or number of blocks, or a version that isn't accepted. The superblock is found by its offset,
+/// without a checksum: its name and its struct are the first two entries of the block. So it is found even if the image
+/// has blocks of another size.
 ///
-/// Returns None exactly if no number of these two superblocks is wrong: a block that doesn't begin
-/// with a superblock has none. Blocks of no bytes have none either.
+/// Returns None exactly if no number of these two superblocks is wrong: a block that doesn't begin with a superblock
+/// has none. Blocks of no bytes have none either.
 pub fn image_wrong_number(
     bytes: &[u8],
     block_size: u32,

@@ -9,9 +9,9 @@ use std::io::{ErrorKind, Write};
 use std::rt::Files;
 use std::{fs, io};
 
-/// A folder of the real file system, or a link to one. If it isn't there, the first call makes it
-/// and the folders above it. A name that isn't UTF-8 is a fault. So is a path in it with anything
-/// but a file or a folder, such as a symbolic link. Each fault is noted in a log, with its path.
+/// A folder of the real file system, or a link to one. If it isn't there, the first call makes it and the folders
+/// above it. A name that isn't UTF-8 is a fault. So is a path in it with anything but a file or a folder, such as a
+/// symbolic link. Each fault is noted in a log, with its path.
 #[derive(Drop)]
 pub struct TargetFolder<'a, R> {
     root: Root<'a, R>,
@@ -61,8 +61,8 @@ impl<'a, R: Files + AllocGlobal + Clone + Drop> TargetFolder<'a, R> {
         })
     }
 
-    // Makes the target's folder if it isn't there, and returns the path in the file system. A path
-    // that isn't text is an error.
+    // Makes the target's folder if it isn't there, and returns the path in the file system. A path that isn't text
+    // is an error.
     fn make_target_folder(&self, path: &[u8]) -> io::Result<String> {
         let full = self.root.full_path(path)?;
         if let Err(error) = make_folders(self.root.rt, self.root.path.as_str()) {

@@ -19,8 +19,8 @@ const NAMES: u32 = 1000;
 // The most digits of a name's number.
 const DIGITS: usize = 10;
 
-// The path of an image, and one beside it, in the same folder. `new` allocates the memory for each
-// name that is tried.
+// The path of an image, and one beside it, in the same folder. `new` allocates the memory for each name
+// that is tried.
 #[derive(Drop)]
 pub(crate) struct ImagePaths {
     // The path of the finished image.
@@ -76,8 +76,8 @@ fn create_temporary_file<R: Files>(files: &R, paths: &mut ImagePaths) -> io::Res
     Err(io::Error::from(ErrorKind::AlreadyExists))
 }
 
-// Creates a new file beside a path. If the folder can't have a new file, creates or empties the one
-// at the path. Returns the file, and whether it is beside the path.
+// Creates a new file beside a path. If the folder can't have a new file, creates or empties the one at
+// the path. Returns the file, and whether it is beside the path.
 fn create_new_file<R: Files>(files: &R, paths: &mut ImagePaths) -> io::Result<(R::File, bool)>
     ensures path { paths.new.path ≡ paths.old.path }
     ensures beside { IfOk result (λ made. made.1 ≡ true → IsNumberedPath (string_bytes paths.old.path) (string_bytes paths.new.beside)) }
@@ -91,8 +91,7 @@ fn create_new_file<R: Files>(files: &R, paths: &mut ImagePaths) -> io::Result<(R
     }
 }
 
-// Creates the file that replaces one with these permissions. Fails if the old one may not be
-// written.
+// Creates the file that replaces one with these permissions. Fails if the old one may not be written.
 fn create_replacement_file<R: Files>(
     files: &R,
     paths: &mut ImagePaths,
@@ -127,8 +126,8 @@ fn create_by_state<R: Files>(
     }
 }
 
-// Creates the file for a path, and returns whether it is beside the path for now. Anything at the
-// path that is no file is written directly.
+// Creates the file for a path, and returns whether it is beside the path for now. Anything at the path
+// that is no file is written directly.
 pub(crate) fn create_image_file<R: Files>(
     files: &R,
     paths: &mut ImagePaths,
@@ -140,8 +139,8 @@ pub(crate) fn create_image_file<R: Files>(
     create_by_state(files, paths, state_of_metadata(found))
 }
 
-// Moves the file beside a path to the path. If the system refuses that, as for a single file that
-// is mounted there, copies its bytes.
+// Moves the file beside a path to the path. If the system refuses that, as for a single file that is
+// mounted there, copies its bytes.
 pub(crate) fn move_to_path<R: Files>(files: &R, paths: &ImagePaths) -> io::Result<()> {
     let (beside, path) = (paths.beside.as_str(), paths.path.as_str());
     if fs::rename(files, beside, path).is_ok() {

@@ -28,11 +28,11 @@ pub struct ImageSummary {
     pub blocks: u32,
     /// Whether a loss of power left something to recover.
     pub recover: bool,
-    /// The superblock at the beginning of the root directory, if the profile is another than that
-    /// of `Profile::new`. A check then reports its version and its limits.
+    /// The superblock at the beginning of the root directory, if the profile is another than that of
+    /// `Profile::new`. A check then reports its version and its limits.
     pub superblock: Option<Superblock>,
-    /// The profile's `inline_max` in bytes, if it is less than an eighth of a block. A check
-    /// reports it if a file has more bytes inline.
+    /// The profile's `inline_max` in bytes, if it is less than an eighth of a block. A check reports it if
+    /// a file has more bytes inline.
     pub inline_max: Option<u32>,
     /// The rule of the writing profile that the image breaks. Without one the image may be changed.
     pub breach: Option<ProfileBreach>,
@@ -65,14 +65,13 @@ pub enum WrongNumber {
     BlockSize(u32),
     /// It states another number of blocks.
     BlockCount(u32),
-    /// It states a version that isn't accepted: the major number is in the upper 16 bits, the minor
-    /// one in the lower.
+    /// It states a version that isn't accepted: the major number is in the upper 16 bits, the minor one in
+    /// the lower.
     Version(u32),
 }
 
-/// The sizes with which an image is checked: those of a block, a page and the image in bytes, and
-/// the number of whole blocks. If there are more bytes than an image may have, `size` is one more
-/// than that.
+/// The sizes with which an image is checked: those of a block, a page and the image in bytes, and the
+/// number of whole blocks. If there are more bytes than an image may have, `size` is one more than that.
 #[derive(Clone, Copy, Debug, PartialEq, Eq, Drop)]
 pub struct GivenSizes {
     pub block_size: u32,

@@ -108,8 +108,7 @@ impl FoundThread {
         }
     }
 
-    // Returns the line of a later superblock: its wrong number, or that it differs from the first
-    // one.
+    // Returns the line of a later superblock: its wrong number, or that it differs from the first one.
     fn other_superblock_line(&self, pair: [u32; 2]) -> Result<String, AllocError> {
         let at = PairText(pair);
         if let Some(slot) = self.slot_at(pair, 0) {
@@ -121,9 +120,9 @@ impl FoundThread {
         format!(in self.alloc; "{at}, superblock: another one than in {first}")
     }
 
-    // Returns the line of two neighbours that aren't sorted in either order of names, or else of
-    // two that aren't with longer names first and two that aren't with shorter names first. The
-    // latter may be in another directory, which the rule `other` names.
+    // Returns the line of two neighbours that aren't sorted in either order of names, or else of two that aren't
+    // with longer names first and two that aren't with shorter names first. The latter may be in another
+    // directory, which the rule `other` names.
     fn names_line(&self, pair: [u32; 2], other: Violation) -> Result<String, AllocError> {
         let other = match other {
             Violation::Names { pair } => pair,
@@ -175,8 +174,7 @@ impl FoundThread {
         self.pairs.iter().copied().find(|p| p.contains(&block))
     }
 
-    // Returns the line of the other owner of a block in an entry's list: a pair, or the first other
-    // entry.
+    // Returns the line of the other owner of a block in an entry's list: a pair, or the first other entry.
     fn two_owners_line(
         &self,
         device: &mut RamDevice,

@@ -1,4 +1,4 @@
--- The operations that copy what was read, and how they end.
+-- The operations that copy entries into an image, and how they end.
 use Rattle.std.specs.Prelude.{ℕ, ◌≡◌, true, false, List, [], ◌∷◌, ◌++◌, Option, Some, None, Result, Ok, Err, All}
 use Rattle.std.specs.List.{flat_map}
 use Rattle.lfs_device.specs.declared.error.Error.{Error}
@@ -17,7 +17,7 @@ use Rattle.lfs_tool.specs.declared.entries.SourceEntry.{SourceEntry}
 
 -- ---- the operations
 
--- a folder is made before its entries
+-- the node of an entry; a folder is created empty, before its entries
 abbrev pub node_of_optional : Option (List ℕ) → Node
 node_of_optional None = DirectoryNode [] []
 node_of_optional (Some bytes) = FileNode [] bytes
@@ -29,9 +29,9 @@ entry_operations e = node_copies e.path.items (node_of_optional (optional_bytes_
 abbrev pub entries_operations : List SourceEntry → List Operation
 entries_operations entries = flat_map entry_operations entries
 
--- ---- a session that takes them
+-- ---- a session that runs them
 
--- no file is open, and the first number is free
+-- no file is open, so the next open returns the number 0
 abbrev pub AllFilesClosed : OpenFilesByNumber → Type 0
 AllFilesClosed [] = Unit {0}
 AllFilesClosed (None ∷ []) = Unit {0}
@@ -45,7 +45,7 @@ pub record HealthyWithoutFiles (at : SystemState) : Type 0 where
 
 -- ---- how they end
 
--- The operations in order, none of them refused.
+-- The operations are applied in order, and none of them is refused.
 pub record AreApplied (from : SystemState) (operations : List Operation) (to : SystemState) : Type 0 where
   pub replies : List Reply
   pub session_steps : AreSteps from operations replies to
@@ -65,7 +65,7 @@ abbrev pub AppliesUntilError : {X : Type 0} → SystemState → List Operation �
 AppliesUntilError from operations (Ok x) to = AreApplied from operations to
 AppliesUntilError from operations (Err e) to = RunsToError e from operations to
 
--- Of the operations in order, this is the first refusal.
+-- That refusal is the first one among the operations, in order.
 pub record IsFirstRefusal (from : SystemState) (operations : List Operation) (e : Error) : Type 0 where
   pub done : List Operation
   pub next : Operation

@@ -9,7 +9,8 @@ use std::alloc::{AllocError, Global};
 use std::io;
 use std::io::Write;
 
-// Adds bytes as a string. A byte that is no text gets the code that Python's surrogateescape gives it.
+// Adds bytes as a string. A byte that isn't part of UTF-8 text is written with the code of Python's
+// surrogateescape.
 fn push_string(text: &mut Vec<u8>, bytes: &[u8]) -> io::Result<()> {
     write!(text, "\"")?;
     for chunk in bytes.utf8_chunks() {
@@ -40,7 +41,7 @@ fn push_item(text: &mut Vec<u8>, item: &TreeItem) -> io::Result<()> {
     write!(text, "}}\n")
 }
 
-/// Returns an object for each item, a line each.
+/// Returns an object for each item, one a line.
 pub(crate) fn json_of_items(alloc: Global, items: &[TreeItem]) -> Result<Vec<u8>, AllocError> {
     let mut text = Vec::new(alloc);
     for item in items {
@@ -133,7 +134,8 @@ fn push_check(
     write!(text, "}}\n")
 }
 
-/// Returns one object: the result of a check, and how many bytes are behind the image if that is known.
+/// Returns one object: the result of a check, and the number of bytes behind the image if that is
+/// known.
 pub(crate) fn json_of_check(
     alloc: Global,
     checked: &CheckResult,

@@ -1,4 +1,4 @@
-// The files that runs have left beside an image, which were cut off as they made one.
+// Temporary files beside an image, left by runs that were cut off.
 
 use lfs_tool::NewImage;
 use std::fs::File;
@@ -6,22 +6,24 @@ use std::io::Write;
 use std::path::Path;
 use std::{fs, io};
 
-// What the name of such a file begins with.
+// The beginning of such a file's name.
 const START: &str = ".mklittlefs-";
 
-/// Makes the file of a new image. Until it is closed other runs know by a lock that it is no leftover.
+/// Creates the file of a new image, and locks it until it is closed. The lock tells other runs that it is
+/// no leftover.
 pub(crate) fn begin_new_image(image: &mut NewImage<'_, HostRuntime>) -> io::Result<()> {
     if image.file().is_none() {
         let _none = image.write(&[])?;
         if let Some(file) = image.file() {
-            // Where the system knows no locks, no leftover is removed.
+            // If the system has no locks, no leftover is removed.
             let _ = file.try_lock();
         }
     }
     Ok(())
 }
 
-// Removes a file, unless a run holds it. One without bytes may be another run's that is about to be locked.
+// Removes a file, unless another run has locked it. A file without bytes may be a run's that hasn't locked
+// it yet, and stays.
 fn remove_leftover(rt: &HostRuntime, path: Path<'_>) -> io::Result<()> {
     if fs::symlink_metadata(rt, path)?.is_file() {
         let file = File::open(rt, path)?;
@@ -42,7 +44,7 @@ fn remove_leftovers_in_folder(rt: &HostRuntime, folder: Path<'_>) -> io::Result<
     Ok(())
 }
 
-/// Removes what other runs have left beside an image. What can't be removed stays.
+/// Removes the temporary files that other runs left beside an image. A file that can't be removed stays.
 pub(crate) fn remove_leftovers(rt: &HostRuntime, image: &str) {
     let folder = match Path::new(image).parent() {
         Some(folder) if !folder.as_str().is_empty() => folder,

@@ -15,7 +15,7 @@ use lfs_fs::{OpenFlags, Session};
 use lfs_tool::{FilesAndBytes, FollowsProgress, SourceEntry};
 use std::alloc::Global;
 
-// Returns the flags of a file that is to be made.
+// Returns the flags with which a new file is opened.
 fn new_file_flags() -> OpenFlags
     ensures { flags_view result ≡ new_flags }
 {
@@ -38,7 +38,7 @@ fn create_file_in(
     session.close(alloc, fd)
 }
 
-// Makes a file with its bytes, or a folder without names.
+// Creates a file with its bytes, or an empty folder. Errors: those of the session's calls.
 fn copy_entry(
     alloc: Global,
     session: &mut Session<RamDevice>,
@@ -68,7 +68,8 @@ fn counts_of_entries(entries: &[SourceEntry]) -> FilesAndBytes {
     whole
 }
 
-// Copies the entries in order, up to the first that is refused.
+// Copies the entries in order, until one is refused, and reports the progress. Errors: the first
+// refusal, or `NoMemory`.
 pub(crate) fn copy_entries<F: FollowsProgress>(
     alloc: Global,
     session: &mut Session<RamDevice>,
@@ -83,7 +84,7 @@ pub(crate) fn copy_entries<F: FollowsProgress>(
     progress.begin(counts_of_entries(entries));
     for entry in entries {
         if let Err(error) = copy_entry(alloc, session, entry) {
-            // The device had no fault, so memory ran out where nothing was refused.
+            // The device had no fault, so if nothing was refused memory ran out.
             let _device = session.device();
             return Err(error);
         }

@@ -36,8 +36,8 @@ pub fn read_counter<D: BlockDevice>(session: &mut Session<D>, alloc: Global) -> 
     Ok(number_of(&bytes))
 }
 
-/// Sets the counter to `number`. If power is lost at any moment of the call, the next start reads
-/// the old number or this one. A counter that was never set is 0.
+/// Sets the counter to `number`. If power is lost at any moment of the call, the next start reads the old number or
+/// this one. A counter that was never set is 0.
 ///
 /// # Errors
 ///
@@ -61,8 +61,8 @@ pub fn set_counter<D: BlockDevice>(
     Ok(())
 }
 
-/// Raises the counter by one, and returns the new number. If power is lost at any moment of the
-/// call, the next start reads the old number or the new one.
+/// Raises the counter by one, and returns the new number. If power is lost at any moment of the call, the next start
+/// reads the old number or the new one.
 ///
 /// # Errors
 ///

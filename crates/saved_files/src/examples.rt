@@ -15,8 +15,7 @@ ghost use Rattle.saved_files.specs.Settings.{AreCutSaves, IsCutSave, IsEither, I
 ghost use Rattle.saved_files.specs.Counter.{CountsTo, RaisesTo, SetsTo, counter_in, number_of};
 ghost use Rattle.saved_files.specs.Log.{AreAppends, AreCutAppends, AreCutSessions, HasBeginning, HasBeginnings, IsDoneAppend};
 
-/// A session works on as long as it answers and isn't remounted. If it makes no call, a loss of
-/// power leaves its tree.
+/// A session works on as long as it answers and isn't remounted. If it makes no call, a loss of power leaves its tree.
 pub fn session_works_on_while_it_answers()
     ensures works { WorksOn fresh_state fresh_state }
     ensures failed { WorksOn fresh_state failed_state → ⊥ }
@@ -87,8 +86,7 @@ pub fn log_has_whole_entries()
     ensures other_order { HasBeginnings [] (((1 ∷ []) ∷ []) ∷ ((2 ∷ []) ∷ []) ∷ []) (2 ∷ 1 ∷ []) → ⊥ }
 {}
 
-/// Power may be lost before the first call of a save or an append. No number of losses leaves a
-/// disk without blocks.
+/// Power may be lost before the first call of a save or an append. No number of losses leaves a disk without blocks.
 pub fn saves_and_appends_may_be_cut()
     ensures save { IsCutSave small_image (codes "a") small_image }
     ensures saves { AreCutSaves small_image (codes "a" ∷ codes "b" ∷ []) small_image }

@@ -55,14 +55,14 @@ pub(crate) fn appending_flags() -> OpenFlags
         .union(OpenFlags::APPEND)
 }
 
-/// Opens a file, writes bytes, and closes it. If power is lost at any moment of the call, the next
-/// start finds the file from before the write, or from after it, whole, since the close commits the
-/// bytes at once. A file that is new may be empty then.
+/// Opens a file, writes bytes, and closes it. If power is lost at any moment of the call, the next start finds the file
+/// from before the write, or from after it, whole, since the close commits the bytes at once. A file that is new may be
+/// empty then.
 ///
 /// # Errors
 ///
-/// Those of `open`, `write` and `close`. After a refused write the file is still open, so the next
-/// write is refused with `Busy`.
+/// Those of `open`, `write` and `close`. After a refused write the file is still open, so the next write is refused
+/// with `Busy`.
 pub fn write_file<D: BlockDevice>(
     session: &mut Session<D>,
     alloc: Global,
@@ -82,8 +82,8 @@ pub fn write_file<D: BlockDevice>(
     Ok(())
 }
 
-/// Returns all bytes of a file. If power is lost at any moment of the call, the next start finds
-/// the same bytes there, and none if there were none.
+/// Returns all bytes of a file. If power is lost at any moment of the call, the next start finds the same bytes there,
+/// and none if there were none.
 ///
 /// # Errors
 ///

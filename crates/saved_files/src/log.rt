@@ -16,8 +16,8 @@ use lfs_device::{BlockDevice, Error};
 use lfs_fs::Session;
 use std::alloc::Global;
 
-/// Appends an entry to the log. If power is lost at any moment of the call, the next start finds
-/// the log without the entry, or with all of it.
+/// Appends an entry to the log. If power is lost at any moment of the call, the next start finds the log without the
+/// entry, or with all of it.
 ///
 /// # Errors
 ///
@@ -34,8 +34,8 @@ pub fn append_to_log<D: BlockDevice>(
     Ok(())
 }
 
-/// Power may be lost in one session after another. The next start finds a log with the first few
-/// entries of each session, and no part of an entry.
+/// Power may be lost in one session after another. The next start finds a log with the first few entries of each
+/// session, and no part of an entry.
 pub fn log_survives_any_losses()
     ensures once { (from : SystemState) (entries : List (List ℕ)) (to : SystemState) (s : SessionState) → AreAppends from entries to → from.state ≡ Healthy s
         → SurvivesWith (λ tree. HasBeginning (log_in s.tree) entries (log_in tree)) from to }

@@ -14,8 +14,7 @@ use lfs_device::{BlockDevice, Error, RamDevice};
 use lfs_fs::{Session, format};
 use std::alloc::Global;
 
-/// Saves settings. If power is lost at any moment of the call, the next start reads the old ones or
-/// these.
+/// Saves settings. If power is lost at any moment of the call, the next start reads the old ones or these.
 ///
 /// # Errors
 ///
@@ -55,8 +54,8 @@ pub fn format_and_save(
     Ok(session)
 }
 
-/// Power may be lost in one save after another. The next start finds the settings from before the
-/// first save, or those of one of the saves.
+/// Power may be lost in one save after another. The next start finds the settings from before the first save, or those
+/// of one of the saves.
 pub fn settings_survive_any_losses()
     ensures { (disk left : Disk) (old : Option (List ℕ)) (saves : List (List ℕ)) → StartsSafely (λ tree. settings_in tree ≡ old) disk → AreCutSaves disk saves left
         → StartsSafely (λ tree. (settings_in tree ≡ old) ⊎ IsOneOf saves (settings_in tree)) left }

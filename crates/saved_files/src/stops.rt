@@ -10,13 +10,12 @@ use lfs_device::{Error, FaultDevice, RamDevice, lemma_ram_premises};
 use lfs_fs::Session;
 use std::alloc::Global;
 
-/// Saves settings on a device that may stop in the call, and starts again on what is left: the
-/// settings are the old ones or these.
+/// Saves settings on a device that may stop in the call, and starts again on what is left: the settings are the old
+/// ones or these.
 ///
 /// # Errors
 ///
-/// `Invalid` if the device may have torn a call, since a torn program may leave any bytes. Those of
-/// [`start`].
+/// `Invalid` if the device may have torn a call, since a torn program may leave any bytes. Those of [`start`].
 pub fn save_and_start_again(
     alloc: Global,
     mut session: Session<FaultDevice<RamDevice>>,

@@ -12,7 +12,7 @@ use lfs_device::Error;
 use lfs_fs::OpenFlags;
 
 /// A handle on the open file `nodes[node]`: the offset at which its next read or write begins, in
-/// bytes, and whether it may read or write, and always writes at the file's end.
+/// bytes, and whether it may read, may write, and writes at the file's end alone.
 #[derive(Clone, Copy)]
 pub struct Handle {
     pub node: usize,

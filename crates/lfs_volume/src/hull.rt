@@ -3,8 +3,7 @@
 ghost use Rattle.std.specs.Prelude.{◌≡◌};
 ghost use Rattle.lfs_volume.specs.Hulls.{cut_hull, hull_with, resized_hull};
 
-/// The bytes of a file that may differ from the stored ones: those from the offset `from` up to,
-/// but without, the offset `end`.
+/// The range `from..end` of a file's bytes, in which they may differ from the stored ones.
 #[derive(Clone, Copy)]
 pub struct Hull {
     pub from: u32,

@@ -80,8 +80,8 @@ struct Choices<'a> {
 /// The reason why the words are no command line.
 #[derive(Debug, Drop, Error)]
 pub enum LineError {
-    /// The parser's own error. It is also returned for a text that is no number, for a request for help, and if memory
-    /// isn't granted.
+    /// The parser's own error. It is also returned if a numeric option's text is no number, for a request for help,
+    /// and if memory isn't granted.
     #[error(transparent)]
     Parser(clap::Error),
     /// None of the modes is given, or more than one is.
@@ -210,8 +210,8 @@ fn line_of_matches<'a>(matches: &ArgMatches<'a>, choices: Choices<'a>) -> Result
 /// and the limits are checked in each mode.
 ///
 /// # Errors
-/// `LineError::Parser` if the parser refuses the words, an option's text is no number, the words ask for help or for
-/// the version, or memory isn't granted. Otherwise the first of these that applies: `LineError::Modes` unless exactly
+/// `LineError::Parser` if the parser refuses the words, a numeric option's text is no number, the words ask for help or
+/// for the version, or memory isn't granted. Otherwise the first of these that applies: `LineError::Modes` unless exactly
 /// one mode is given, `LineError::Order` and `LineError::Board` for an unknown name, `LineError::Limit` for a limit
 /// that is 0 or too large, `LineError::Part` for `-b auto` or an offset if the mode writes an image,
 /// `LineError::Misuse` for another option that has no meaning in this command line.

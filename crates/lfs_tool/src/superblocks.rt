@@ -90,8 +90,8 @@ fn wrong_number_at(
 
 /// Returns the number in the superblock of block 0 or 1 that is wrong for these bytes, with blocks of that size in
 /// bytes: the size or number of blocks, or a version that isn't accepted. The superblock is found by its offset,
-/// without a checksum: its name and its struct are the first two entries of the block. So it is found even if the image
-/// has blocks of another size.
+/// without a checksum: its name and its struct are the first two entries of the block. So the block size by which the
+/// image was made needn't be known.
 ///
 /// Returns None exactly if no number of these two superblocks is wrong: a block that doesn't begin with a superblock
 /// has none. Blocks of no bytes have none either.

@@ -1,5 +1,5 @@
 -- What a failed call of a reader or a writer leaves.
-use Rattle.std.specs.Prelude.{◌≡◌, ◌≤◌, ℕ, Bool, true, List, Option, length, take}
+use Rattle.std.specs.Prelude.{◌≡◌, ◌≤◌, ℕ, Bool, true, false, List, Option, length, take}
 use Rattle.std.specs.Io.KnownBytes.{Appends}
 use Rattle.lfs_device.specs.declared.error.Error.{Error}
 use Rattle.lfs_device.specs.declared.error.Error.TheVariants.{NoMemory}
@@ -11,7 +11,7 @@ abbrev pub AppendsBeginning : Option (List ℕ) → Option (List ℕ) → List �
 AppendsBeginning old new bytes = (n : ℕ) × (n ≤ length bytes) × Appends old new (take n bytes)
 
 -- either the reader failed, or a growth was refused and the reader did not fail
-abbrev pub IsReaderError : ToolError → Bool → Bool → Type 0
-IsReaderError Input old new = new ≡ true
-IsReaderError Output old new = ⊥
-IsReaderError (Fs e) old new = (e ≡ NoMemory) × (new ≡ old)
+abbrev pub IsReaderError : ToolError → Bool → Type 0
+IsReaderError Input failed = failed ≡ true
+IsReaderError Output failed = ⊥
+IsReaderError (Fs e) failed = (e ≡ NoMemory) × (failed ≡ false)

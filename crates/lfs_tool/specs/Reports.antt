@@ -10,9 +10,9 @@ use Rattle.lfs_tool.specs.Streams.{has_failed, has_shown}
 abbrev pub ReportsFault : {X E : Type 0} → E → Bool → Bool → Result X E → Type 0
 ReportsFault e old new r = (IsErrOf r e → new ≡ true) × (¬ IsErrOf r e → new ≡ old)
 
--- `Output` comes exactly if the writer failed, of one that hadn't failed before. After any other error the writer is as it was.
+-- `Output` comes exactly if the writer failed. After any other error the writer is as it was.
 abbrev pub ReportsWriterFaults : {W X : Type 0} → Stream W → Stream W → Result X ToolError → Type 0
-ReportsWriterFaults old new (Ok x) = has_failed new ≡ has_failed old
+ReportsWriterFaults old new (Ok x) = has_failed new ≡ false
 ReportsWriterFaults old new (Err Output) = has_failed new ≡ true
 ReportsWriterFaults old new (Err e) = new ≡ old
 

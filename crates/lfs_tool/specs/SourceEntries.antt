@@ -67,9 +67,9 @@ AreSourceEntries known entries = (top : List (Name × Bool)) × (AreSortedFolder
 
 -- ---- faults
 
--- it has failed, perhaps before; or not, and this holds
-abbrev pub HasFaultOr : Bool → Bool → Type 0 → Type 0
-HasFaultOr old new other = (new ≡ true) ⊎ ((new ≡ old) × other)
+-- the last call failed; or it didn't, and this holds
+abbrev pub HasFaultOr : Bool → Type 0 → Type 0
+HasFaultOr failed other = (failed ≡ true) ⊎ ((failed ≡ false) × other)
 
 -- Names lead from one folder to another, each a folder's in the one before.
 abbrev pub IsFolderReached : TreeSource → List ℕ → List Name → List ℕ → Type 0

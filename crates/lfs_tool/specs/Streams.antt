@@ -6,7 +6,7 @@ use Rattle.lfs_tool.specs.declared.stream.Stream.{Stream}
 abbrev pub stream_inner : {T : Type 0} → Stream T → T
 stream_inner s = s.inner
 
--- whether a call of it has failed
+-- whether the last call failed
 abbrev pub has_failed : {T : Type 0} → Stream T → Bool
 has_failed s = is_some s.fault
 

@@ -1,4 +1,4 @@
-ghost use Rattle.std.specs.Prelude.{◌≡◌, ◌++◌, ◌∷◌, [], IfOk, IfSome, IsErrOf, OnOk, map, reverse, true};
+ghost use Rattle.std.specs.Prelude.{◌≡◌, ◌++◌, ◌∷◌, [], IfOk, IfSome, IsErrOf, OnOk, false, map, reverse, true};
 ghost use Rattle.lfs_model.specs.layers.Source.{HaveBadOrRepeated, source_names, path_in_folder};
 ghost use Rattle.lfs_tool.specs.SourceTrees.{IsUnchanged, is_folder, listed_view};
 ghost use Rattle.lfs_tool.specs.MemorySources.{optional_bytes_view};
@@ -51,10 +51,10 @@ fn sorted_names<S: Source>(
 ) -> Result<Vec<ListedName>, FileError>
     ensures names { IfOk result (λ v. AreSortedFolderNames (S.shown source.old) folder.now (map listed_view v.items)) }
     ensures shown { IsUnchanged (S.shown source.old) (S.shown source.new) }
-    ensures kept { OnOk result (S.has_failed source.new ≡ S.has_failed source.old) }
+    ensures kept { OnOk result (S.has_failed source.new ≡ false) }
     ensures fault { IsErrOf result FileError.Fault
-        → HasFaultOr (S.has_failed source.old) (S.has_failed source.new) (IfSome (S.shown source.old) (λ s. HaveBadOrRepeated (source_names (s.names folder.now)))) }
-    ensures no_memory { IsErrOf result FileError.NoMemory → S.has_failed source.new ≡ S.has_failed source.old }
+        → HasFaultOr (S.has_failed source.new) (IfSome (S.shown source.old) (λ s. HaveBadOrRepeated (source_names (s.names folder.now)))) }
+    ensures no_memory { IsErrOf result FileError.NoMemory → S.has_failed source.new ≡ false }
 {
     let mut names = source.list(alloc, folder)?;
     sort_names(&mut names);
@@ -103,10 +103,10 @@ fn push_folder_names<S: Source>(
     ensures within { OnOk result ((within : _) × (AreSortedFolderNames (S.shown source.old) folder.now within
         × (map waiting_view waiting.new.items ≡ map waiting_view waiting.old.items ++ reverse (paths_in_folder folder.now within)))) }
     ensures shown { IsUnchanged (S.shown source.old) (S.shown source.new) }
-    ensures kept { OnOk result (S.has_failed source.new ≡ S.has_failed source.old) }
+    ensures kept { OnOk result (S.has_failed source.new ≡ false) }
     ensures fault { IsErrOf result FileError.Fault
-        → HasFaultOr (S.has_failed source.old) (S.has_failed source.new) (IfSome (S.shown source.old) (λ s. HaveBadOrRepeated (source_names (s.names folder.now)))) }
-    ensures no_memory { IsErrOf result FileError.NoMemory → S.has_failed source.new ≡ S.has_failed source.old }
+        → HasFaultOr (S.has_failed source.new) (IfSome (S.shown source.old) (λ s. HaveBadOrRepeated (source_names (s.names folder.now)))) }
+    ensures no_memory { IsErrOf result FileError.NoMemory → S.has_failed source.new ≡ false }
 {
     let mut names = sorted_names(alloc, source, folder)?;
     names.reverse();
@@ -124,11 +124,11 @@ fn read_waiting_entry<S: Source>(
     ensures holds { IfOk result (λ bytes. (within : _) × (HasSourceContents (S.shown source.old) one.now.path.items (is_folder one.now.kind) (optional_bytes_view bytes) within
         × (map waiting_view waiting.new.items ≡ map waiting_view waiting.old.items ++ reverse (paths_in_folder one.now.path.items within)))) }
     ensures shown { IsUnchanged (S.shown source.old) (S.shown source.new) }
-    ensures kept { OnOk result (S.has_failed source.new ≡ S.has_failed source.old) }
+    ensures kept { OnOk result (S.has_failed source.new ≡ false) }
     ensures fault { IsErrOf result FileError.Fault
-        → HasFaultOr (S.has_failed source.old) (S.has_failed source.new)
+        → HasFaultOr (S.has_failed source.new)
         ((is_folder one.now.kind ≡ true) × IfSome (S.shown source.old) (λ s. HaveBadOrRepeated (source_names (s.names one.now.path.items)))) }
-    ensures no_memory { IsErrOf result FileError.NoMemory → S.has_failed source.new ≡ S.has_failed source.old }
+    ensures no_memory { IsErrOf result FileError.NoMemory → S.has_failed source.new ≡ false }
 {
     match one.kind {
         SourceKind::Folder => {
@@ -158,9 +158,9 @@ fn push_source_entry(entries: &mut Vec<SourceEntry>, entry: SourceEntry) -> Resu
 pub fn read_tree<S: Source>(alloc: Global, source: &mut S) -> Result<Vec<SourceEntry>, FileError>
     ensures entries { IfOk result (λ v. AreSourceEntries (S.shown source.old) v.items) }
     ensures shown { IsUnchanged (S.shown source.old) (S.shown source.new) }
-    ensures kept { OnOk result (S.has_failed source.new ≡ S.has_failed source.old) }
-    ensures fault { IsErrOf result FileError.Fault → HasFaultOr (S.has_failed source.old) (S.has_failed source.new) (IfSome (S.shown source.old) HasBadNames) }
-    ensures no_memory { IsErrOf result FileError.NoMemory → S.has_failed source.new ≡ S.has_failed source.old }
+    ensures kept { OnOk result (S.has_failed source.new ≡ false) }
+    ensures fault { IsErrOf result FileError.Fault → HasFaultOr (S.has_failed source.new) (IfSome (S.shown source.old) HasBadNames) }
+    ensures no_memory { IsErrOf result FileError.NoMemory → S.has_failed source.new ≡ false }
 {
     let mut entries = Vec::new(alloc);
     let mut waiting = Vec::new(alloc);

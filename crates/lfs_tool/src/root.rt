@@ -25,7 +25,8 @@ pub(crate) fn joined_path(
     Ok(full)
 }
 
-// A folder of the real file system, and whether a call there has met a fault. The first is noted in a log.
+// A folder of the real file system, and whether a call there has met a fault: a source's last one, or any of a target. The
+// first is noted in a log.
 #[derive(Drop)]
 pub(crate) struct Root<'a, R> {
     pub(crate) rt: &'a R,

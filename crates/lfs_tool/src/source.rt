@@ -1,4 +1,4 @@
-ghost use Rattle.std.specs.Prelude.{◌≡◌, Bool, IfOk, IfSome, IsErrOf, None, OnOk, Option, map, true};
+ghost use Rattle.std.specs.Prelude.{◌≡◌, Bool, IfOk, IfSome, IsErrOf, None, OnOk, Option, false, map, true};
 ghost use Rattle.lfs_model.specs.layers.Source as model;
 ghost use Rattle.lfs_tool.specs.SourceTrees.{IsUnchanged, listed_view};
 
@@ -32,7 +32,7 @@ pub trait Source {
     // The tree of the source, where it is known.
     ghost shown: { Self → Option model.TreeSource } = { λ _. None };
 
-    // Whether a call has met a fault.
+    // Whether the last call met a fault.
     ghost has_failed: { Self → Bool };
 
     /// Returns the names in a folder, in any order.
@@ -43,9 +43,9 @@ pub trait Source {
     fn list(&mut self, alloc: Global, folder: &[u8]) -> Result<Vec<ListedName>, FileError>
         ensures names { IfOk result (λ v. IfSome (shown self.old) (λ s. map listed_view v.items ≡ s.names folder.now)) }
         ensures shown { IsUnchanged (shown self.old) (shown self.new) }
-        ensures kept { OnOk result (has_failed self.new ≡ has_failed self.old) }
+        ensures kept { OnOk result (has_failed self.new ≡ false) }
         ensures fault { IsErrOf result FileError.Fault → has_failed self.new ≡ true }
-        ensures no_memory { IsErrOf result FileError.NoMemory → has_failed self.new ≡ has_failed self.old };
+        ensures no_memory { IsErrOf result FileError.NoMemory → has_failed self.new ≡ false };
 
     /// Returns the bytes of a file. `listed_len` is the length in its `ListedName`. The file may have become
     /// longer or shorter since, and all bytes that it has are returned.
@@ -56,7 +56,7 @@ pub trait Source {
     fn read(&mut self, alloc: Global, file: &[u8], listed_len: u64) -> Result<Vec<u8>, FileError>
         ensures bytes { IfOk result (λ v. IfSome (shown self.old) (λ s. v.items ≡ s.bytes file.now)) }
         ensures shown { IsUnchanged (shown self.old) (shown self.new) }
-        ensures kept { OnOk result (has_failed self.new ≡ has_failed self.old) }
+        ensures kept { OnOk result (has_failed self.new ≡ false) }
         ensures fault { IsErrOf result FileError.Fault → has_failed self.new ≡ true }
-        ensures no_memory { IsErrOf result FileError.NoMemory → has_failed self.new ≡ has_failed self.old };
+        ensures no_memory { IsErrOf result FileError.NoMemory → has_failed self.new ≡ false };
 }

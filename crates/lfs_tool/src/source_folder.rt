@@ -215,6 +215,7 @@ impl<'a, R: Files + AllocGlobal + Clone + Drop> Source for Folder<'a, R> {
     ghost has_failed = { λ s. s.root.has_failed };
 
     fn list(&mut self, alloc: Global, folder: &[u8]) -> Result<Vec<ListedName>, FileError> {
+        self.root.has_failed = false;
         match self.list_names(alloc, folder) {
             Ok(names) => Ok(names),
             Err(error) => Err(self.root.fail(folder, error)),
@@ -222,6 +223,7 @@ impl<'a, R: Files + AllocGlobal + Clone + Drop> Source for Folder<'a, R> {
     }
 
     fn read(&mut self, _alloc: Global, file: &[u8], listed_len: u64) -> Result<Vec<u8>, FileError> {
+        self.root.has_failed = false;
         match self.read_file_bytes(file, listed_len) {
             Ok(bytes) => Ok(bytes),
             Err(error) => Err(self.root.fail(file, error)),

@@ -15,7 +15,7 @@ use std::alloc::Global;
 pub struct MemorySource {
     /// The entry at each path, in any order.
     pub held: Vec<SourceEntry>,
-    // Whether a file was read that isn't there.
+    // Whether the last call read a file that isn't there.
     has_failed: bool,
 }
 
@@ -108,21 +108,22 @@ impl Source for MemorySource {
     fn list(&mut self, alloc: Global, folder: &[u8]) -> Result<Vec<ListedName>, FileError>
         ensures names { IfOk result (λ v. map listed_view v.items ≡ names_in_folder (map memory_view self.old.held.items) folder.now) }
         ensures held { self.new.held ≡ self.old.held }
-        ensures kept { self.new.has_failed ≡ self.old.has_failed }
+        ensures kept { self.new.has_failed ≡ false }
         ensures never { ¬ IsErrOf result FileError.Fault }
     {
-        let names = direct_names(alloc, self.held.as_slice(), folder)?;
-        Ok(names)
+        self.has_failed = false;
+        direct_names(alloc, self.held.as_slice(), folder)
     }
 
     fn read(&mut self, alloc: Global, file: &[u8], _listed_len: u64) -> Result<Vec<u8>, FileError>
         ensures bytes { IfOk result (λ v. file_bytes_at (map memory_view self.old.held.items) file.now ≡ Some v.items) }
         ensures held { self.new.held ≡ self.old.held }
-        ensures kept { OnOk result (self.new.has_failed ≡ self.old.has_failed) }
+        ensures kept { OnOk result (self.new.has_failed ≡ false) }
         ensures missing { IsErrOf result FileError.Fault → file_bytes_at (map memory_view self.old.held.items) file.now ≡ None }
         ensures fault { IsErrOf result FileError.Fault → self.new.has_failed ≡ true }
-        ensures no_memory { IsErrOf result FileError.NoMemory → self.new.has_failed ≡ self.old.has_failed }
+        ensures no_memory { IsErrOf result FileError.NoMemory → self.new.has_failed ≡ false }
     {
+        self.has_failed = false;
         for held in &self.held {
             if held.path.as_slice() == file {
                 if let Some(bytes) = &held.bytes {

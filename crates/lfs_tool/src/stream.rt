@@ -16,14 +16,15 @@ use std::io::{ErrorKind, Read, Write};
 // The most bytes that an image has.
 pub(crate) const IMAGE_MAX: usize = 268_435_456;
 
-/// A reader or a writer, and why it has failed. A call that a signal interrupted is made again, and is no failure.
+/// A reader or a writer, and why its last call failed, if it did. A call that a signal interrupted is made again, and is
+/// no failure.
 ///
 /// std's traits have no word for a call that failed. So two facts are read in the code here, and not proved: that std's
 /// call is made, and that a fault is kept only where the call failed. Callers can't change what a stream keeps.
 #[derive(Drop)]
 pub struct Stream<T> {
     inner: T,
-    // Why a call failed, the last that did.
+    // Why the last call failed.
     fault: Option<ErrorKind>,
     // Whether a value was shown.
     has_shown: bool,
@@ -57,7 +58,7 @@ impl<T> Stream<T> {
         self.inner
     }
 
-    /// Returns why a call failed, the last that did.
+    /// Returns why the last call failed, if it did.
     pub fn fault(&self) -> Option<ErrorKind>
         ensures { is_some result ≡ has_failed self.now }
     {
@@ -90,9 +91,10 @@ pub fn read_image<R: Read>(
     ensures bytes { IfOk result (λ v. IfSome (R.remaining (stream_inner image.old)) (λ bytes. v.items ≡ take (IMAGE_MAX + 1) bytes)) }
     ensures bound { IfOk result (λ v. length v.items ≤ IMAGE_MAX + 1) }
     ensures read { OnOk result (IsReadToEnd (R.remaining (stream_inner image.old)) (R.remaining (stream_inner image.new))) }
-    ensures kept { OnOk result (has_failed image.new ≡ has_failed image.old) }
-    ensures err { IfErr result (λ e. IsReaderError e (has_failed image.old) (has_failed image.new)) }
+    ensures kept { OnOk result (has_failed image.new ≡ false) }
+    ensures err { IfErr result (λ e. IsReaderError e (has_failed image.new)) }
 {
+    image.fault = None;
     let mut bytes = Vec::with_capacity(alloc, expected.min(IMAGE_MAX + 1))?;
     let mut buffer = [0u8; 65536];
     while bytes.len() <= IMAGE_MAX {
@@ -136,9 +138,10 @@ fn read_part<R: Read>(image: &mut Stream<R>, buf: &mut [u8]) -> Result<usize, To
 pub fn write_and_flush<W: Write>(out: &mut Stream<W>, bytes: &[u8]) -> Result<(), ToolError>
     ensures ok { OnOk result (Appends (W.contents (stream_inner out.old)) (W.contents (stream_inner out.new)) bytes.now) }
     ensures beginning { AppendsBeginning (W.contents (stream_inner out.old)) (W.contents (stream_inner out.new)) bytes.now }
-    ensures kept { OnOk result (has_failed out.new ≡ has_failed out.old) }
+    ensures kept { OnOk result (has_failed out.new ≡ false) }
     ensures failed { OnErr result ((result ≡ Err ToolError.Output) × (has_failed out.new ≡ true)) }
 {
+    out.fault = None;
     write_bytes(out, bytes)?;
     flush(out)
 }
@@ -189,9 +192,10 @@ fn flush<W: Write>(out: &mut Stream<W>) -> Result<(), ToolError>
 pub(crate) fn show<W: Write, D: Display>(out: &mut Stream<W>, value: &D) -> Result<(), ToolError>
     ensures text { OnOk result (IfSome (D.output value.now) (Appends (W.contents (stream_inner out.old)) (W.contents (stream_inner out.new)))) }
     ensures shown { OnOk result (has_shown out.new ≡ true) }
-    ensures kept { OnOk result (has_failed out.new ≡ has_failed out.old) }
+    ensures kept { OnOk result (has_failed out.new ≡ false) }
     ensures failed { OnErr result ((result ≡ Err ToolError.Output) × (has_failed out.new ≡ true)) }
 {
+    out.fault = None;
     if let Err(error) = write!(out.inner, "{value}") {
         return Err(out.fail(error.kind(), ToolError::Output));
     }

@@ -1,5 +1,5 @@
 -- What is made of a source, and why nothing is.
-use Rattle.std.specs.Prelude.{ℕ, ◌≡◌, ◌*◌, Bool, List, length, Option, Result, Err, IfSome}
+use Rattle.std.specs.Prelude.{ℕ, ◌≡◌, ◌*◌, Bool, false, List, length, Option, Result, Err, IfSome}
 use Rattle.std.specs.Io.KnownBytes.{Appends}
 use Rattle.lfs_model.specs.format.Disk.{IsWholeImage, block_count, disk_of_image}
 use Rattle.lfs_model.specs.tree.Fresh.{IsFreshDisk, empty_tree}
@@ -86,8 +86,8 @@ HasWrittenImage geometry order entries old new = (image : List ℕ) × (AreImage
 abbrev pub HasWrittenBeginning : Geometry → NameOrder → List SourceEntry → Option (List ℕ) → Option (List ℕ) → Type 0
 HasWrittenBeginning geometry order entries old new = (image : List ℕ) × (AreImageBytes geometry order entries image × (ShowsItsSource geometry order entries image × AppendsBeginning old new image))
 
--- `Input` comes if the source has failed, or if it hasn't and a folder in it has bad names. After any other result it has failed
--- only if it had before.
-abbrev pub ReportsSourceFaults : {X : Type 0} → Bool → Bool → Option TreeSource → Result X ToolError → Type 0
-ReportsSourceFaults old new known (Err Input) = HasFaultOr old new (IfSome known HasBadNames)
-ReportsSourceFaults old new known other = new ≡ old
+-- `Input` comes if the source's last call failed, or if it didn't and a folder in it has bad names. After any other result it
+-- didn't fail.
+abbrev pub ReportsSourceFaults : {X : Type 0} → Bool → Option TreeSource → Result X ToolError → Type 0
+ReportsSourceFaults failed known (Err Input) = HasFaultOr failed (IfSome known HasBadNames)
+ReportsSourceFaults failed known other = failed ≡ false

@@ -26,7 +26,7 @@ pub fn read_source_entries<S: Source>(
     source: &mut S,
 ) -> Result<Vec<SourceEntry>, ToolError>
     ensures entries { IfOk result (λ v. AreSourceEntries (S.shown source.old) v.items) }
-    ensures source { ReportsSourceFaults (S.has_failed source.old) (S.has_failed source.new) (S.shown source.old) result }
+    ensures source { ReportsSourceFaults (S.has_failed source.new) (S.shown source.old) result }
     ensures other { IfErr result (λ e. e ≢ ToolError.Input → e ≡ ToolError.Fs Error.NoMemory) }
 {
     match read_tree(alloc, source) {

@@ -30,7 +30,7 @@ returns-in_err-bytes-clause-fault g c = λ e.
     let p = waiting_view c.in-Some.one in
     let popped : map waiting_view c.loop.waiting.items ≡ front ++ p ∷ [] = ap (map waiting_view) c.in-Some.ensures.items ∙ map-append waiting_view c.pop.new.self.items (c.in-Some.one ∷ []) in
     either _ _ _ _ (λ h. h)
-    (λ bad. (bad.0 ∙ c.loop.invariant.kept, bad_below known (g.S.Source.shown c.loop.source) front p (subst (AreFolders known) popped c.loop.invariant.folders) c.loop.invariant.shown bad.1.0 bad.1.1))
+    (λ bad. (bad.0, bad_below known (g.S.Source.shown c.loop.source) front p (subst (AreFolders known) popped c.loop.invariant.folders) c.loop.invariant.shown bad.1.0 bad.1.1))
     (c.in_err-bytes.ensures.fault (ap Err (same_error c.from_residual-in_err-bytes.result _ _ c.from_residual-in_err-bytes.ensures.1 e)))
 
 pub loop-preserved : goal.loop-preserved
@@ -48,5 +48,5 @@ loop-preserved g c =
           (subst (λ ps. Goes known ps c.loop.entries.items) popped c.loop.invariant.goes) refl holds read.1.1 c.in_ok-push_source_entry.ensures.entries;
       folders = folders_on known front p places (optional_bytes_view c.in_ok-bytes.bytes) read.0 (subst (AreFolders known) popped c.loop.invariant.folders) holds read.1.1;
       shown = rests_both known now (g.S.Source.shown c.read_waiting_entry.new.source) c.loop.invariant.shown c.in_ok-bytes.ensures.shown;
-      kept = c.in_ok-bytes.ensures.kept ∙ c.loop.invariant.kept;
+      kept = c.in_ok-bytes.ensures.kept;
     }

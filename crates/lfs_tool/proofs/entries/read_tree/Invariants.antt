@@ -1,4 +1,4 @@
-use Rattle.std.proofs.Common.{◌≡◌, map}
+use Rattle.std.proofs.Common.{◌≡◌, false, map}
 use Rattle.lfs_tool.specs.SourceTrees.{IsUnchanged}
 use Rattle.lfs_tool.specs.SourceEntries.{waiting_view}
 use Rattle.lfs_tool.proofs.Reading.{AreFolders, Goes}
@@ -9,5 +9,5 @@ invariant-loop g l = record {
   goes : Goes (g.S.Source.shown l.fn.source) (map waiting_view l.waiting.items) l.entries.items;
   folders : AreFolders (g.S.Source.shown l.fn.source) (map waiting_view l.waiting.items);
   shown : IsUnchanged (g.S.Source.shown l.fn.source) (g.S.Source.shown l.source);
-  kept : g.S.Source.has_failed l.source ≡ g.S.Source.has_failed l.fn.source;
+  kept : g.S.Source.has_failed l.source ≡ false;
 }

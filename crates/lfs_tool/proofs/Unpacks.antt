@@ -1,6 +1,6 @@
 -- What is done of an image that is unpacked.
-use Rattle.std.proofs.Common.{ℕ, ◌≡◌, ◌⊎◌, ◌∙◌, inl, inr, List, [], ◌∷◌, Option, Some, None, Result, Ok, Err, ap, ap₂, map, refl, subst, sym, take}
-use Rattle.std.specs.Prelude.{◌≢◌, IfErr, IfSome, OnErr, Bool}
+use Rattle.std.proofs.Common.{ℕ, ◌≡◌, ◌⊎◌, ◌∙◌, inl, inr, List, [], ◌∷◌, Option, Some, None, ap, ap₂, map, refl, subst, sym, take}
+use Rattle.std.specs.Prelude.{◌≢◌, IfSome, Bool}
 use Rattle.lfs_tool.specs.declared.image_layout.ImageLayout.{ImageLayout}
 use Rattle.lfs_tool.proofs.Common.{Disk, IsWholeImage, disk_of_image, ordered_disk, UnpackingAction, PathNode, Branch, Ctz, Inline, Struct, Pair, Node, HasDiskView, IsAccepted, IsFormedList, disk_view, AreTreeItems, AreWalkItems, PathStruct, IsTreeItem, IsStructNode, RefusesToList, HaveFormedLists, ActionsPartlyDone, HasDoneActions, place_action, place_actions}
 use Rattle.lfs_model.specs.layers.Listing.{node_action, entry_action}
@@ -10,7 +10,7 @@ use Rattle.lfs_device.specs.declared.error.Error.TheVariants.{Corrupt, Invalid, 
 use Rattle.lfs_device.specs.declared.error.Error.{Error}
 use Rattle.lfs_tool.specs.declared.errors.ToolError.{ToolError}
 use Rattle.lfs_tool.specs.declared.errors.ToolError.TheVariants.{Fs, Output}
-use Rattle.lfs_tool.specs.Unpackings.{FailsUnpackingDisk, FailsUnpackingImage, DiskPartlyUnpacked, ImagePartlyUnpacked, HasUnpackedDisk, HasUnpackedImage, UnpackDisk, ReportsTargetFaults, UnpackImage, struct_action}
+use Rattle.lfs_tool.specs.Unpackings.{FailsUnpackingDisk, FailsUnpackingImage, DiskPartlyUnpacked, ImagePartlyUnpacked, HasUnpackedDisk, HasUnpackedImage, UnpackDisk, IsTargetError, UnpackImage, struct_action}
 
 -- ---- what was found of a tree unpacks it
 
@@ -55,12 +55,10 @@ module _ (disk now : Disk) (order : NameOrder) (ps : List Pair) (places : List P
   pub begun_of : (old new : Option (List UnpackingAction)) → ActionsPartlyDone old new (place_actions now places) → DiskPartlyUnpacked disk old new
   begun_of old new h = (place_actions (ordered_disk order disk) places, (unpacks, subst (λ d. ActionsPartlyDone old new (place_actions d places)) same h))
 
-pub fails_begun : {X : Type 0} (disk : Disk) (old new : Option (List UnpackingAction)) (was now : Bool) (r : Result X ToolError) (begun : Type 0) → OnErr r begun → (begun → DiskPartlyUnpacked disk old new)
-    → ReportsTargetFaults was now r → IfErr r (FailsUnpackingDisk disk old new)
-fails_begun disk old new was now (Ok x) begun h to reports = tt
-fails_begun disk old new was now (Err Output) begun h to reports = to h
-fails_begun disk old new was now (Err (Fs NoMemory)) begun h to reports = inr (to h)
-fails_begun disk old new was now (Err e) begun h to reports = absurd reports
+pub fails_begun : (disk : Disk) (old new : Option (List UnpackingAction)) (was now : Bool) (e : ToolError) → DiskPartlyUnpacked disk old new → IsTargetError was now e → FailsUnpackingDisk disk old new e
+fails_begun disk old new was now Output begun reports = begun
+fails_begun disk old new was now (Fs NoMemory) begun reports = inr begun
+fails_begun disk old new was now e begun reports = absurd reports
 
 -- ---- of an image
 

@@ -2,7 +2,9 @@
 use Rattle.std.specs.Prelude.{ℕ, ◌≡◌, ◌⊎◌, ◌++◌, Bool, true, List, Option, Some, None, Result, Ok, Err, map, take}
 use Rattle.std.specs.List.{AllByRecursion}
 use Rattle.lfs_tool.specs.declared.image_layout.ImageLayout.{ImageLayout}
-use Rattle.lfs_model.specs.format.Disk.{Disk, IsWholeImage}
+use Rattle.lfs_model.specs.format.Disk.{Disk, IsWholeImage, ordered_disk}
+use Rattle.lfs_lookup.specs.Searchable.{CanSearchFromRoot}
+use Rattle.lfs_tool.specs.declared.image_devices.MountedImage.{MountedImage}
 use Rattle.lfs_model.specs.tree.View.{IsFormedList, DiskView}
 use Rattle.lfs_model.specs.format.Slots.{Struct, Inline, Ctz, Branch}
 use Rattle.lfs_model.specs.layers.Listing.{UnpackingAction, Unpack, MakeDirectory, PutFile}
@@ -22,6 +24,15 @@ UnpackDisk disk actions = (view : DiskView) × (IsEitherView disk view × Unpack
 -- the bytes are an image that these actions unpack
 abbrev pub UnpackImage : ImageLayout → List ℕ → List UnpackingAction → Type 0
 UnpackImage layout image actions = IsWholeImage layout.block_size layout.page image × ((view : DiskView) × (IsImageView layout image view × Unpack view.tree actions))
+
+-- its thread can be searched from the root
+abbrev pub CanFindAttributes : MountedImage → Type 0
+CanFindAttributes image = CanSearchFromRoot image.thread image.root
+
+-- the image of the disk is mounted still, in its order of names
+pub record IsMountedStill (disk : Disk) (image : MountedImage) : Type 0 where
+  pub disk_is : image.thread.kept.disk ≡ ordered_disk image.thread.kept.disk.order disk
+  pub can : CanFindAttributes image
 
 -- these actions more were done, where what was done is known
 abbrev pub HasDoneActions : Option (List UnpackingAction) → Option (List UnpackingAction) → List UnpackingAction → Type 0

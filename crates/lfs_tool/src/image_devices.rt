@@ -7,12 +7,17 @@ ghost use Rattle.lfs_model.specs.format.Disk.{IsWholeImage, disk_of_image};
 ghost use Rattle.lfs_model.specs.format.Geometry.{IsValidGeometry};
 ghost use Rattle.lfs_model.specs.declared.order.NameOrder.TheVariants.{LongerFirst};
 ghost use Rattle.lfs_tool.specs.Listings.{IsWalkedThread, IsMountError};
+ghost use Rattle.lfs_tool.specs.Unpackings.{CanFindAttributes};
+ghost use Rattle.lfs_lookup.specs.AttributeAt.{IsAttribute};
 ghost use Rattle.lfs_lookup.specs.TreeWalk.{tree_items_view};
+ghost use Rattle.lfs_model.specs.format.Thread.{count_before_root};
+ghost use Rattle.lfs_model.specs.session.TreeEdits.{node_attributes_of};
+ghost use Rattle.lfs_model.specs.tree.Shown.{disk_tree};
 
 use crate::stream::IMAGE_MAX;
 use crate::{ImageLayout, geometry_of_sizes};
 use lfs_device::{Error, Geometry, RamDevice};
-use lfs_lookup::{TreeItem, walk_tree};
+use lfs_lookup::{Path, TreeItem, find_attribute, walk_tree};
 use lfs_mount::mount_image;
 use lfs_thread::Thread;
 use std::alloc::Global;
@@ -44,20 +49,59 @@ pub fn ram_device_of(image: Vec<u8>, layout: ImageLayout) -> Result<RamDevice, E
     RamDevice::from_bytes(geometry, image)
 }
 
-// Returns the thread of an image that is accepted in one of the orders of names, and all its entries.
-pub(crate) fn tree_items_of(
-    alloc: Global,
-    device: RamDevice,
-) -> Result<(Thread<RamDevice>, Vec<TreeItem>), Error>
-    ensures items { IfOk result (λ found. IsWalkedThread (shown (ram_geometry device) (ram_blocks device)) found.0 (tree_items_view found.1.items)) }
+/// An accepted image that is mounted, and all its files and directories.
+#[derive(Drop)]
+pub struct MountedImage {
+    pub(crate) thread: Thread<RamDevice>,
+    // The number of the root directory's first pair.
+    pub(crate) root: usize,
+    /// In the order of `items_of_image`.
+    pub items: Vec<TreeItem>,
+}
+
+impl MountedImage {
+    /// Returns an attribute of the file or the directory at a path, if there is one with that attribute.
+    ///
+    /// # Errors
+    /// `NoMemory` if memory isn't granted.
+    pub fn attribute(
+        &mut self,
+        alloc: Global,
+        path: &Path<'_>,
+        kind: u8,
+    ) -> Result<Option<Vec<u8>>, Error>
+        requires { CanFindAttributes self.old }
+        ensures is { IfOk result (IsAttribute kind (node_attributes_of (disk_tree self.old.thread.kept.disk self.old.thread.kept.pairs path.now))) }
+        ensures can { CanFindAttributes self.new }
+        ensures err { IfErr result (λ e. e ≡ Error.NoMemory) }
+    {
+        match find_attribute(alloc, &mut self.thread, self.root, path, kind) {
+            Ok(found) => Ok(found.bytes),
+            Err(error) => {
+                // The device had no fault, so memory ran out.
+                let _device = self.thread.device();
+                Err(error)
+            }
+        }
+    }
+}
+
+// Mounts an image in one of the orders of names, and walks its tree.
+pub(crate) fn mount_and_walk(alloc: Global, device: RamDevice) -> Result<MountedImage, Error>
+    ensures items { IfOk result (λ m. IsWalkedThread (shown (ram_geometry device) (ram_blocks device)) m.thread (tree_items_view m.items.items)) }
+    ensures root { IfOk result (λ m. m.root ≡ count_before_root m.thread.kept.pairs) }
     ensures err { IfErr result (IsMountError (shown (ram_geometry device) (ram_blocks device))) }
 {
-    let mut thread = match mount_image(alloc, device) {
-        Ok(image) => image.thread,
+    let (mut thread, root) = match mount_image(alloc, device) {
+        Ok(image) => (image.thread, image.findings.root),
         Err((_device, error)) => return Err(error),
     };
     match walk_tree(alloc, &mut thread) {
-        Ok(items) => Ok((thread, items)),
+        Ok(items) => Ok(MountedImage {
+            thread,
+            root,
+            items,
+        }),
         Err(error) => {
             // The device had no fault, so memory ran out.
             let _device = thread.device();

@@ -63,7 +63,7 @@ pub use fault_log::{FaultLog, PathFault};
 pub use file_error::FileError;
 pub use folder_rules::{FolderRules, Links};
 pub use image_checks::check;
-pub use image_devices::ram_device_of;
+pub use image_devices::{MountedImage, ram_device_of};
 pub use image_layout::{ImageLayout, geometry_of_sizes};
 pub use judgement::judge_device;
 pub use lfs_lookup::{OwnedStruct, TreeItem, push_escaped_path};

@@ -9,7 +9,7 @@ ghost use Rattle.lfs_tool.specs.Reports.{ReportsWriterFaults};
 ghost use Rattle.lfs_tool.specs.Streams.{stream_inner};
 ghost use Rattle.lfs_tool.specs.Listings.{IsImageListing, IsImageWalk, IsMountError, IsWalkedThread, RefusesToList};
 
-use crate::image_devices::{ram_device_of, tree_items_of};
+use crate::image_devices::{mount_and_walk, ram_device_of};
 use crate::lines::tree_item_lines;
 use crate::stream::{Stream, write_and_flush};
 use crate::{ImageLayout, ToolError};
@@ -22,8 +22,8 @@ fn items_of_ram(alloc: Global, device: RamDevice) -> Result<Vec<TreeItem>, Error
     ensures items { IfOk result (λ items. (t : ThreadView) × IsWalkedThread (shown (ram_geometry device) (ram_blocks device)) t (tree_items_view items.items)) }
     ensures err { IfErr result (IsMountError (shown (ram_geometry device) (ram_blocks device))) }
 {
-    match tree_items_of(alloc, device) {
-        Ok((_thread, items)) => Ok(items),
+    match mount_and_walk(alloc, device) {
+        Ok(image) => Ok(image.items),
         Err(error) => Err(error),
     }
 }

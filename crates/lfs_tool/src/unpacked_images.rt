@@ -5,15 +5,16 @@ ghost use Rattle.lfs_device.specs.RamDevice.{ram_blocks, ram_geometry};
 ghost use Rattle.lfs_device.specs.DeviceDisk.{disk_of_blocks as shown};
 ghost use Rattle.lfs_model.specs.tree.View.{IsFormedList};
 ghost use Rattle.lfs_tool.specs.Actions.{AddsAction};
-ghost use Rattle.lfs_tool.specs.Unpackings.{HaveFormedLists, FailsUnpackingDisk, FailsUnpackingImage, ActionsPartlyDone, HasDoneActions, HasUnpackedDisk, HasUnpackedImage, ReportsTargetFaults, place_action, place_actions};
+ghost use Rattle.lfs_tool.specs.Unpackings.{HaveFormedLists, FailsUnpackingDisk, FailsUnpackingImage, IsMountedStill, ActionsPartlyDone, HasDoneActions, HasUnpackedDisk, HasUnpackedImage, ReportsTargetFaults, place_action, place_actions};
 ghost use Rattle.lfs_thread.specs.ThreadSteps.{OnlyReadsThread};
 ghost use Rattle.lfs_lookup.specs.FileBytes.{struct_file_bytes};
 ghost use Rattle.lfs_lookup.specs.Items.{owned_view};
 ghost use Rattle.lfs_lookup.specs.TreeWalk.{tree_item_view, tree_items_view};
 ghost use Rattle.lfs_tool.specs.Reports.{ReportsFault};
-ghost use Rattle.lfs_model.specs.format.Disk.{Disk};
+ghost use Rattle.lfs_model.specs.format.Disk.{Disk, disk_of_image};
+ghost use Rattle.lfs_model.specs.declared.order.NameOrder.TheVariants.{LongerFirst};
 
-use crate::image_devices::{ram_device_of, tree_items_of};
+use crate::image_devices::{MountedImage, mount_and_walk, ram_device_of};
 use crate::{FileError, FilesAndBytes, FollowsProgress, ImageLayout, Target, ToolError};
 use lfs_device::{Error, RamDevice};
 use lfs_lookup::{OwnedStruct, TreeItem, read_struct_bytes};
@@ -118,6 +119,7 @@ fn unpack_tree_items<T: Target, F: FollowsProgress>(
     requires lists { HaveFormedLists thread.old.kept.disk (tree_items_view items.now) }
     ensures done { OnOk result (HasDoneActions (T.done target.old) (T.done target.new) (place_actions thread.old.kept.disk (tree_items_view items.now))) }
     ensures begun { OnErr result (ActionsPartlyDone (T.done target.old) (T.done target.new) (place_actions thread.old.kept.disk (tree_items_view items.now))) }
+    ensures only { OnOk result ((OnlyReadsThread thread.old.kept thread.new.kept) × (thread.new.failed ≡ false)) }
     ensures reports { ReportsTargetFaults (T.has_failed target.old) (T.has_failed target.new) result }
 {
     progress.begin(counts_of_items(items));
@@ -133,21 +135,26 @@ fn unpack_ram_device<T: Target, F: FollowsProgress>(
     device: RamDevice,
     target: &mut T,
     progress: &mut F,
-) -> Result<(), ToolError>
+) -> Result<MountedImage, ToolError>
     ensures done { OnOk result (HasUnpackedDisk (shown (ram_geometry device) (ram_blocks device)) (T.done target.old) (T.done target.new)) }
+    ensures mounted { IfOk result (IsMountedStill (shown (ram_geometry device) (ram_blocks device))) }
     ensures failed { IfErr result (FailsUnpackingDisk (shown (ram_geometry device) (ram_blocks device)) (T.done target.old) (T.done target.new)) }
     ensures output { ReportsFault ToolError.Output (T.has_failed target.old) (T.has_failed target.new) result }
 {
-    match tree_items_of(alloc, device) {
-        Ok((mut thread, items)) => unpack_tree_items(alloc, &mut thread, &items, target, progress),
-        Err(error) => Err(ToolError::Fs(error)),
+    let mut image = match mount_and_walk(alloc, device) {
+        Ok(image) => image,
+        Err(error) => return Err(ToolError::Fs(error)),
+    };
+    match unpack_tree_items(alloc, &mut image.thread, &image.items, target, progress) {
+        Ok(()) => Ok(image),
+        Err(error) => Err(error),
     }
 }
 
 /// Unpacks an image into a target: one action for each file and directory, in the order of `items_of_image`. A directory
 /// is made, and a file is put with its bytes. Nothing is done before the image is known to be good. After an error the
 /// actions that were done are a beginning of those that the image wants. `progress` is told the files and bytes of the
-/// whole, and of each entry that is done.
+/// whole, and of each entry that is done. The image comes back mounted.
 ///
 /// # Errors
 /// - `Fs` with each error of `items_of_image`.
@@ -158,8 +165,9 @@ pub fn unpack<T: Target, F: FollowsProgress>(
     layout: ImageLayout,
     target: &mut T,
     progress: &mut F,
-) -> Result<(), ToolError>
+) -> Result<MountedImage, ToolError>
     ensures done { OnOk result (HasUnpackedImage layout image.items (T.done target.old) (T.done target.new)) }
+    ensures mounted { IfOk result (IsMountedStill (disk_of_image layout.block_size layout.page layout.profile LongerFirst image.items)) }
 
     // Nothing is done, or a beginning of the actions, if the target failed or memory ran out.
     ensures failed { IfErr result (FailsUnpackingImage layout image.items (T.done target.old) (T.done target.new)) }

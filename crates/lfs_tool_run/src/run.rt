@@ -5,14 +5,14 @@ use crate::creation::create;
 use crate::explain::{write_explanation, write_modes};
 use crate::files::{Host, NotedWriter};
 use crate::lists::{check_image, list_image};
-use crate::parts::{ImagePart, read_part};
-use crate::session::{cat_file, change_image, mount_image};
+use crate::parts::read_part;
+use crate::session::{cat_file, change_image};
 use crate::times::{set_times, times_in_image};
 use lfs_device::{Error, Geometry};
 use lfs_tool::{
     Extras, Fault, Folder, FolderRules, ImageLayout, Line, LineError, Links, Mode, ProgressLine,
-    Request, SourceEntry, Stream, Target, TargetFolder, ToolError, geometry_of_sizes,
-    ram_device_of, read_request, report, target_tool_error, unpack, write_and_flush,
+    Request, SourceEntry, Stream, Target, TargetFolder, ToolError, geometry_of_sizes, read_request,
+    report, target_tool_error, unpack, write_and_flush,
 };
 use std::io;
 use std::io::{ErrorKind, IsTerminal, Stderr, Write};
@@ -77,26 +77,19 @@ fn create_image(
 // Unpacks the line's image into a folder, and sets the times there if these are wanted.
 fn unpack_image(host: Host<'_>, line: &Line<'_>, folder: &str) -> Result<(), ToolError> {
     let alloc = host.alloc();
-    let ImagePart {
-        mut bytes,
-        layout,
-        behind: _,
-        rest: _,
-    } = read_part(host, line)?;
-    let mut times = Vec::new(alloc);
-    if host.times {
-        let mut session = mount_image(host, ram_device_of(bytes, layout)?)?;
-        times = times_in_image(host, &mut session)?;
-        bytes = session.unmount().to_bytes();
-    }
+    let part = read_part(host, line)?;
     let mut target = TargetFolder::new(host.rt, host.log, folder)?;
     let mut progress = progress_at_terminal(host.rt);
-    unpack(alloc, bytes, layout, &mut target, &mut progress)?;
+    let mut image = unpack(alloc, part.bytes, part.layout, &mut target, &mut progress)?;
     // An empty image has no action that makes the folder.
     if let Err(error) = target.make_folder(alloc, b"") {
         return Err(target_tool_error(error));
     }
-    set_times(host, folder, times.as_slice())
+    if host.times {
+        let times = times_in_image(host, &mut image)?;
+        set_times(host, folder, times.as_slice())?;
+    }
+    Ok(())
 }
 
 // Does what a line requests. Returns false where an image was checked that isn't accepted, and else true.

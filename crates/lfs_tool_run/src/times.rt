@@ -1,10 +1,11 @@
 // The times at which files and folders were modified, kept as attributes in an image.
 
+ghost use Rattle.lfs_tool.specs.Unpackings.{CanFindAttributes};
+
 use crate::files::Host;
 use crate::session::RamSession;
-use lfs_device::Error;
-use lfs_fs::Kind;
-use lfs_tool::{SourceEntry, ToolError};
+use lfs_lookup::Path;
+use lfs_tool::{MountedImage, SourceEntry, ToolError};
 use std::alloc::AllocError;
 use std::fs::File;
 use std::io;
@@ -12,35 +13,6 @@ use std::time::{Duration, UNIX_EPOCH};
 
 // The type of the attribute. Its four bytes are the seconds since 1970, the lowest byte first.
 const TIME: u8 = b't';
-
-fn paths_in_image(host: Host<'_>, session: &mut RamSession) -> Result<Vec<String>, ToolError> {
-    let alloc = host.alloc();
-    let mut paths = Vec::new(alloc);
-    let mut folders = Vec::new(alloc);
-    folders.push(String::new(alloc)).map_err(AllocError::from)?;
-    for _ in 0..u64::MAX {
-        let Some(folder) = folders.pop() else {
-            break;
-        };
-        let shown = if folder.is_empty() {
-            "/"
-        } else {
-            folder.as_str()
-        };
-        for item in session.list(alloc, shown.as_bytes())? {
-            // A folder has no such name. Unpacking it fails.
-            let Ok(name) = str::from_utf8(item.name.as_slice()) else {
-                continue;
-            };
-            let path = format!(in alloc; "{folder}/{name}")?;
-            if item.kind == Kind::Dir {
-                folders.push(path.clone()?).map_err(AllocError::from)?;
-            }
-            paths.push(path).map_err(AllocError::from)?;
-        }
-    }
-    Ok(paths)
-}
 
 /// Keeps the times of entries that were copied, in order.
 pub(crate) fn keep_times(
@@ -68,21 +40,29 @@ fn set_time(host: Host<'_>, path: &str, bytes: [u8; 4]) -> io::Result<()> {
 /// Returns the paths in an image that have times, with these.
 pub(crate) fn times_in_image(
     host: Host<'_>,
-    session: &mut RamSession,
-) -> Result<Vec<(String, [u8; 4])>, ToolError> {
+    image: &mut MountedImage,
+) -> Result<Vec<(String, [u8; 4])>, ToolError>
+    requires { CanFindAttributes image.old }
+{
     let alloc = host.alloc();
     let mut times = Vec::new(alloc);
-    for path in paths_in_image(host, session)? {
-        match session.get_attr(alloc, path.as_bytes(), TIME) {
-            Ok(bytes) => {
-                if let [a, b, c, d] = bytes.as_slice() {
-                    times
-                        .push((path, [*a, *b, *c, *d]))
-                        .map_err(AllocError::from)?;
-                }
-            }
-            Err(Error::NoAttr) => {}
-            Err(error) => return Err(ToolError::Fs(error)),
+    for index in 0..image.items.len() {
+        let Some(item) = image.items.get(index) else {
+            break;
+        };
+        // A folder has no other name. Unpacking it has failed.
+        let Ok(path) = str::from_utf8(item.path.as_slice()) else {
+            continue;
+        };
+        let path = String::from_str(alloc, path)?;
+        let Some(parsed) = Path::parse(path.as_bytes()) else {
+            continue;
+        };
+        let time = image.attribute(alloc, &parsed, TIME)?;
+        if let Some([a, b, c, d]) = time.as_ref().map(|bytes| bytes.as_slice()) {
+            times
+                .push((path, [*a, *b, *c, *d]))
+                .map_err(AllocError::from)?;
         }
     }
     Ok(times)

@@ -91,7 +91,7 @@ pub(crate) fn unpack_text(
     let mut target = MemoryTarget {
         done: Vec::new(alloc),
     };
-    let answer = unpack(alloc, image.to_vec(alloc)?, layout, &mut target, &mut ());
+    let answer = unpack(alloc, image.to_vec(alloc)?, layout, &mut target, &mut ()).map(|_image| ());
     let mut text = Vec::new(alloc);
     for done in &target.done {
         push_unpacked_entry(&mut text, done)?;

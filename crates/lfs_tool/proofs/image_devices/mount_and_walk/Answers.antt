@@ -1,8 +1,9 @@
 use Rattle.std.proofs.Common.{◌∙◌, Err, ap, subst, sym}
 use Rattle.lfs_device.specs.DeviceDisk.{disk_of_blocks as shown}
 use Rattle.lfs_tool.proofs.Common.{ordered_disk, Disk, fault_count, IsAccepted, IsMountError, AreWalkItems, ram_blocks, ram_geometry, tree_items_view}
+use Rattle.lfs_model.specs.format.Thread.{count_before_root}
 use Rattle.lfs_tool.proofs.Mounts.{not_mounted, only_memory}
-use Rattle.lfs_tool.proofs.image_devices.tree_items_of.Goals as goal
+use Rattle.lfs_tool.proofs.image_devices.mount_and_walk.Goals as goal
 
 pub returns-in-Err-clause-err : goal.returns-in-Err-clause-err
 returns-in-Err-clause-err c =
@@ -24,6 +25,9 @@ returns-in-Ok-walk_tree-clause-items c =
       accepted = subst (λ d. IsAccepted d c.walk_tree.new.thread.kept.pairs) same (subst (IsAccepted (ordered_disk thread.kept.disk.order disk)) (sym e.reading.only.pairs) m.accepted);
       walked = subst (λ d. AreWalkItems d c.walk_tree.new.thread.kept.pairs places) (m.disk_is ∙ same) (subst (λ ps. AreWalkItems thread.kept.disk ps places) (sym e.reading.only.pairs) e.walked);
     }
+
+pub returns-in-Ok-walk_tree-clause-root : goal.returns-in-Ok-walk_tree-clause-root
+returns-in-Ok-walk_tree-clause-root c = c.in-Ok.ensures.mounted.root ∙ ap count_before_root (sym c.in-Ok-walk_tree.ensures.reading.only.pairs)
 
 pub returns-in-Err-walk_tree-clause-err : goal.returns-in-Err-walk_tree-clause-err
 returns-in-Err-walk_tree-clause-err c =

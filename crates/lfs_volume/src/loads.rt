@@ -1,20 +1,70 @@
 // How the session is asked for a file, and for its bytes. A file is open in the session only within
 // one of these calls.
 
-ghost use Rattle.std.specs.Prelude.{◌≡◌, ◌∷◌, [], IfErr, IfOk, false};
+ghost use Rattle.std.specs.Prelude.{◌≡◌, ◌∷◌, [], IfErr, IfOk, IfSome, false, length};
 ghost use Rattle.lfs_tree.specs.TreeState.{shown_tree};
 ghost use Rattle.lfs_volume.specs.Opened.{IsIdle, LeadsToFile};
 ghost use Rattle.lfs_model.specs.session.Operations as ops;
 ghost use Rattle.lfs_fs.specs.CallEffects.{IsCall};
 ghost use Rattle.lfs_fs.specs.FlagsView.{flags_view};
+ghost use Rattle.lfs_fs.specs.Replies.{reply_from};
 ghost use Rattle.lfs_volume.specs.Saves.{IsFileFound, IsIdleIfRefused, IsLoaded};
 ghost use Rattle.lfs_volume.specs.SessionCalls.{FailsInCalls, error_result};
 
 use lfs_device::{BlockDevice, Error};
 use lfs_fs::{OpenFlags, Session};
 use std::alloc::Global;
+use std::mem;
 
-// Returns all bytes of a file.
+// Returns `count` bytes of spare memory, if `spare` has room for as many, and at most for twice as
+// many.
+fn spare_bytes(alloc: Global, spare: &mut Vec<u8>, count: usize) -> Option<Vec<u8>>
+    ensures { IfSome result (λ v. length v.items ≡ count) }
+{
+    if spare.capacity() < count || spare.capacity() / 2 > count {
+        return None;
+    }
+    let mut bytes = mem::replace(spare, Vec::new(alloc));
+    match bytes.resize(count, 0) {
+        Ok(()) => Some(bytes),
+        Err(_) => None,
+    }
+}
+
+// Reads an open file into these bytes, and returns those that were read: fewer where the file ends.
+//
+// Errors: those of the session's `read`.
+fn read_over<D: BlockDevice>(
+    session: &mut Session<D>,
+    fd: u32,
+    mut bytes: Vec<u8>,
+) -> Result<Vec<u8>, Error>
+    ensures { IsCall session.old (ops.Read fd (length bytes.items)) (reply_from (λ v. ops.Bytes v.items) result) session.new }
+{
+    let count = session.read_into(fd, &mut bytes)?;
+    bytes.truncate(count);
+    Ok(bytes)
+}
+
+// Reads at most `count` bytes of an open file, into spare memory if it fits.
+//
+// Errors: those of the session's `read`.
+fn read_bytes<D: BlockDevice>(
+    alloc: Global,
+    session: &mut Session<D>,
+    fd: u32,
+    count: u32,
+    spare: &mut Vec<u8>,
+) -> Result<Vec<u8>, Error>
+    ensures { IsCall session.old (ops.Read fd count) (reply_from (λ v. ops.Bytes v.items) result) session.new }
+{
+    match spare_bytes(alloc, spare, count as usize) {
+        Some(bytes) => read_over(session, fd, bytes),
+        None => session.read(alloc, fd, count),
+    }
+}
+
+// Returns all bytes of a file, in spare memory if it fits.
 //
 // Errors: those of the session's `open` for reading. `Io`, and `NoMemory` within the session: the
 // session has failed then.
@@ -22,6 +72,7 @@ pub(crate) fn load<D: BlockDevice>(
     alloc: Global,
     session: &mut Session<D>,
     path: &[u8],
+    spare: &mut Vec<u8>,
 ) -> Result<Vec<u8>, Error>
     ensures loaded { IfOk result (λ v. IsIdle session.old (shown_tree session.old.tree) → IsLoaded session.old path.now v.items session.new) }
     ensures refused { IfErr result (λ e. IsIdle session.old (shown_tree session.old.tree) → IsIdleIfRefused e session.old session.new) }
@@ -29,7 +80,7 @@ pub(crate) fn load<D: BlockDevice>(
 {
     let fd = session.open(alloc, path, OpenFlags::READ)?;
     let size = session.size(fd)?;
-    let bytes = session.read(alloc, fd, size)?;
+    let bytes = read_bytes(alloc, session, fd, size, spare)?;
     session.close(alloc, fd)?;
     Ok(bytes)
 }

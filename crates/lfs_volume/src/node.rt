@@ -1,6 +1,6 @@
 // A node: an open file, whose contents are in memory once they were read or written.
 
-ghost use Rattle.std.specs.Prelude.{◌≡◌, ◌+◌, ◌<◌, ◌≤◌, ◌^◌, ◌==◌, [], length, List, ℕ, IfOk, IfSome, IsSome, None, Some, OnErr, OnOk, is_some, unwrap_or, true};
+ghost use Rattle.std.specs.Prelude.{◌≡◌, ◌+◌, ◌<◌, ◌≤◌, ◌^◌, ◌==◌, [], length, List, ℕ, IfOk, IfSome, IsSome, None, Some, OnErr, OnOk, is_some, unwrap_or, vec_capacity, true};
 ghost use Rattle.std.specs.Option.{option_map};
 ghost use Rattle.lfs_volume.specs.Volume.{loaded_node, opened_node, resized_node, synced_node, unlinked_node, written_node};
 ghost use Rattle.lfs_model.specs.format.Names.{same_name};
@@ -10,6 +10,9 @@ use crate::bytes::{resize_bytes, write_bytes};
 use crate::hull::{Hull, hull_with, resized_hull};
 use std::alloc::{AllocError, Global};
 use std::marker::Model;
+
+// The most bytes of memory that are kept for the next file that is loaded.
+const SPARE_MAX: usize = 1 << 22;
 
 /// An open file.
 #[derive(Drop)]
@@ -175,6 +178,24 @@ impl Node {
     {
         self.path = None;
         self.hull = None;
+    }
+
+    // Drops the node. Keeps the memory of its contents in `spare`, if it is larger than what `spare`
+    // has, and not too large to be kept.
+    pub(crate) fn leave_contents(self, spare: &mut Vec<u8>)
+        ensures { vec_capacity spare.old ≤ vec_capacity spare.new }
+    {
+        let Node {
+            path: _,
+            size: _,
+            contents,
+            hull: _,
+        } = self;
+        if let Some(contents) = contents {
+            if contents.capacity() > spare.capacity() && contents.capacity() <= SPARE_MAX {
+                *spare = contents;
+            }
+        }
     }
 
     // Gives the node another path.

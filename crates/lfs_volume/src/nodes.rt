@@ -11,7 +11,7 @@ ghost use Rattle.lfs_volume.specs.Volume.{NodeView, entry_at, resized_node, writ
 ghost use Rattle.lfs_volume.specs.VolumeCalls.{AreStoredBytes, EndsNodeSync, EndsSyncAt, IsLoadedAt, IsNodeLoaded, IsNodeSynced, IsSoundAt, IsSoundNode, IsSyncedAt};
 
 use crate::bytes::{bytes_behind, bytes_from, copy_of};
-use crate::handles::{Handle, free_at, free_entry, is_named, put_entry};
+use crate::handles::{Handle, free_entry, is_named, put_entry};
 use crate::loads::load;
 use crate::node::Node;
 use crate::saves::save;
@@ -49,13 +49,14 @@ fn stored_bytes<D: BlockDevice>(
     alloc: Global,
     session: &mut Session<D>,
     node: &Node,
+    spare: &mut Vec<u8>,
 ) -> Result<Vec<u8>, Error>
     ensures are { IfOk result (λ v. IsIdle session.old (shown_tree session.old.tree) → AreStoredBytes session.old node.now session.new v.items) }
     ensures failed { IfErr result (λ e. IsIdle session.old (shown_tree session.old.tree) → IsSoundNode session.old node.now → FailsInCalls e session.old session.new) }
 {
     match node.path() {
         Some(path) => {
-            let bytes = load(alloc, session, path)?;
+            let bytes = load(alloc, session, path, spare)?;
             Ok(bytes)
         }
         None => Ok(Vec::new(alloc)),
@@ -70,6 +71,7 @@ pub(crate) fn load_node<D: BlockDevice>(
     alloc: Global,
     session: &mut Session<D>,
     node: &mut Node,
+    spare: &mut Vec<u8>,
 ) -> Result<(), Error>
     ensures loaded { IfOk result (λ _. IsIdle session.old (shown_tree session.old.tree) → IsSoundNode session.old node.old → IsNodeLoaded session.old node.old session.new node.new) }
     ensures failed { IfErr result (λ e. IsIdle session.old (shown_tree session.old.tree) → IsSoundNode session.old node.old → FailsInCalls e session.old session.new) }
@@ -77,7 +79,7 @@ pub(crate) fn load_node<D: BlockDevice>(
     if node.is_loaded() {
         return Ok(());
     }
-    let bytes = stored_bytes(alloc, session, node)?;
+    let bytes = stored_bytes(alloc, session, node, spare)?;
     if bytes.len() != node.size() as usize {
         return Err(Error::Corrupt);
     }
@@ -118,6 +120,7 @@ pub(crate) fn load_at<D: BlockDevice>(
     session: &mut Session<D>,
     nodes: &mut Vec<Option<Node>>,
     number: usize,
+    spare: &mut Vec<u8>,
 ) -> Result<(), Error>
     ensures loaded { IfOk result (λ _. IsIdle session.old (shown_tree session.old.tree) → IsSoundAt session.old nodes.old.items number → IsLoadedAt session.old nodes.old.items number session.new nodes.new.items) }
     ensures failed { IfErr result (λ e. IsIdle session.old (shown_tree session.old.tree) → IsSoundAt session.old nodes.old.items number → FailsInCalls e session.old session.new) }
@@ -127,7 +130,7 @@ pub(crate) fn load_at<D: BlockDevice>(
     }
     match &mut nodes[number] {
         Some(node) => {
-            load_node(alloc, session, node)?;
+            load_node(alloc, session, node, spare)?;
             Ok(())
         }
         None => Ok(()),
@@ -190,12 +193,30 @@ pub(crate) fn write_place(found: Handle, node: &Node) -> u32
     }
 }
 
-// Makes the number of a node free, if no handle names the node.
-pub(crate) fn drop_unnamed(handles: &[Option<Handle>], nodes: &mut Vec<Option<Node>>, number: usize)
+// Frees the number of a node, and returns the node, if there is one.
+fn take_node(nodes: &mut Vec<Option<Node>>, number: usize) -> Option<Node>
+    ensures { nodes.new.items ≡ slice_set nodes.old.items number None }
+{
+    if number >= nodes.len() {
+        return None;
+    }
+    nodes[number].take()
+}
+
+// Frees the number of a node, if no handle names the node. The memory of its contents may be kept in
+// `spare`.
+pub(crate) fn drop_unnamed(
+    handles: &[Option<Handle>],
+    nodes: &mut Vec<Option<Node>>,
+    number: usize,
+    spare: &mut Vec<u8>,
+)
     ensures { nodes.new.items ≡ (if named handles.now number then nodes.old.items else slice_set nodes.old.items number None) }
 {
     if !is_named(handles, number) {
-        free_at(nodes, number);
+        if let Some(node) = take_node(nodes, number) {
+            node.leave_contents(spare);
+        }
     }
 }
 

@@ -51,6 +51,8 @@ pub struct Volume<D: BlockDevice> {
     session: Session<D>,
     nodes: Vec<Option<Node>>,
     handles: Vec<Option<Handle>>,
+    // The memory of a closed file's contents, for the next file that is loaded.
+    spare: Vec<u8>,
 }
 
 impl<D: BlockDevice> Model for Volume<D> {
@@ -129,7 +131,13 @@ impl<D: BlockDevice> Volume<D> {
         if !found.reads {
             return Err(Error::BadFile);
         }
-        load_at(alloc, &mut self.session, &mut self.nodes, found.node)?;
+        load_at(
+            alloc,
+            &mut self.session,
+            &mut self.nodes,
+            found.node,
+            &mut self.spare,
+        )?;
         Ok(found)
     }
 
@@ -216,7 +224,13 @@ impl<D: BlockDevice> Volume<D> {
             return Ok(0);
         }
         let at = self.place_to_write(found, bytes.len())?;
-        load_at(alloc, &mut self.session, &mut self.nodes, found.node)?;
+        load_at(
+            alloc,
+            &mut self.session,
+            &mut self.nodes,
+            found.node,
+            &mut self.spare,
+        )?;
         write_at(&mut self.nodes, found.node, at, bytes)?;
         let count = bytes.len() as u32;
         set_position(&mut self.handles, handle, at + count);
@@ -282,7 +296,13 @@ impl<D: BlockDevice> Volume<D> {
         if size > self.file_max() {
             return Err(Error::TooBig);
         }
-        load_at(alloc, &mut self.session, &mut self.nodes, found.node)?;
+        load_at(
+            alloc,
+            &mut self.session,
+            &mut self.nodes,
+            found.node,
+            &mut self.spare,
+        )?;
         resize_at(&mut self.nodes, found.node, size)?;
         Ok(())
     }
@@ -329,7 +349,7 @@ impl<D: BlockDevice> Volume<D> {
         ensures { IsDropped self.old handle found self.new }
     {
         free_at(&mut self.handles, handle as usize);
-        drop_unnamed(&self.handles, &mut self.nodes, found.node);
+        drop_unnamed(&self.handles, &mut self.nodes, found.node, &mut self.spare);
     }
 
     /// Returns whether a path leads to a file or a directory, and a file's size as it is in the tree.
@@ -459,7 +479,13 @@ impl<D: BlockDevice> Volume<D> {
     {
         self.check_works()?;
         let place = node_with_path(&self.nodes, path);
-        load_at(alloc, &mut self.session, &mut self.nodes, place)?;
+        load_at(
+            alloc,
+            &mut self.session,
+            &mut self.nodes,
+            place,
+            &mut self.spare,
+        )?;
         self.session.remove(alloc, path)?;
         unlink_path(&mut self.nodes, path);
         Ok(())
@@ -487,7 +513,13 @@ impl<D: BlockDevice> Volume<D> {
     {
         self.check_works()?;
         let place = node_with_path(&self.nodes, to);
-        load_at(alloc, &mut self.session, &mut self.nodes, place)?;
+        load_at(
+            alloc,
+            &mut self.session,
+            &mut self.nodes,
+            place,
+            &mut self.spare,
+        )?;
         let paths = moved_paths(alloc, &self.nodes, from, to)?;
         self.session.rename(alloc, from, to)?;
         unlink_path(&mut self.nodes, to);
@@ -592,5 +624,6 @@ pub(crate) fn begin<D: BlockDevice>(alloc: Global, session: Session<D>) -> Volum
         session,
         nodes: Vec::new(alloc),
         handles: Vec::new(alloc),
+        spare: Vec::new(alloc),
     }
 }

@@ -12,16 +12,16 @@ returns-in_err-size-clause-refused g c =
 pub returns-in_err-bytes-clause-refused : goal.returns-in_err-bytes-clause-refused
 returns-in_err-bytes-clause-refused g c =
     passed_err c.from_residual-in_err-bytes.result _ _ c.from_residual-in_err-bytes.ensures.1
-    (λ idle is. absurd (read_not_refused _ c.args.session.now c.open.new.self c.read.new.self c.args.path.now c.in_ok-fd.fd c.in_ok-size.size idle c.in_ok-fd.ensures c.in_err-bytes.ensures.call is))
+    (λ idle is. absurd (read_not_refused _ c.args.session.now c.open.new.self c.read_bytes.new.session c.args.path.now c.in_ok-fd.fd c.in_ok-size.size idle c.in_ok-fd.ensures c.in_err-bytes.ensures is))
 
 pub returns-in_err-close-clause-refused : goal.returns-in_err-close-clause-refused
 returns-in_err-close-clause-refused g c =
     passed_err c.from_residual-in_err-close.result _ _ c.from_residual-in_err-close.ensures.1
-    (λ idle is. absurd (close_not_refused _ c.args.session.now c.open.new.self c.read.new.self c.close.new.self c.args.path.now c.in_ok-bytes.bytes.items c.in_ok-fd.fd c.in_ok-size.size idle c.in_ok-fd.ensures c.in_ok-bytes.ensures.call c.in_err-close.ensures is))
+    (λ idle is. absurd (close_not_refused _ c.args.session.now c.open.new.self c.read_bytes.new.session c.close.new.self c.args.path.now c.in_ok-bytes.bytes.items c.in_ok-fd.fd c.in_ok-size.size idle c.in_ok-fd.ensures c.in_ok-bytes.ensures c.in_err-close.ensures is))
 
 pub returns-clause-loaded : goal.returns-clause-loaded
 returns-clause-loaded g c idle =
-    loaded c.args.session.now c.open.new.self c.read.new.self c.close.new.self c.args.path.now c.in_ok-bytes.bytes.items c.in_ok-fd.fd c.in_ok-size.size idle c.in_ok-fd.ensures c.in_ok-size.ensures c.in_ok-bytes.ensures.call c.in_ok-close.ensures
+    loaded c.args.session.now c.open.new.self c.read_bytes.new.session c.close.new.self c.args.path.now c.in_ok-bytes.bytes.items c.in_ok-fd.fd c.in_ok-size.size idle c.in_ok-fd.ensures c.in_ok-size.ensures c.in_ok-bytes.ensures c.in_ok-close.ensures
 
 pub returns-in_err-fd-clause-failed : goal.returns-in_err-fd-clause-failed
 returns-in_err-fd-clause-failed g c = passed_err c.from_residual.result _ _ c.from_residual.ensures.1 (λ idle leads. load_fails_at_open _ c.args.session.now c.open.new.self c.args.path.now idle leads c.in_err-fd.ensures)
@@ -33,9 +33,9 @@ returns-in_err-size-clause-failed g c =
 pub returns-in_err-bytes-clause-failed : goal.returns-in_err-bytes-clause-failed
 returns-in_err-bytes-clause-failed g c =
     passed_err c.from_residual-in_err-bytes.result _ _ c.from_residual-in_err-bytes.ensures.1
-    (λ idle leads. load_fails_at_read _ c.args.session.now c.open.new.self c.read.new.self c.args.path.now c.in_ok-fd.fd c.in_ok-size.size idle c.in_ok-fd.ensures c.in_err-bytes.ensures.call)
+    (λ idle leads. load_fails_at_read _ c.args.session.now c.open.new.self c.read_bytes.new.session c.args.path.now c.in_ok-fd.fd c.in_ok-size.size idle c.in_ok-fd.ensures c.in_err-bytes.ensures)
 
 pub returns-in_err-close-clause-failed : goal.returns-in_err-close-clause-failed
 returns-in_err-close-clause-failed g c =
     passed_err c.from_residual-in_err-close.result _ _ c.from_residual-in_err-close.ensures.1
-    (λ idle leads. load_fails_at_close _ c.args.session.now c.open.new.self c.read.new.self c.close.new.self c.args.path.now c.in_ok-bytes.bytes.items c.in_ok-fd.fd c.in_ok-size.size idle c.in_ok-fd.ensures c.in_ok-bytes.ensures.call c.in_err-close.ensures)
+    (λ idle leads. load_fails_at_close _ c.args.session.now c.open.new.self c.read_bytes.new.session c.close.new.self c.args.path.now c.in_ok-bytes.bytes.items c.in_ok-fd.fd c.in_ok-size.size idle c.in_ok-fd.ensures c.in_ok-bytes.ensures c.in_err-close.ensures)

@@ -21,7 +21,7 @@ for built in "$top"/crates/*/out/rlib; do
         cp -R "$built" "$copy"
     fi
 done
-echo 'littlefs_flash_c staticlib: core lfs_device lfs_fs lfs_model littlefs_flash std_alloc std_heap' >>"$folder/crates.txt"
+echo 'littlefs_flash_c staticlib: core lfs_device lfs_fs lfs_model littlefs_flash littlefs_values std_alloc std_heap' >>"$folder/crates.txt"
 
 crate=$folder/crates/littlefs_flash_c
 mkdir -p "$crate/c" # rt wants the folder c of a crate that declares functions of C

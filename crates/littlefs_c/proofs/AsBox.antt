@@ -8,7 +8,7 @@ use Rattle.std_heap.specs.contracts.GlobalAllocator.TheImpl.{ghosts, dict}
 use Rattle.std_heap.proofs.Global.TheLaws as heap
 use Rattle.littlefs_c.proofs.mounted.Mounted.TheLaws as mounted
 use Rattle.littlefs_c.specs.contracts.mounted.Mounted as Mounted
-use Rattle.littlefs_c.specs.contracts.parts.Parts as Parts
+use Rattle.littlefs_values.specs.contracts.parts.Parts as Parts
 use Rattle.littlefs_c.specs.contracts.slot.Slot as Seal
 
 abbrev pub E : Bx

@@ -14,9 +14,9 @@ use Rattle.lfs_model.specs.declared.order.NameOrder.{NameOrder}
 use Rattle.lfs_fs.specs.SessionView.{SessionView, system_state}
 use Rattle.littlefs_c.specs.Configs.{config_order, config_profile}
 use Rattle.littlefs_c.specs.Mounts.{IsBlankDevice, IsFormattedBy, PreventsFormat}
-use Rattle.littlefs_c.specs.declared.config.Config.{Config}
+use Rattle.littlefs_c.specs.declared.config.ImageConfig.{ImageConfig}
 
-pub formatted_by_config : (config : Config) (count : ℕ) (d : RamDevice) (by : Profile) (order : NameOrder) (s : SessionView) → IsBlankDevice config count d → by ≡ config_profile config → order ≡ config_order config → IsFreshDisk s.tree.disk
+pub formatted_by_config : (config : ImageConfig) (count : ℕ) (d : RamDevice) (by : Profile) (order : NameOrder) (s : SessionView) → IsBlankDevice config count d → by ≡ config_profile config → order ≡ config_order config → IsFreshDisk s.tree.disk
     → SameGeometry (ordered_disk order (profiled_disk by (disk_of_blocks (ram_geometry d) (ram_blocks d)))) s.tree.disk → SameExceptBlocks (0 ∷ 1 ∷ []) (ram_blocks d) s.tree.disk.blocks
     → (system_state s).state ≡ Healthy (mounted_session empty_tree) → IsFormattedBy config count s
 formatted_by_config config count d by order s is profiled ordered fresh same others begins =
@@ -32,6 +32,6 @@ formatted_by_config config count d by order s is profiled ordered fresh same oth
     }
 
 -- no call of the device failed, so memory wasn't granted
-pub prevented_format : (config : Config) (count : ℕ) (e : Error) → (e ≡ Io) ⊎ (e ≡ NoMemory) → (e ≡ Io → ⊥) → PreventsFormat config count e
+pub prevented_format : (config : ImageConfig) (count : ℕ) (e : Error) → (e ≡ Io) ⊎ (e ≡ NoMemory) → (e ≡ Io → ⊥) → PreventsFormat config count e
 prevented_format config count e (inl io) no_fault = absurd (no_fault io)
 prevented_format config count e (inr memory) no_fault = inr memory

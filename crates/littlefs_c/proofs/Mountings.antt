@@ -21,7 +21,7 @@ use Rattle.lfs_volume.specs.Volume.{VolumeView}
 use Rattle.lfs_volume.specs.VolumeCalls.{HasNoHandles}
 use Rattle.littlefs_c.specs.Mounts.{HasNothingOpen, IsMountedLimited}
 use Rattle.littlefs_c.specs.declared.mounted.Mounted.{Mounted}
-use Rattle.littlefs_c.specs.declared.config.Config.{Config}
+use Rattle.littlefs_c.specs.declared.config.ImageConfig.{ImageConfig}
 use Rattle.littlefs_c.proofs.Images.{disk_by_profile, mounts, prevented}
 
 -- the disk of a device by a profile
@@ -38,7 +38,7 @@ module _ (block_size page : ℕ) (profile : Profile) (image : List ℕ) (d : Ram
   prevented_by by e errors no_fault corrupt = prevented block_size page by image (disk_seen by d) e (λ order. disk_by_profile block_size page profile image d by order is) errors no_fault corrupt
 
 -- a mount by the limits of the image
-pub mounted_with_limits : (config : Config) (image : List ℕ) (d : RamDevice) (given : Profile) (history : List CallEvent) (h : SessionView) → IsValidConfig config
+pub mounted_with_limits : (config : ImageConfig) (image : List ℕ) (d : RamDevice) (given : Profile) (history : List CallEvent) (h : SessionView) → IsValidConfig config
     → IsImageDevice config.block_size config.page (config_profile config) image d → given ≡ config_profile config → BeginsLimited (disk_of_blocks (ram_geometry d) (ram_blocks d)) history given h
     → (h.tree.disk.order ≡ ShorterFirst → (ps : List Pair) → ¬ IsAccepted (ordered_disk LongerFirst (disk_seen h.tree.disk.profile d)) ps) → IsMountedLimited config image (system_state h)
 mounted_with_limits config image d given history h valid is by b longer = record {

@@ -1,28 +1,18 @@
 -- What the numbers of a configuration mean.
 use Rattle.std.specs.Prelude.{◌≤◌, ◌==◌, if◌then◌else◌}
-use Rattle.lfs_model.specs.format.Disk.{AreValidLimits}
-use Rattle.lfs_model.specs.declared.limits.AcceptedVersions.TheVariants.{AlsoTwoOne, OnlyTwoZero}
 use Rattle.lfs_model.specs.declared.limits.Profile.{Profile}
 use Rattle.lfs_model.specs.declared.order.NameOrder.{NameOrder}
 use Rattle.lfs_model.specs.declared.order.NameOrder.TheVariants.{LongerFirst, ShorterFirst}
-use Rattle.littlefs_c.specs.declared.config.Config.{Config}
+use Rattle.littlefs_values.specs.Configs as values
+use Rattle.littlefs_c.specs.declared.config.ImageConfig.{ImageConfig}
 
-abbrev pub config_profile : Config → Profile
-config_profile config = record {
-  versions = if config.versions == 0 then OnlyTwoZero else AlsoTwoOne;
-  name_max = config.name_max;
-  file_max = config.file_max;
-  attr_max = config.attr_max;
-  inline_max = config.inline_max;
-  pair_cycles = config.pair_cycles;
-  search_seed = 0;
-}
+abbrev pub config_profile : ImageConfig → Profile
+config_profile config = values.config_profile config.config
 
-abbrev pub config_order : Config → NameOrder
+abbrev pub config_order : ImageConfig → NameOrder
 config_order config = if config.order == 0 then LongerFirst else ShorterFirst
 
 -- Order and versions are 0 or 1, and no limit is 0 or above its default.
-pub record IsValidConfig (config : Config) : Type 0 where
+pub record IsValidConfig (config : ImageConfig) : Type 0 where
   pub order : config.order ≤ 1
-  pub versions : config.versions ≤ 1
-  pub limits : AreValidLimits (config_profile config)
+  pub others : values.IsValidConfig config.config

@@ -11,7 +11,7 @@ use Rattle.lfs_fs.specs.Replies.{reply_from}
 use Rattle.lfs_volume.specs.Calls.{free_entry, with_entry}
 use Rattle.lfs_volume.specs.Volume.{VolumeView, entry_at}
 use Rattle.lfs_volume.specs.VolumeCalls.{IsSessionCall}
-use Rattle.littlefs_c.specs.Buffers.{buffer_if_fitting, entries_of_items}
+use Rattle.littlefs_values.specs.Buffers.{buffer_if_fitting, entries_of_items}
 use Rattle.littlefs_c.specs.DirectoryView.{DirectoryView}
 use Rattle.littlefs_c.specs.declared.shown_entries.ShownEntry.{ShownEntry}
 

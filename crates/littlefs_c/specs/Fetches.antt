@@ -2,7 +2,7 @@
 use Rattle.std.specs.Prelude.{ℕ, ℤ, ◌≡◌, ◌≤◌, pos, ◌-ℤ◌, IfSome, List, length, Option, None, Some, slice_get}
 use Rattle.lfs_model.specs.session.History.{DeviceCall}
 use Rattle.lfs_model.specs.session.History.DeviceCall.{Read, Program, Erase, Blank}
-use Rattle.littlefs_c.specs.Buffers.{buffer_if_fitting}
+use Rattle.littlefs_values.specs.Buffers.{buffer_if_fitting}
 use Rattle.littlefs_c.specs.ChangeLog.{history_writes}
 use Rattle.littlefs_c.specs.Volumes.{WithCode}
 use Rattle.littlefs_c.specs.declared.changes.Fetched.{Fetched}

@@ -1,6 +1,4 @@
 pub mod Images
-pub mod Buffers
-pub mod Codes
 pub mod Configs
 pub mod DirectoryView
 pub mod Directories

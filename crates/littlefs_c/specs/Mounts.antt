@@ -18,19 +18,19 @@ use Rattle.lfs_model.specs.tree.View.{IsAccepted}
 use Rattle.lfs_fs.specs.SessionView.{SessionView, system_state}
 use Rattle.lfs_volume.specs.VolumeCalls.{HasNoHandles}
 use Rattle.littlefs_c.specs.Images.{PreventsSession, IsImageSession}
-use Rattle.littlefs_c.specs.Codes.{result_code}
+use Rattle.littlefs_values.specs.Codes.{result_code}
 use Rattle.littlefs_c.specs.Configs.{IsValidConfig, config_order, config_profile}
-use Rattle.littlefs_c.specs.declared.config.Config.{Config}
+use Rattle.littlefs_c.specs.declared.config.ImageConfig.{ImageConfig}
 use Rattle.littlefs_c.specs.declared.mounted.Mounted.{Mounted}
 
 -- ---- a mount
 
 -- a session as a mount of the image by that configuration begins it
-abbrev pub IsMountedBy : Config → List ℕ → SystemState → Type 0
+abbrev pub IsMountedBy : ImageConfig → List ℕ → SystemState → Type 0
 IsMountedBy config image from = IsValidConfig config × IsImageSession config.block_size config.page (config_profile config) image from
 
 -- A session as a mount of the image by that configuration begins it, with the limits of the image in place of the configuration's.
-pub record IsMountedLimited (config : Config) (image : List ℕ) (from : SystemState) : Type 0 where
+pub record IsMountedLimited (config : ImageConfig) (image : List ℕ) (from : SystemState) : Type 0 where
   pub valid : IsValidConfig config
   pub pairs : List Pair
   pub accepted : IsAccepted from.disk pairs
@@ -39,13 +39,13 @@ pub record IsMountedLimited (config : Config) (image : List ℕ) (from : SystemS
   pub mounted : IsImageSession config.block_size config.page (profile_with_limits fields (config_profile config)) image from
 
 -- a number of the configuration is out of range, or the image has no session by it, or memory wasn't granted
-abbrev pub PreventsMount : Config → List ℕ → Error → Type 0
+abbrev pub PreventsMount : ImageConfig → List ℕ → Error → Type 0
 PreventsMount config image e = ((e ≡ Invalid) × (¬ IsValidConfig config)) ⊎ PreventsSession config.block_size config.page (config_profile config) image e
 
 -- ---- a format
 
 -- a disk of so many blocks by that configuration, whose bytes are 255
-abbrev pub blank_disk : Config → ℕ → Disk
+abbrev pub blank_disk : ImageConfig → ℕ → Disk
 blank_disk config count = record {
   block_size = config.block_size;
   page = config.page;
@@ -55,18 +55,18 @@ blank_disk config count = record {
 }
 
 -- The configuration and the number of blocks give a disk.
-pub record IsDiskConfig (config : Config) (count : ℕ) : Type 0 where
+pub record IsDiskConfig (config : ImageConfig) (count : ℕ) : Type 0 where
   pub valid : IsValidConfig config
   pub geometry : IsValidGeometry config.block_size config.page count
 
 -- A device in memory that has the blank disk, and has had no call.
-pub record IsBlankDevice (config : Config) (count : ℕ) (d : RamDevice) : Type 0 where
+pub record IsBlankDevice (config : ImageConfig) (count : ℕ) (d : RamDevice) : Type 0 where
   pub given : IsDiskConfig config count
   pub disk : ordered_disk (config_order config) (disk_of_blocks (ram_geometry d) (ram_blocks d)) ≡ blank_disk config count
   pub no_call : ram_history d ≡ []
 
 -- A session over a new image: its disk is a fresh one, whose blocks but the first two are blank.
-pub record IsFormattedBy (config : Config) (count : ℕ) (s : SessionView) : Type 0 where
+pub record IsFormattedBy (config : ImageConfig) (count : ℕ) (s : SessionView) : Type 0 where
   pub given : IsDiskConfig config count
   pub geometry : SameGeometry (blank_disk config count) s.tree.disk
   pub fresh : IsFreshDisk s.tree.disk
@@ -74,7 +74,7 @@ pub record IsFormattedBy (config : Config) (count : ℕ) (s : SessionView) : Typ
   pub begins : (system_state s).state ≡ Healthy (mounted_session empty_tree)
 
 -- the numbers give no disk, or memory wasn't granted
-abbrev pub PreventsFormat : Config → ℕ → Error → Type 0
+abbrev pub PreventsFormat : ImageConfig → ℕ → Error → Type 0
 PreventsFormat config count e = ((e ≡ Invalid) × (¬ IsDiskConfig config count)) ⊎ (e ≡ NoMemory)
 
 -- ---- in a handle
@@ -83,13 +83,13 @@ abbrev pub HasNothingOpen : Mounted → Type 0
 HasNothingOpen m = HasNoHandles m.volume × (m.directories.items ≡ [])
 
 -- a volume with nothing open, whose session begins as each of the above says
-abbrev pub MountsImage : Config → List ℕ → Mounted → Type 0
+abbrev pub MountsImage : ImageConfig → List ℕ → Mounted → Type 0
 MountsImage config image m = HasNothingOpen m × IsMountedBy config image (system_state m.volume.session)
 
-abbrev pub MountsLimited : Config → List ℕ → Mounted → Type 0
+abbrev pub MountsLimited : ImageConfig → List ℕ → Mounted → Type 0
 MountsLimited config image m = HasNothingOpen m × IsMountedLimited config image (system_state m.volume.session)
 
-abbrev pub FormatsImage : Config → ℕ → Mounted → Type 0
+abbrev pub FormatsImage : ImageConfig → ℕ → Mounted → Type 0
 FormatsImage config count m = HasNothingOpen m × IsFormattedBy config count m.volume.session
 
 -- A volume of which P holds, where none was; or there is what was there, and the error has its cause.

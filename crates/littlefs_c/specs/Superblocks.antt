@@ -12,10 +12,11 @@ use Rattle.lfs_fs.specs.ImageLimits.{FailedByRead, OnlyReadsSession}
 use Rattle.lfs_fs.specs.ReadOnly.{IsReadOnlyReason, MayWrite}
 use Rattle.lfs_fs.specs.SessionView.{SessionView}
 use Rattle.lfs_volume.specs.VolumeCalls.{HasSameTables}
-use Rattle.littlefs_c.specs.Codes.{bool_number, result_code}
+use Rattle.littlefs_values.specs.Codes.{bool_number, result_code}
+use Rattle.littlefs_values.specs.Infos.{superblock_info}
+use Rattle.littlefs_values.specs.declared.info.FsInfo.{FsInfo}
 use Rattle.littlefs_c.specs.declared.mounted.Mounted.{Mounted}
 use Rattle.littlefs_c.specs.declared.superblocks.ShownBreach.{ShownBreach}
-use Rattle.littlefs_c.specs.declared.superblocks.ShownSuperblock.{ShownSuperblock}
 
 -- ---- a call that only reads
 
@@ -28,19 +29,9 @@ pub record OnlyReads {X : Type 0} (r : Result X Error) (old new : Mounted) : Typ
 
 -- ---- the superblock
 
-abbrev pub shown_superblock : Superblock → ShownSuperblock
-shown_superblock f = record {
-  disk_version = f.version;
-  block_size = f.block_size;
-  block_count = f.block_count;
-  name_max = f.name_max;
-  file_max = f.file_max;
-  attr_max = f.attr_max;
-}
-
 -- C gets it, if there is one
-abbrev pub ShowsSuperblock : {X : Type 0} → Result Superblock Error → Result X Error → ShownSuperblock → ShownSuperblock → Type 0
-ShowsSuperblock (Ok f) (Ok x) before after = after ≡ shown_superblock f
+abbrev pub ShowsSuperblock : {X : Type 0} → Result Superblock Error → Result X Error → FsInfo → FsInfo → Type 0
+ShowsSuperblock (Ok f) (Ok x) before after = after ≡ superblock_info f
 ShowsSuperblock (Ok f) (Err e) before after = ⊥
 ShowsSuperblock (Err e) (Ok x) before after = ⊥
 ShowsSuperblock (Err e) (Err e') before after = (e' ≡ e) × (after ≡ before)
@@ -50,7 +41,7 @@ abbrev pub IsImageSuperblock : SessionView → Superblock → Type 0
 IsImageSuperblock s f = image_fields s.tree.pairs ≡ Some (superblock_view f)
 
 -- The volume's superblock, by a call with this code.
-abbrev pub IsSuperblockCall : ShownSuperblock → ShownSuperblock → ℤ → Mounted → Mounted → Type 0
+abbrev pub IsSuperblockCall : FsInfo → FsInfo → ℤ → Mounted → Mounted → Type 0
 IsSuperblockCall before after code old new =
     (r : Result Superblock Error) × ((t : Result Unit Error) × ((code ≡ result_code (λ _. 0) t)
     × (ShowsSuperblock r t before after × (IfOk r (IsImageSuperblock old.volume.session) × OnlyReads r old new))))

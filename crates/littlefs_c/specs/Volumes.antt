@@ -1,12 +1,10 @@
 -- What a call does to a volume that C holds.
 use Rattle.std.specs.Prelude.{Bool, ℕ, ℤ, ◌≡◌, ◌≤◌, ◌==◌, not, pos, ◌-ℤ◌, [], List, length, drop, take, MatchResult, Option, Vec, None, Some, Result, Ok, Err}
-use Rattle.std.specs.Int.RustNames.{bit_and}
 use Rattle.lfs_device.specs.declared.error.Error.{Error}
-use Rattle.lfs_device.specs.declared.error.Error.TheVariants.{NoMemory}
 use Rattle.lfs_model.specs.format.Blocks.{overwritten_at}
 use Rattle.lfs_model.specs.format.Disk.{Disk, IsWholeImage, disk_of_image}
 use Rattle.lfs_model.specs.session.Operations as ops
-use Rattle.lfs_model.specs.session.Operations.{FlagsOfOpen, Operation, Reply}
+use Rattle.lfs_model.specs.session.Operations.{Operation, Reply}
 use Rattle.lfs_lookup.specs.Finds.{stat_view}
 use Rattle.lfs_lookup.specs.declared.kinds.ListItem.{ListItem}
 use Rattle.lfs_lookup.specs.declared.kinds.Stat.{Stat}
@@ -17,16 +15,12 @@ use Rattle.lfs_volume.specs.Calls.{Call}
 use Rattle.lfs_volume.specs.SessionCalls.{error_result}
 use Rattle.lfs_volume.specs.Volume.{VolumeView}
 use Rattle.lfs_volume.specs.VolumeCalls.{IsRemount, IsSessionCall, IsVolumeCall}
-use Rattle.littlefs_c.specs.Buffers.{buffer_if_fitting, entries_of_items, item_lines}
-use Rattle.littlefs_c.specs.Codes.{bool_number, result_code, stat_number}
+use Rattle.littlefs_values.specs.Buffers.{FillsWithLines, buffer_if_fitting, filled_buffer}
+use Rattle.littlefs_values.specs.Codes.{bool_number, closed_code, result_code, stat_number}
 use Rattle.littlefs_c.specs.Directories.{ClosesDirectory, IsListing, KeepsListing, ReadsDirectory, RewindsDirectory, SeeksDirectory, TellsDirectory}
 use Rattle.littlefs_c.specs.declared.shown_entries.ShownEntry.{ShownEntry}
 use Rattle.littlefs_c.specs.declared.mounted.Mounted.{Mounted}
 use Rattle.std.specs.Global.{Global}
-
--- minus the number of EBADFD, where nothing is mounted
-abbrev pub closed_code : ℤ
-closed_code = pos 0 -ℤ pos 77
 
 -- Nothing is mounted before or after, and the code says so; or something is before and after, and P holds of them.
 abbrev pub CallsVolume : (Mounted → Mounted → Type 0) → ℤ → Option Mounted → Option Mounted → Type 0
@@ -67,24 +61,7 @@ abbrev pub IsRemountCall : ℤ → Mounted → Mounted → Type 0
 IsRemountCall code old new =
     (new.directories.items ≡ []) × ((r : Result Unit Error) × ((code ≡ result_code (λ _. 0) r) × IsRemount old.volume (reply_from (λ _. ops.Done) r) new.volume))
 
--- how a file is opened, by the bits of a number
-abbrev pub flags_of_number : ℕ → FlagsOfOpen
-flags_of_number n = record {
-  read = bit_and n 0x1 == 0x1;
-  write = bit_and n 0x2 == 0x2;
-  create = bit_and n 0x100 == 0x100;
-  exclusive = bit_and n 0x200 == 0x200;
-  truncate = bit_and n 0x400 == 0x400;
-  append = bit_and n 0x800 == 0x800;
-  unknown = not (bit_and n 0xf03 == n);
-}
-
 -- ---- calls with a buffer
-
--- a buffer after a call that returns bytes
-abbrev pub filled_buffer : Result (Vec ℕ Global) Error → List ℕ → List ℕ
-filled_buffer (Ok v) buffer = buffer_if_fitting v.items buffer
-filled_buffer (Err e) buffer = buffer
 
 -- a volume's call of that operation, whose bytes are put into a buffer
 abbrev pub IsBytesCall : Operation → ℤ → List ℕ → List ℕ → Mounted → Mounted → Type 0
@@ -101,13 +78,6 @@ abbrev pub IsReadCall : ℕ → ℤ → List ℕ → List ℕ → Mounted → Mo
 IsReadCall file code buffer filled old new =
     (new.directories ≡ old.directories) × ((r : Result ℕ Error) × ((code ≡ result_code (λ n. n) r)
     × (MatchResult r (λ n. (n ≤ length buffer) × (drop n filled ≡ drop n buffer)) (λ e. filled ≡ buffer) × IsVolumeCall old.volume (calls.Read file (length buffer)) (read_result r filled) new.volume)))
-
--- A buffer gets the lines of entries, if they fit, and n is the room that they take; or there are none, or memory wasn't granted.
-abbrev pub FillsWithLines : Result (Vec ListItem Global) Error → Result ℕ Error → List ℕ → List ℕ → Type 0
-FillsWithLines (Ok x) (Ok n) buffer filled = (n ≡ length (item_lines (entries_of_items x))) × (filled ≡ buffer_if_fitting (item_lines (entries_of_items x)) buffer)
-FillsWithLines (Ok x) (Err e) buffer filled = (e ≡ NoMemory) × (filled ≡ buffer)
-FillsWithLines (Err e) (Ok n) buffer filled = ⊥
-FillsWithLines (Err e) (Err e') buffer filled = (e' ≡ e) × (filled ≡ buffer)
 
 -- a listing, whose lines are put into a buffer
 abbrev pub IsListCall : List ℕ → ℤ → List ℕ → List ℕ → Mounted → Mounted → Type 0

@@ -6,11 +6,11 @@ ghost use Rattle.littlefs_c.specs.ChangeLog.{AreNoted, change_call, history_writ
 ghost use Rattle.littlefs_c.specs.Fetches.{FetchesChange, IsFetchAnswer, IsChangeNumber, IsNextChange, IsShownChange, buffer_after_change, next_change_code, code_of_fetched};
 ghost use Rattle.littlefs_c.specs.Volumes.{CallsVolume};
 
-use crate::buffers::copy_if_fitting;
-use crate::handle::{CLOSED, Handle, put_volume, take_volume};
+use crate::handle::{Handle, put_volume, take_volume};
 use crate::noted::HeldDevice;
 use crate::notes::{Change, Notes};
 use lfs_volume::Volume;
+use littlefs_values::{CLOSED, copy_if_fitting};
 use std::alloc::Global;
 
 /// A change as C sees it: 1 for a program and 2 for an erase, the block, the offset in it, and how

@@ -1,16 +1,12 @@
 // The calls about what is at a path.
 
-ghost use Rattle.std.specs.Prelude.{◌≡◌, ◌^◌, ◌<◌, IfNone, IfOk};
+ghost use Rattle.std.specs.Prelude.{◌≡◌, IfNone};
 ghost use Rattle.lfs_model.specs.session.Operations as ops;
 ghost use Rattle.lfs_volume.specs.Calls as calls;
-ghost use Rattle.littlefs_c.specs.Volumes.{CallsVolume, FillsWithLines, IsBytesCall, IsListCall, IsStatCall, IsUnitCall, IsUnitOperation};
+ghost use Rattle.littlefs_c.specs.Volumes.{CallsVolume, IsBytesCall, IsListCall, IsStatCall, IsUnitCall, IsUnitOperation};
 
-use crate::buffers::{copy_if_fitting, fill_with_bytes};
-use crate::codes::{room_code, size_code, unit_code};
-use crate::handle::{CLOSED, Handle, put_volume, take_volume};
-use crate::lines::lines_of_items;
-use lfs_device::Error;
-use lfs_volume::Item;
+use crate::handle::{Handle, put_volume, take_volume};
+use littlefs_values::{CLOSED, fill_with_bytes, fill_with_lines, room_code, size_code, unit_code};
 use std::alloc::Global;
 
 /// Returns a file's size in bytes, or 4,294,967,296 for a directory.
@@ -28,20 +24,6 @@ pub extern "C" fn lfs_c_stat_at(alloc: Global, volume: &mut Handle, path: &[u8])
     let answer = inner.volume.stat(alloc, path);
     put_volume(volume, inner);
     size_code(answer)
-}
-
-// Puts the lines of a listing into a buffer, if they fit. Returns the room that they take.
-fn fill_with_lines(
-    alloc: Global,
-    answer: Result<Vec<Item>, Error>,
-    buffer: &mut [u8],
-) -> Result<usize, Error>
-    ensures lines { FillsWithLines answer result buffer.old buffer.new }
-    ensures small { IfOk result (λ n. n < 2 ^ 63) }
-{
-    let items = answer?;
-    let text = lines_of_items(alloc, &items)?;
-    Ok(copy_if_fitting(&text, buffer))
 }
 
 /// Puts a line for each entry of a directory into the buffer, if all lines fit, and returns how

@@ -1,7 +1,8 @@
 // What a call returns and leaves if nothing is mounted, by examples.
 
 ghost use Rattle.std.specs.Prelude.{◌≡◌, codes, IfNone, None, Some, pos, ⊤};
-ghost use Rattle.littlefs_c.specs.Volumes.{CallsVolume, closed_code};
+ghost use Rattle.littlefs_values.specs.Codes.{closed_code};
+ghost use Rattle.littlefs_c.specs.Volumes.{CallsVolume};
 ghost use Rattle.littlefs_c.specs.declared.mounted.Mounted.{Mounted};
 
 /// If nothing is mounted, a call has the code of that. No other code, and no volume after the call,

@@ -4,14 +4,11 @@ ghost use Rattle.std.specs.Prelude.{◌≡◌, Option, None, Some, option_map};
 ghost use Rattle.littlefs_c.specs.HandleSlots.{mounted_count};
 
 use crate::mounted::Mounted;
-use crate::parts::Parts;
 use crate::slot::Slot;
+use littlefs_values::Parts;
 use std::alloc::Global;
 use std::mem::replace;
 use std::ptr::null_mut;
-
-// Minus the number of `EBADFD`, for a call through a handle where nothing is mounted.
-pub(crate) const CLOSED: i64 = -77;
 
 /// What C holds: all zeros while nothing is mounted. It may go to another thread.
 #[repr(C)]

@@ -2,22 +2,18 @@
 //! littlefs over images in memory, to be called from C: volumes that C keeps a handle of.
 #![tactic(auto)]
 
-mod buffers;
 mod changes;
-mod codes;
 mod config;
 mod directories;
 mod entries;
 mod examples;
 mod handle;
 mod image;
-mod lines;
 mod mounted;
 mod noted;
 mod notes;
 mod open_directories;
 mod open_files;
-mod parts;
 mod shown_entries;
 mod slot;
 mod starts;

@@ -4,15 +4,15 @@ ghost use Rattle.std.specs.Prelude.{◌≡◌, IfNone};
 ghost use Rattle.littlefs_c.specs.Directories.{RewindsDirectory};
 ghost use Rattle.littlefs_c.specs.Volumes.{CallsVolume, IsDirClose, IsDirOpen, IsDirRead, IsDirRewind, IsDirSeek, IsDirTell};
 
-use crate::codes::{bool_code, count_code, room_code, unit_code};
 use crate::directories::{
     close_directory, directory_position, keep_listing, read_directory, rewind_directory,
     seek_directory,
 };
-use crate::handle::{CLOSED, Handle, put_volume, take_volume};
+use crate::handle::{Handle, put_volume, take_volume};
 use crate::mounted::Mounted;
 use crate::shown_entries::ShownEntry;
 use lfs_volume::Error;
+use littlefs_values::{CLOSED, bool_code, count_code, room_code, unit_code};
 use std::alloc::Global;
 
 /// Opens a directory: takes a list of its entries, in name order, the shorter names first. Returns

@@ -4,13 +4,14 @@ ghost use Rattle.std.specs.Prelude.{◌≡◌, ◌≤◌, ◌<◌, ◌^◌, IfNo
 ghost use Rattle.lfs_model.specs.session.Operations as ops;
 ghost use Rattle.lfs_volume.specs.Calls as calls;
 ghost use Rattle.lfs_volume.specs.VolumeCalls.{IsVolumeCall};
-ghost use Rattle.littlefs_c.specs.Volumes.{CallsVolume, IsCountCall, IsReadCall, IsUnitCall, flags_of_number, read_result};
+ghost use Rattle.littlefs_c.specs.Volumes.{CallsVolume, IsCountCall, IsReadCall, IsUnitCall, read_result};
+ghost use Rattle.littlefs_values.specs.Flags.{flags_of_number};
 
-use crate::codes::{count_code, room_code, unit_code};
-use crate::handle::{CLOSED, Handle, put_volume, take_volume};
+use crate::handle::{Handle, put_volume, take_volume};
 use crate::noted::HeldDevice;
 use bitflags::Flags;
 use lfs_volume::{Error, OpenFlags, Volume};
+use littlefs_values::{CLOSED, count_code, room_code, unit_code};
 use std::alloc::Global;
 
 /// Opens a file, for reading, writing or both, as the bits of `flags` say, and returns its number:

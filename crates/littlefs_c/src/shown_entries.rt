@@ -1,11 +1,11 @@
 // Entries of a directory, as C gets them.
 
 ghost use Rattle.std.specs.Prelude.{◌≡◌};
-ghost use Rattle.littlefs_c.specs.Buffers.{buffer_if_fitting};
+ghost use Rattle.littlefs_values.specs.Buffers.{buffer_if_fitting};
 ghost use Rattle.littlefs_c.specs.Directories.{kind_number, shown_entry};
 
-use crate::buffers::copy_if_fitting;
 use lfs_volume::{Item, Kind};
+use littlefs_values::copy_if_fitting;
 
 /// An entry of a directory as C gets it: 1 for a file and 2 for a directory, a file's size, and how
 /// many bytes the name has.

@@ -5,7 +5,7 @@ ghost use Rattle.littlefs_c.specs.HandleSlots.{handle_owns};
 ghost use Rattle.littlefs_c.specs.declared.mounted.Mounted.{Mounted};
 
 use crate::mounted::Mounted;
-use crate::parts::Parts;
+use littlefs_values::Parts;
 use std::alloc::Global;
 use std::marker::Model;
 

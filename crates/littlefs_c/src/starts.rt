@@ -5,14 +5,14 @@ ghost use Rattle.littlefs_c.specs.Images.{IsImageDevice};
 ghost use Rattle.littlefs_c.specs.Configs.{IsValidConfig, config_profile};
 ghost use Rattle.littlefs_c.specs.Mounts.{BeginsInHandle, FormatsImage, IsBeginningCode, IsBlankDevice, MountsImage, MountsLimited, PreventsFormat, PreventsMount};
 
-use crate::codes::unit_code;
-use crate::config::Config;
+use crate::config::ImageConfig;
 use crate::handle::{Handle, put_volume, take_volume};
 use crate::image::device_by_profile;
 use crate::mounted::Mounted;
 use crate::noted::{HeldDevice, Noted, held_device};
 use lfs_device::{Geometry, RamDevice};
 use lfs_volume::{Error, Volume, format_ordered, mount, mount_with_limits};
+use littlefs_values::unit_code;
 use std::alloc::Global;
 
 // Makes a mounted image of a volume: no directory is open.
@@ -38,7 +38,7 @@ fn box_mounted(alloc: Global, mounted: Mounted) -> Result<Box<Mounted, Global>, 
 }
 
 // Makes a device in memory that has a copy of an image, by a configuration.
-fn copy_of_image(alloc: Global, config: &Config, image: &[u8]) -> Result<RamDevice, Error>
+fn copy_of_image(alloc: Global, config: &ImageConfig, image: &[u8]) -> Result<RamDevice, Error>
     ensures ok { IfOk result (λ d. IsValidConfig config.now × IsImageDevice config.now.block_size config.now.page (config_profile config.now) image.now d) }
     ensures err { IfErr result (PreventsMount config.now image.now) }
 {
@@ -50,7 +50,7 @@ fn copy_of_image(alloc: Global, config: &Config, image: &[u8]) -> Result<RamDevi
 }
 
 // Mounts a volume over a copy of an image, by a configuration.
-fn mount_volume(alloc: Global, config: &Config, image: &[u8]) -> Result<Mounted, Error>
+fn mount_volume(alloc: Global, config: &ImageConfig, image: &[u8]) -> Result<Mounted, Error>
     ensures ok { IfOk result (MountsImage config.now image.now) }
     ensures err { IfErr result (PreventsMount config.now image.now) }
 {
@@ -63,7 +63,7 @@ fn mount_volume(alloc: Global, config: &Config, image: &[u8]) -> Result<Mounted,
 }
 
 // Mounts a volume over a copy of an image, by a configuration and the limits of the image.
-fn mount_by_limits(alloc: Global, config: &Config, image: &[u8]) -> Result<Mounted, Error>
+fn mount_by_limits(alloc: Global, config: &ImageConfig, image: &[u8]) -> Result<Mounted, Error>
     ensures ok { IfOk result (MountsLimited config.now image.now) }
     ensures err { IfErr result (PreventsMount config.now image.now) }
 {
@@ -79,7 +79,7 @@ fn mount_by_limits(alloc: Global, config: &Config, image: &[u8]) -> Result<Mount
 fn mount_into_handle(
     alloc: Global,
     volume: &mut Handle,
-    config: &Config,
+    config: &ImageConfig,
     image: &[u8],
 ) -> Result<(), Error>
     ensures { BeginsInHandle (MountsImage config.now image.now) (PreventsMount config.now image.now) result volume.old.slot.mounted volume.new.slot.mounted }
@@ -106,7 +106,7 @@ fn mount_into_handle(
 pub extern "C" fn lfs_c_mount(
     alloc: Global,
     volume: &mut Handle,
-    config: &Config,
+    config: &ImageConfig,
     image: &[u8],
 ) -> i64
     ensures { IsBeginningCode (MountsImage config.now image.now) (PreventsMount config.now image.now) result volume.old.slot.mounted volume.new.slot.mounted }
@@ -118,7 +118,7 @@ pub extern "C" fn lfs_c_mount(
 fn begin_by_limits(
     alloc: Global,
     volume: &mut Handle,
-    config: &Config,
+    config: &ImageConfig,
     image: &[u8],
 ) -> Result<(), Error>
     ensures { BeginsInHandle (MountsLimited config.now image.now) (PreventsMount config.now image.now) result volume.old.slot.mounted volume.new.slot.mounted }
@@ -144,7 +144,7 @@ fn begin_by_limits(
 pub extern "C" fn lfs_c_mount_with_limits(
     alloc: Global,
     volume: &mut Handle,
-    config: &Config,
+    config: &ImageConfig,
     image: &[u8],
 ) -> i64
     ensures { IsBeginningCode (MountsLimited config.now image.now) (PreventsMount config.now image.now) result volume.old.slot.mounted volume.new.slot.mounted }
@@ -153,7 +153,7 @@ pub extern "C" fn lfs_c_mount_with_limits(
 }
 
 // Makes a device in memory of so many blocks by a configuration, whose bytes are 255.
-fn blank_device(alloc: Global, config: &Config, block_count: u32) -> Result<RamDevice, Error>
+fn blank_device(alloc: Global, config: &ImageConfig, block_count: u32) -> Result<RamDevice, Error>
     ensures ok { IfOk result (IsBlankDevice config.now block_count) }
     ensures err { IfErr result (PreventsFormat config.now block_count) }
 {
@@ -165,7 +165,7 @@ fn blank_device(alloc: Global, config: &Config, block_count: u32) -> Result<RamD
 }
 
 // Makes an empty file system of so many blocks, with a volume over it.
-fn format_volume(alloc: Global, config: &Config, block_count: u32) -> Result<Mounted, Error>
+fn format_volume(alloc: Global, config: &ImageConfig, block_count: u32) -> Result<Mounted, Error>
     ensures ok { IfOk result (FormatsImage config.now block_count) }
     ensures err { IfErr result (PreventsFormat config.now block_count) }
 {
@@ -182,7 +182,7 @@ fn format_volume(alloc: Global, config: &Config, block_count: u32) -> Result<Mou
 fn format_into_handle(
     alloc: Global,
     volume: &mut Handle,
-    config: &Config,
+    config: &ImageConfig,
     block_count: u32,
 ) -> Result<(), Error>
     ensures { BeginsInHandle (FormatsImage config.now block_count) (PreventsFormat config.now block_count) result volume.old.slot.mounted volume.new.slot.mounted }
@@ -208,7 +208,7 @@ fn format_into_handle(
 pub extern "C" fn lfs_c_mkfs(
     alloc: Global,
     volume: &mut Handle,
-    config: &Config,
+    config: &ImageConfig,
     block_count: u32,
 ) -> i64
     ensures { IsBeginningCode (FormatsImage config.now block_count) (PreventsFormat config.now block_count) result volume.old.slot.mounted volume.new.slot.mounted }

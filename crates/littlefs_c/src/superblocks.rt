@@ -1,25 +1,13 @@
 // The calls about an image's superblock, and about why the image is read only.
 
 ghost use Rattle.std.specs.Prelude.{◌≡◌, IfNone};
-ghost use Rattle.littlefs_c.specs.Superblocks.{IsReasonCall, IsSuperblockCall, IsWritableCall, ShowsReason, ShowsSuperblock, breach_number, limit_number, limit_value, shown_breach, shown_superblock};
+ghost use Rattle.littlefs_c.specs.Superblocks.{IsReasonCall, IsSuperblockCall, IsWritableCall, ShowsReason, ShowsSuperblock, breach_number, limit_number, limit_value, shown_breach};
 ghost use Rattle.littlefs_c.specs.Volumes.{CallsVolume};
 
-use crate::codes::{bool_code, count_code, unit_code};
-use crate::handle::{CLOSED, Handle, put_volume, take_volume};
+use crate::handle::{Handle, put_volume, take_volume};
 use lfs_volume::{Error, OtherLimit, ProfileBreach, Superblock};
+use littlefs_values::{CLOSED, FsInfo, count_code, unit_code};
 use std::alloc::Global;
-
-/// What a superblock says, as C gets it. Sizes and limits are in bytes.
-#[repr(C)]
-#[derive(Drop)]
-pub struct ShownSuperblock {
-    pub disk_version: u32,
-    pub block_size: u32,
-    pub block_count: u32,
-    pub name_max: u32,
-    pub file_max: u32,
-    pub attr_max: u32,
-}
 
 /// Where an image breaks a rule, as C gets it: the metadata pair, the slot in it, and the limit that
 /// the superblock has. A slot or a limit that the rule doesn't speak of is 0.
@@ -31,28 +19,12 @@ pub struct ShownBreach {
     pub limit: u32,
 }
 
-fn shown_superblock(fields: &Superblock) -> ShownSuperblock
-    ensures { result ≡ shown_superblock fields.now }
-{
-    ShownSuperblock {
-        disk_version: fields.version,
-        block_size: fields.block_size,
-        block_count: fields.block_count,
-        name_max: fields.name_max,
-        file_max: fields.file_max,
-        attr_max: fields.attr_max,
-    }
-}
-
 // Shows a superblock, if there is one.
-fn show_superblock(
-    answer: Result<Superblock, Error>,
-    shown: &mut ShownSuperblock,
-) -> Result<(), Error>
+fn show_superblock(answer: Result<Superblock, Error>, shown: &mut FsInfo) -> Result<(), Error>
     ensures { ShowsSuperblock answer result shown.old shown.new }
 {
     let fields = answer?;
-    *shown = shown_superblock(&fields);
+    *shown = FsInfo::of(&fields);
     Ok(())
 }
 
@@ -64,11 +36,7 @@ fn show_superblock(
 /// 77 where nothing is mounted, `Failed` where the volume has failed, and `NoMemory` where memory
 /// isn't granted; the volume has failed then.
 #[unsafe(no_mangle)]
-pub extern "C" fn lfs_c_superblock(
-    alloc: Global,
-    volume: &mut Handle,
-    info: &mut ShownSuperblock,
-) -> i64
+pub extern "C" fn lfs_c_superblock(alloc: Global, volume: &mut Handle, info: &mut FsInfo) -> i64
     ensures call { CallsVolume (IsSuperblockCall info.old info.new result) result volume.old.slot.mounted volume.new.slot.mounted }
     ensures closed { IfNone volume.old.slot.mounted (info.new ≡ info.old) }
 {

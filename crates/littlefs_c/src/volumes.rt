@@ -4,11 +4,10 @@ ghost use Rattle.std.specs.Prelude.{◌≡◌, ◌^◌, ◌<◌, IfNone};
 ghost use Rattle.lfs_model.specs.session.Operations as ops;
 ghost use Rattle.littlefs_c.specs.Volumes.{CallsVolume, CopiesImage, CopiesPart, FromSession, IsBoolCall, IsCountOperation, IsDiskImage, IsRemountCall, IsUnitOperation};
 
-use crate::buffers::{copy_if_fitting, copy_part};
-use crate::codes::{bool_code, count_code, unit_code};
-use crate::handle::{CLOSED, Handle, put_volume, take_volume};
+use crate::handle::{Handle, put_volume, take_volume};
 use crate::noted::HeldDevice;
 use lfs_volume::Volume;
+use littlefs_values::{CLOSED, bool_code, copy_if_fitting, copy_part, count_code, unit_code};
 use std::alloc::Global;
 
 /// Closes all files and directories, and reads the image again, after a failure too. Returns 0.

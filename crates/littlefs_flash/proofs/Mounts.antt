@@ -14,10 +14,10 @@ use Rattle.lfs_model.specs.format.Thread.{Pair}
 use Rattle.lfs_model.specs.session.History.{OnlyReadsSince, fault_count}
 use Rattle.lfs_model.specs.tree.View.{IsAccepted}
 use Rattle.lfs_fs.specs.SessionView.{BeginsByMount, SessionView, system_state}
-use Rattle.littlefs_flash.specs.Configs.{config_profile}
+use Rattle.littlefs_values.specs.Configs.{config_profile}
+use Rattle.littlefs_values.specs.declared.config.Config.{Config}
 use Rattle.littlefs_flash.specs.Starts.{IsMountedFlash, IsValidStart, PreventsMount, chip_disk}
 use Rattle.littlefs_flash.specs.declared.chip.Chip.{Chip}
-use Rattle.littlefs_flash.specs.declared.config.Config.{Config}
 
 -- the disk by a geometry of the chip's sizes
 by_sizes : (g : Geometry) (c : Chip) (p : Profile) → g.block_size ≡ c.block_size → g.page ≡ c.page → plain_disk g.block_size g.page p c.state.blocks ≡ chip_disk p c

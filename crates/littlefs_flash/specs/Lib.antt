@@ -1,7 +1,5 @@
-pub mod Buffers
 pub mod Chips
 pub mod Codes
-pub mod Configs
 pub mod Sessions
 pub mod Sizes
 pub mod Starts

@@ -1,11 +1,9 @@
 -- What a call does to a session that C holds.
 use Rattle.std.specs.Prelude.{ℕ, ℤ, Bool, ◌≡◌, ◌≤◌, ◌==◌, ◌↔◌, IsTrue, not, true, pos, ◌-ℤ◌, List, length, drop, take, map, MatchResult, Option, Box, Vec, None, Some, Result, Ok, Err}
 use Rattle.std.specs.Option.{option_map}
-use Rattle.std.specs.Int.RustNames.{bit_and}
 use Rattle.lfs_device.specs.declared.error.Error.{Error}
-use Rattle.lfs_device.specs.declared.error.Error.TheVariants.{NoMemory}
 use Rattle.lfs_model.specs.session.Operations as ops
-use Rattle.lfs_model.specs.session.Operations.{FlagsOfOpen, ListedEntry, Operation, Reply}
+use Rattle.lfs_model.specs.session.Operations.{Operation, Reply}
 use Rattle.lfs_lookup.specs.Finds.{listed_item_view, stat_view}
 use Rattle.lfs_lookup.specs.RefusalErrors.{is_refusal}
 use Rattle.lfs_lookup.specs.declared.kinds.ListItem.{ListItem}
@@ -20,14 +18,11 @@ use Rattle.lfs_fs.specs.ReadOnly.{IsReadOnlyReason, MayWrite}
 use Rattle.lfs_fs.specs.Replies.{reply_from}
 use Rattle.lfs_fs.specs.SessionView.{SessionView}
 use Rattle.lfs_fs.specs.declared.gstate.Gstate.{Gstate}
-use Rattle.littlefs_flash.specs.Buffers.{item_lines, buffer_if_fitting}
-use Rattle.littlefs_flash.specs.Codes.{bool_number, gstate_number, order_number, result_code, rule_number, stat_number}
-use Rattle.littlefs_flash.specs.declared.sessions.FsInfo.{FsInfo}
+use Rattle.littlefs_values.specs.Buffers.{FillsWithLines, filled_buffer}
+use Rattle.littlefs_values.specs.declared.info.FsInfo.{FsInfo}
+use Rattle.littlefs_values.specs.Codes.{bool_number, closed_code, result_code, stat_number}
+use Rattle.littlefs_flash.specs.Codes.{gstate_number, order_number, rule_number}
 use Rattle.std.specs.Global.{Global}
-
--- minus the number of EBADFD, the answer of a handle without a session
-abbrev pub closed_code : ℤ
-closed_code = pos 0 -ℤ pos 77
 
 -- There is no session before or after, and the code says so; or there is one before and after, and P holds of them.
 abbrev pub CallsSession : (SessionView → SessionView → Type 0) → ℤ → Option SessionView → Option SessionView → Type 0
@@ -66,24 +61,7 @@ IsUsedCall block code old new = IsCodedCall {X = Bool} bool_number (ops.IsUsed b
 abbrev pub IsGstateCall : ℤ → SessionView → SessionView → Type 0
 IsGstateCall code old new = IsCodedCall {X = Gstate} gstate_number ops.AskGstate returned_gstate_reply code old new
 
--- how a file is opened, by the bits of a number
-abbrev pub flags_of_number : ℕ → FlagsOfOpen
-flags_of_number n = record {
-  read = bit_and n 0x1 == 0x1;
-  write = bit_and n 0x2 == 0x2;
-  create = bit_and n 0x100 == 0x100;
-  exclusive = bit_and n 0x200 == 0x200;
-  truncate = bit_and n 0x400 == 0x400;
-  append = bit_and n 0x800 == 0x800;
-  unknown = not (bit_and n 0xf03 == n);
-}
-
 -- ---- calls with a buffer
-
--- a buffer after a call that returns bytes
-abbrev pub filled_buffer : Result (Vec ℕ Global) Error → List ℕ → List ℕ
-filled_buffer (Ok v) buffer = buffer_if_fitting v.items buffer
-filled_buffer (Err e) buffer = buffer
 
 -- a session's call of that operation, whose bytes are copied to a buffer
 abbrev pub IsBytesCall : Operation → ℤ → List ℕ → List ℕ → SessionView → SessionView → Type 0
@@ -92,16 +70,6 @@ IsBytesCall op code buffer filled old new = (r : Result (Vec ℕ Global) Error) 
 -- A session's read of an open file into a buffer, whose rest stays. All of it stays if the read is refused.
 abbrev pub IsReadCall : ℕ → ℤ → List ℕ → List ℕ → SessionView → SessionView → Type 0
 IsReadCall file code buffer filled old new = (r : Result ℕ Error) × ((code ≡ result_code (λ n. n) r) × (MatchResult r (λ n. (n ≤ length buffer) × (drop n filled ≡ drop n buffer)) (λ e. is_refusal e ≡ true → filled ≡ buffer) × IsCall old (ops.Read file (length buffer)) (reply_from (λ n. ops.Bytes (take n filled)) r) new))
-
-abbrev pub entries_of_items : Vec ListItem Global → List ListedEntry
-entries_of_items items = map listed_item_view items.items
-
--- The buffer has the lines of the entries, if they fit, and n is the room that they need; or the listing failed, or memory was refused.
-abbrev pub FillsWithLines : Result (Vec ListItem Global) Error → Result ℕ Error → List ℕ → List ℕ → Type 0
-FillsWithLines (Ok x) (Ok n) buffer filled = (n ≡ length (item_lines (entries_of_items x))) × (filled ≡ buffer_if_fitting (item_lines (entries_of_items x)) buffer)
-FillsWithLines (Ok x) (Err e) buffer filled = (e ≡ NoMemory) × (filled ≡ buffer)
-FillsWithLines (Err e) (Ok n) buffer filled = ⊥
-FillsWithLines (Err e) (Err e') buffer filled = (e' ≡ e) × (filled ≡ buffer)
 
 -- a session's listing, whose lines are copied to a buffer
 abbrev pub IsListCall : List ℕ → ℤ → List ℕ → List ℕ → SessionView → SessionView → Type 0

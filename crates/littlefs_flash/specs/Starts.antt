@@ -14,10 +14,10 @@ use Rattle.lfs_model.specs.session.History.{OnlyReadsSince, fault_count}
 use Rattle.lfs_model.specs.tree.Fresh.{IsFreshDisk}
 use Rattle.lfs_model.specs.tree.View.{IsAccepted}
 use Rattle.lfs_fs.specs.SessionView.{BeginsByMount, SessionView, system_state}
-use Rattle.littlefs_flash.specs.Codes.{result_code}
-use Rattle.littlefs_flash.specs.Configs.{IsValidConfig, config_profile}
+use Rattle.littlefs_values.specs.Codes.{result_code}
+use Rattle.littlefs_values.specs.Configs.{IsValidConfig, config_profile}
+use Rattle.littlefs_values.specs.declared.config.Config.{Config}
 use Rattle.littlefs_flash.specs.declared.chip.Chip.{Chip}
-use Rattle.littlefs_flash.specs.declared.config.Config.{Config}
 
 -- the disk of a chip, by a profile
 abbrev pub chip_disk : Profile → Chip → Disk

@@ -1,14 +1,11 @@
 // The calls on the entry at a path.
 
-ghost use Rattle.std.specs.Prelude.{◌^◌, ◌<◌, IfOk};
 ghost use Rattle.lfs_model.specs.session.Operations as ops;
-ghost use Rattle.littlefs_flash.specs.Sessions.{CallsHeld, FillsWithLines, IsBytesCall, IsListCall, IsStatCall, IsUnitCall};
+ghost use Rattle.littlefs_flash.specs.Sessions.{CallsHeld, IsBytesCall, IsListCall, IsStatCall, IsUnitCall};
 
-use crate::buffers::{copy_if_fitting, fill_with_bytes};
-use crate::codes::{CLOSED, room_code, size_code, unit_code};
-use crate::lines::lines_of_items;
-use lfs_device::{BlockDevice, Error};
-use lfs_fs::{Item, Session};
+use lfs_device::BlockDevice;
+use lfs_fs::Session;
+use littlefs_values::{CLOSED, fill_with_bytes, fill_with_lines, room_code, size_code, unit_code};
 use std::alloc::Global;
 
 /// Returns a file's size in bytes, or 4,294,967,296 for a directory.
@@ -27,20 +24,6 @@ pub fn stat_entry<D: BlockDevice + Drop>(
         return CLOSED;
     };
     size_code(session.stat(alloc, path))
-}
-
-// Copies the lines of a listing to a buffer, if they fit. Returns the room that they need.
-fn fill_with_lines(
-    alloc: Global,
-    answer: Result<Vec<Item>, Error>,
-    buffer: &mut [u8],
-) -> Result<usize, Error>
-    ensures lines { FillsWithLines answer result buffer.old buffer.new }
-    ensures small { IfOk result (λ n. n < 2 ^ 63) }
-{
-    let items = answer?;
-    let text = lines_of_items(alloc, &items)?;
-    Ok(copy_if_fitting(&text, buffer))
 }
 
 /// Writes a line for each entry of a directory to the buffer, if all lines fit, and returns how many

@@ -2,12 +2,13 @@
 
 ghost use Rattle.lfs_model.specs.session.Operations as ops;
 ghost use Rattle.lfs_fs.specs.FileAnswers.{FileAnswersOf, file_position, file_size};
-ghost use Rattle.littlefs_flash.specs.Sessions.{CallsHeld, IsCountCall, IsFileAnswer, IsReadCall, IsUnitCall, flags_of_number};
+ghost use Rattle.littlefs_flash.specs.Sessions.{CallsHeld, IsCountCall, IsFileAnswer, IsReadCall, IsUnitCall};
+ghost use Rattle.littlefs_values.specs.Flags.{flags_of_number};
 
-use crate::codes::{CLOSED, count_code, room_code, unit_code};
 use bitflags::Flags;
 use lfs_device::BlockDevice;
 use lfs_fs::{OpenFlags, Session};
+use littlefs_values::{CLOSED, count_code, room_code, unit_code};
 use std::alloc::Global;
 
 /// Opens a file as the bits of `flags` say, and returns its number: the least that isn't open. At

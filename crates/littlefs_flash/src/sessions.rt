@@ -3,11 +3,10 @@
 ghost use Rattle.lfs_model.specs.session.Operations as ops;
 ghost use Rattle.littlefs_flash.specs.Sessions.{CallsHeld, IsCountCall, IsGstateCall, IsInfoCall, IsOrderAnswer, IsReasonCall, IsUnitCall, IsUsedCall, IsWritableAnswer, ReadsInfo};
 
-use crate::codes::{
-    CLOSED, bool_code, count_code, gstate_code, order_code, reason_code, unit_code,
-};
+use crate::codes::{gstate_code, order_code, reason_code};
 use lfs_device::{BlockDevice, Error};
 use lfs_fs::Session;
+use littlefs_values::{CLOSED, FsInfo, bool_code, count_code, unit_code};
 use std::alloc::Global;
 
 /// Closes all files and reads the flash again, after a failure too. Returns 0.
@@ -139,19 +138,6 @@ pub fn read_only_reason<D: BlockDevice + Drop>(
     reason_code(session.read_only_reason(alloc))
 }
 
-/// The fields of a superblock, in the order of littlefs's `lfs_fsinfo`. Sizes are in bytes.
-#[repr(C)]
-#[derive(Drop)]
-pub struct FsInfo {
-    /// The major version in the upper 16 bits, the minor one in the lower.
-    pub version: u32,
-    pub block_size: u32,
-    pub block_count: u32,
-    pub name_max: u32,
-    pub file_max: u32,
-    pub attr_max: u32,
-}
-
 // Reads the superblock's fields.
 fn read_info<D: BlockDevice + Drop>(
     alloc: Global,
@@ -161,14 +147,7 @@ fn read_info<D: BlockDevice + Drop>(
     ensures { ReadsInfo result info.old info.new session.old session.new }
 {
     let fields = session.superblock(alloc)?;
-    *info = FsInfo {
-        version: fields.version,
-        block_size: fields.block_size,
-        block_count: fields.block_count,
-        name_max: fields.name_max,
-        file_max: fields.file_max,
-        attr_max: fields.attr_max,
-    };
+    *info = FsInfo::of(&fields);
     Ok(())
 }
 

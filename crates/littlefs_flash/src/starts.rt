@@ -1,16 +1,15 @@
 // How sessions on a flash begin and end.
 
 ghost use Rattle.std.specs.Prelude.{◌≡◌, pos, None, IfErr, IfOk};
-ghost use Rattle.littlefs_flash.specs.Configs.{config_profile};
+ghost use Rattle.littlefs_values.specs.Configs.{config_profile};
 ghost use Rattle.littlefs_flash.specs.Sessions.{boxed_value};
 ghost use Rattle.littlefs_flash.specs.Starts.{FormatsOrRefuses, IsFormatCode, IsMountCode, IsMountedFlash, IsValidStart, LeavesFlash, MountsOrRefuses, PreventsMount, RefusesStart};
 
 use crate::chip::Chip;
-use crate::codes::unit_code;
-use crate::config::Config;
 use crate::flash::{Flash, FlashDevice};
 use lfs_device::Error;
 use lfs_fs::{Session, format, mount};
+use littlefs_values::{Config, unit_code};
 use std::alloc::Global;
 use std::mem::replace;
 

@@ -2,7 +2,7 @@
 use Rattle.std.proofs.Common.{◌∙◌, Ok, ap, subst}
 use Rattle.lfs_model.specs.session.Operations as ops
 use Rattle.lfs_volume.specs.VolumeCalls.{IsSessionCall}
-use Rattle.littlefs_c.specs.Buffers.{entries_of_items}
+use Rattle.littlefs_values.specs.Buffers.{entries_of_items}
 use Rattle.littlefs_c.specs.Directories.{opened_directory}
 use Rattle.littlefs_c.specs.DirectoryView.{DirectoryView}
 use Rattle.littlefs_c.proofs.directories.list_again.Goals as goal

@@ -3,7 +3,7 @@ use Rattle.std.specs.Prelude.{◌≤◌, ◌==◌, if◌then◌else◌}
 use Rattle.lfs_model.specs.format.Disk.{AreValidLimits}
 use Rattle.lfs_model.specs.declared.limits.AcceptedVersions.TheVariants.{AlsoTwoOne, OnlyTwoZero}
 use Rattle.lfs_model.specs.declared.limits.Profile.{Profile}
-use Rattle.littlefs_flash.specs.declared.config.Config.{Config}
+use Rattle.littlefs_values.specs.declared.config.Config.{Config}
 
 abbrev pub config_profile : Config → Profile
 config_profile config = record {

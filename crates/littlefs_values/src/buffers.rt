@@ -1,16 +1,15 @@
-// What a buffer gets.
+// Answers that are copied to a buffer of C.
 
 ghost use Rattle.std.specs.Prelude.{◌≡◌, ◌<◌, ◌^◌, drop, length, take};
 ghost use Rattle.lfs_model.specs.format.Blocks.{overwritten_at};
-ghost use Rattle.littlefs_c.specs.Buffers.{buffer_if_fitting};
-ghost use Rattle.littlefs_c.specs.Codes.{result_code};
-ghost use Rattle.littlefs_c.specs.Volumes.{filled_buffer};
+ghost use Rattle.littlefs_values.specs.Buffers.{buffer_if_fitting, filled_buffer};
+ghost use Rattle.littlefs_values.specs.Codes.{result_code};
 
 use crate::codes::room_code;
 use lfs_device::Error;
 
-// Puts bytes at the beginning of a buffer, if all of them fit. Returns how many they are.
-pub(crate) fn copy_if_fitting(bytes: &[u8], buffer: &mut [u8]) -> usize
+/// Copies bytes to the beginning of a buffer, if all of them fit. Returns how many they are.
+pub fn copy_if_fitting(bytes: &[u8], buffer: &mut [u8]) -> usize
     ensures room { result ≡ length bytes.now }
     ensures small { result < 2 ^ 63 }
     ensures buffer { buffer.new ≡ buffer_if_fitting bytes.now buffer.old }
@@ -21,9 +20,9 @@ pub(crate) fn copy_if_fitting(bytes: &[u8], buffer: &mut [u8]) -> usize
     bytes.len()
 }
 
-// Puts bytes from an offset on at the beginning of a buffer, as many as it has room for. Returns
-// how many they are.
-pub(crate) fn copy_part(bytes: &[u8], offset: usize, buffer: &mut [u8]) -> usize
+/// Copies bytes from an offset on to the beginning of a buffer, as many as it has room for. Returns
+/// how many they are.
+pub fn copy_part(bytes: &[u8], offset: usize, buffer: &mut [u8]) -> usize
     ensures count { result ≡ length (take (length buffer.old) (drop offset bytes.now)) }
     ensures small { result < 2 ^ 63 }
     ensures copied { buffer.new ≡ overwritten_at buffer.old 0 (take (length buffer.old) (drop offset bytes.now)) }
@@ -34,9 +33,9 @@ pub(crate) fn copy_part(bytes: &[u8], offset: usize, buffer: &mut [u8]) -> usize
     count
 }
 
-// Puts the bytes of an answer at the beginning of a buffer, if all of them fit. Returns how many
-// they are, or minus the error's number.
-pub(crate) fn fill_with_bytes(answer: Result<Vec<u8>, Error>, buffer: &mut [u8]) -> i64
+/// Copies the bytes of an answer to the beginning of a buffer, if all of them fit. Returns how many
+/// they are, or minus the error's number.
+pub fn fill_with_bytes(answer: Result<Vec<u8>, Error>, buffer: &mut [u8]) -> i64
     ensures code { result ≡ result_code (λ v. length v.items) answer }
     ensures buffer { buffer.new ≡ filled_buffer answer buffer.old }
 {

@@ -1,7 +1,7 @@
 // The settings that C gives for a file system.
 
 ghost use Rattle.std.specs.Prelude.{◌≡◌, ◌↔◌, IsTrue};
-ghost use Rattle.littlefs_flash.specs.Configs.{IsValidConfig, config_profile};
+ghost use Rattle.littlefs_values.specs.Configs.{IsValidConfig, config_profile};
 
 use lfs_device::{AcceptedVersions, Profile};
 
@@ -20,8 +20,8 @@ pub struct Config {
 }
 
 impl Config {
-    // Returns the profile with these versions and limits.
-    pub(crate) fn profile(&self) -> Profile
+    /// Returns the profile with these versions and limits.
+    pub fn profile(&self) -> Profile
         ensures { result ≡ config_profile self.now }
     {
         let versions = match self.versions {
@@ -39,8 +39,8 @@ impl Config {
         }
     }
 
-    // Returns whether each number is within its range.
-    pub(crate) fn is_valid(&self) -> bool
+    /// Returns whether each number is within its range.
+    pub fn is_valid(&self) -> bool
         ensures { IsTrue result ↔ IsValidConfig self.now }
     {
         self.versions <= 1 && self.profile().is_valid()

@@ -1,11 +1,12 @@
 // The lines that list a directory.
 
-ghost use Rattle.std.specs.Prelude.{◌≡◌, ◌++◌, map, IfOk, OnOk};
+ghost use Rattle.std.specs.Prelude.{◌≡◌, ◌<◌, ◌^◌, ◌++◌, map, IfOk, OnOk};
 ghost use Rattle.lfs_lookup.specs.Finds.{listed_item_view, size_if_file};
-ghost use Rattle.littlefs_flash.specs.Buffers.{line_prefix, item_line, item_lines};
+ghost use Rattle.littlefs_values.specs.Buffers.{FillsWithLines, line_prefix, item_line, item_lines};
 
-use lfs_fs::{Item, Kind};
-use lfs_lookup::push_escaped_path;
+use crate::buffers::copy_if_fitting;
+use lfs_device::Error;
+use lfs_lookup::{Kind, ListItem, push_escaped_path};
 use std::alloc::{AllocError, Global};
 use std::io::Write;
 
@@ -25,7 +26,7 @@ fn push_kind_size(text: &mut Vec<u8>, kind: Kind, size: u32) -> Result<(), Alloc
 }
 
 // Appends the line of an entry.
-fn push_item_line(text: &mut Vec<u8>, item: &Item) -> Result<(), AllocError>
+fn push_item_line(text: &mut Vec<u8>, item: &ListItem) -> Result<(), AllocError>
     ensures { OnOk result (text.new.items ≡ text.old.items ++ item_line (listed_item_view item.now)) }
 {
     push_kind_size(text, item.kind, item.size)?;
@@ -35,7 +36,7 @@ fn push_item_line(text: &mut Vec<u8>, item: &Item) -> Result<(), AllocError>
 }
 
 // Returns the lines of a directory's entries, in their order.
-pub(crate) fn lines_of_items(alloc: Global, items: &[Item]) -> Result<Vec<u8>, AllocError>
+fn lines_of_items(alloc: Global, items: &[ListItem]) -> Result<Vec<u8>, AllocError>
     ensures { IfOk result (λ text. text.items ≡ item_lines (map listed_item_view items.now)) }
 {
     let mut text = Vec::new(alloc);
@@ -43,4 +44,23 @@ pub(crate) fn lines_of_items(alloc: Global, items: &[Item]) -> Result<Vec<u8>, A
         push_item_line(&mut text, item)?;
     }
     Ok(text)
+}
+
+/// Copies the lines of a listing to a buffer, if all of them fit. Returns the bytes that they need.
+///
+/// # Errors
+///
+/// The listing's error, and `NoMemory` if memory for the lines isn't granted. After an error the
+/// buffer is as it was.
+pub fn fill_with_lines(
+    alloc: Global,
+    answer: Result<Vec<ListItem>, Error>,
+    buffer: &mut [u8],
+) -> Result<usize, Error>
+    ensures lines { FillsWithLines answer result buffer.old buffer.new }
+    ensures small { IfOk result (λ n. n < 2 ^ 63) }
+{
+    let items = answer?;
+    let text = lines_of_items(alloc, &items)?;
+    Ok(copy_if_fitting(&text, buffer))
 }

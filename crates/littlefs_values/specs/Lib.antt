@@ -1,0 +1,5 @@
+pub mod Buffers
+pub mod Codes
+pub mod Configs
+pub mod Flags
+pub mod Infos

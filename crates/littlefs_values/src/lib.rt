@@ -1,0 +1,18 @@
+// SPDX-License-Identifier: BSD-3-Clause
+//! What the libraries for C share: results as numbers, settings, answers in a buffer, and a box as its
+//! pointer.
+#![tactic(auto)]
+
+mod buffers;
+mod codes;
+mod config;
+mod info;
+mod lines;
+mod parts;
+
+pub use buffers::{copy_if_fitting, copy_part, fill_with_bytes};
+pub use codes::{CLOSED, bool_code, count_code, error_code, room_code, size_code, unit_code};
+pub use config::Config;
+pub use info::FsInfo;
+pub use lines::fill_with_lines;
+pub use parts::Parts;

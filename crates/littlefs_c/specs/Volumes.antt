@@ -1,5 +1,5 @@
 -- What a call does to a volume that C holds.
-use Rattle.std.specs.Prelude.{Bool, ℕ, ℤ, ◌≡◌, ◌≤◌, ◌==◌, not, pos, ◌-ℤ◌, [], List, length, drop, take, MatchResult, Option, Vec, None, Some, Result, Ok, Err}
+use Rattle.std.specs.Prelude.{Bool, ℕ, ℤ, ◌≡◌, ◌≤◌, pos, [], List, length, drop, take, MatchResult, Option, Vec, None, Some, Result, Ok, Err}
 use Rattle.lfs_device.specs.declared.error.Error.{Error}
 use Rattle.lfs_model.specs.format.Blocks.{overwritten_at}
 use Rattle.lfs_model.specs.format.Disk.{Disk, IsWholeImage, disk_of_image}

@@ -1,5 +1,5 @@
 -- What a call does to a session that C holds.
-use Rattle.std.specs.Prelude.{ℕ, ℤ, Bool, ◌≡◌, ◌≤◌, ◌==◌, ◌↔◌, IsTrue, not, true, pos, ◌-ℤ◌, List, length, drop, take, map, MatchResult, Option, Box, Vec, None, Some, Result, Ok, Err}
+use Rattle.std.specs.Prelude.{ℕ, ℤ, Bool, ◌≡◌, ◌≤◌, ◌↔◌, IsTrue, true, pos, List, length, drop, take, map, MatchResult, Option, Box, Vec, None, Some, Result, Ok, Err}
 use Rattle.std.specs.Option.{option_map}
 use Rattle.lfs_device.specs.declared.error.Error.{Error}
 use Rattle.lfs_model.specs.session.Operations as ops

@@ -131,12 +131,12 @@ def link_wasm(made, objects, names, imports, to):
 
 
 def for_wasm(crate, made, kept):
-    """Makes a module of 64-bit memory, and of it one of 32-bit addresses, whose functions still take and return pointers of 64 bits."""
+    """Makes a module of 64-bit memory, and of it one of 32-bit addresses, optimized again, whose functions still take and return pointers of 64 bits."""
     at, name = fresh(made / "parts" / crate), crate.removesuffix("_c")
     proved = module.compile_module(kept, at, WASM64, *WASM_FEATURES)
     names, imports = (["malloc", "free", *exports()], False) if crate == "littlefs_c" else (["main"], True)
     link_wasm(at, [proved, *c_for_wasm(at)], names, imports, made / f"{name}64.wasm")
-    run("wasm-opt", "--enable-memory64", "--enable-bulk-memory", "--enable-sign-ext", "--enable-mutable-globals", "--memory64-lowering", made / f"{name}64.wasm",
+    run("wasm-opt", "--enable-memory64", "--enable-bulk-memory", "--enable-sign-ext", "--enable-mutable-globals", "--memory64-lowering", "-O2", made / f"{name}64.wasm",
         "-o", made / f"{name}.wasm")
 
 

@@ -314,7 +314,7 @@ export class Image {
     const lines = new TextDecoder("latin1").decode(this.#whole("list_at", path)).split("\n").slice(0, -1);
     return lines.map((line) => {
       const [, kind, size, escaped] = line.match(/^([fd]) (\d+) (.*)$/s);
-      const name = nameOf(Uint8Array.from(unescaped(escaped)));
+      const name = nameOf(Uint8Array.from(unescaped(escaped), (letter) => letter.charCodeAt(0)));
       return { name, path: `${above}/${name}`, isDirectory: kind === "d", size: kind === "d" ? null : Number(size) };
     });
   }
@@ -429,15 +429,8 @@ export class Image {
   }
 }
 
-function* unescaped(text) {
-  for (let at = 0; at < text.length; at++) {
-    if (text[at] !== "\\") yield text.charCodeAt(at);
-    else {
-      yield parseInt(text.slice(at + 2, at + 4), 16);
-      at += 3;
-    }
-  }
-}
+/** The letters of a name that a listing has with `\x` and two digits for some. */
+const unescaped = (text) => text.replace(/\\x(..)/g, (_, digits) => String.fromCharCode(parseInt(digits, 16)));
 
 function whole(value, most) {
   if (!Number.isInteger(value) || value < 0 || value > most) throw new RangeError(`a whole number from 0 to ${most} is wanted, and not ${value}`);

@@ -166,13 +166,9 @@ const moreOf = ({ path, depth, left, most }) =>
 
 /** Marks the row that is chosen, and no other. */
 function mark(focus) {
-  const select = (row, is) => {
-    row.tabIndex = is ? 0 : -1;
-    row.setAttribute("aria-selected", is);
-  };
-  document.querySelectorAll('#tree [aria-selected="true"]').forEach((it) => select(it, false));
-  const row = [...document.querySelectorAll("#tree .row")].find((it) => it.title === disk.chosen);
-  select(row, true);
+  const rows = [...document.querySelectorAll("#tree .row")], row = rows.find((it) => it.title === disk.chosen);
+  for (const it of rows) it.tabIndex = it === row ? 0 : -1;
+  for (const it of rows) it.setAttribute("aria-selected", it === row);
   if (focus) row.focus();
   row.scrollIntoView({ block: "nearest" });
 }
@@ -307,10 +303,10 @@ async function make(title, fields, name, callOf, more) {
 }
 
 function makeOf(entries, name) {
-  const files = entries.filter(([, file]) => file), bytes = files.reduce((sum, [, file]) => sum + file.size, 0);
+  const count = entries.filter(([, file]) => file).length; // to ask for the sizes of many files would keep the page waiting
   const fields = [["size", "Size of the image", "auto"], ["inline", "Longest inline file", "1022"], ["names", "Longest name", "255"]];
   const hint = "The size is that of the firmware's partition, as 1408k or 0x160000; auto takes the fewest blocks that hold the files, as -s auto of the tool. Give the firmware's cache_size as the longest inline file, and its LFS_NAME_MAX.";
-  return make(`An image of ${name}: ${plural(files.length, "file")}, ${sized(bytes)}`, fields, `${plain(name) || "littlefs"}.img`, ({ blockSize }, given) => {
+  return make(`An image of ${name}: ${plural(count, "file")}`, fields, `${plain(name) || "littlefs"}.img`, ({ blockSize }, given) => {
     const size = given.size.trim() === "auto" ? "auto" : number(given.size, "Size");
     return ["make", entries, { blockSize, size, inlineMax: number(given.inline, "Longest inline file"), nameMax: number(given.names, "Longest name") }];
   }, { hint });

@@ -86,10 +86,7 @@ const calls = {
   },
 
   openAt: (name, options) => open(name, options),
-
-  format(options) {
-    image = Image.format(options);
-  },
+  format: (options) => void (image = Image.format(options)),
 
   /** Makes an image of files, as `mklittlefs -c`. */
   async make(entries, { size, ...options }) {

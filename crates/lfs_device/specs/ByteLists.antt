@@ -1,4 +1,4 @@
--- A part of a list of bytes consists of bytes.
+-- The bytes of a part of a list are bytes.
 use Rattle.std.proofs.Common.{ℕ, zero, suc, List, [], ◌∷◌, take, drop, arith}
 use Rattle.lfs_model.specs.format.Blocks.{cut}
 use Rattle.lfs_device.specs.Bytes.{ElementsAreBytes, AreByteBlocks}
@@ -17,7 +17,7 @@ AreBytes-drop zero xs are = are
 AreBytes-drop (suc n) [] are = none
 AreBytes-drop (suc n) (x ∷ xs) are = AreBytes-drop n xs (λ j. are (suc j))
 
--- the blocks of a list of bytes
+-- The blocks cut from a list of bytes are blocks of bytes.
 pub HasBytes-cut : (size count : ℕ) (bytes : List ℕ) → ElementsAreBytes bytes → AreByteBlocks (cut size count bytes)
 HasBytes-cut size zero bytes are b i = none i
 HasBytes-cut size (suc count) bytes are zero i = AreBytes-take size bytes are i

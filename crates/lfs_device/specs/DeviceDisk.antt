@@ -4,9 +4,10 @@ use Rattle.lfs_model.specs.format.Blocks.{Blocks}
 use Rattle.lfs_model.specs.format.Disk.{Disk, plain_disk}
 use Rattle.lfs_model.specs.declared.limits.Profile.{Profile}
 
+-- The disk with these blocks, in the geometry of a device.
 abbrev pub disk_of_blocks : Geometry → Blocks → Disk
 disk_of_blocks geometry blocks = plain_disk geometry.block_size geometry.page geometry.profile blocks
 
--- the same disk, with that profile
+-- The disk with another profile.
 abbrev pub profiled_disk : Profile → Disk → Disk
 profiled_disk profile disk = record disk { profile = profile }

@@ -1,4 +1,4 @@
--- Which calls of a device are to fail, and how much of them is done first.
+-- The calls of a device that are planned to fail, and how much of each is done before it fails.
 use Rattle.std.specs.Prelude.{ℕ, ◌+◌, Bool, true, false, not, ◌&&◌, ◌||◌, ◌==◌, nat_le, nat_lt, if◌then◌else◌, Option, Some, None, is_some, List, [], ◌∷◌}
 use Rattle.lfs_device.specs.declared.fault.CountedCalls.{CountedCalls}
 use Rattle.lfs_device.specs.declared.fault.CountedCalls.TheVariants.{Any, Read, Program, Erase}
@@ -8,13 +8,14 @@ use Rattle.lfs_device.specs.declared.fault.PlannedFault.{PlannedFault}
 use Rattle.lfs_model.specs.session.History.DeviceCall.{Read as Read', Program as Program', Erase as Erase', Blank as Blank'}
 use Rattle.lfs_model.specs.session.History.{DeviceCall, CallEvent, read_count, program_count, erase_count}
 
+-- The number of calls so far that a planned fault counts.
 abbrev pub call_count : CountedCalls → List CallEvent → ℕ
 call_count Any history = read_count history + program_count history + erase_count history
 call_count Read history = read_count history
 call_count Program history = program_count history
 call_count Erase history = erase_count history
 
--- a question whether bytes are blank isn't
+-- Whether a planned fault counts the call. A blank check is never counted.
 abbrev pub is_counted : CountedCalls → DeviceCall → Bool
 is_counted Any (Blank' block off len) = false
 is_counted Any call = true
@@ -23,57 +24,59 @@ is_counted Program (Program' block off bytes) = true
 is_counted Erase (Erase' block) = true
 is_counted which call = false
 
--- the block is the one that can't be written
+-- Whether block `b` is the bad block, which can't be written.
 abbrev pub is_bad_block : Option ℕ → ℕ → Bool
 is_bad_block None b = false
 is_bad_block (Some bad) b = bad == b
 
--- an erase or a program of the block that can't be written
+-- Whether the call is an erase or a program of the bad block.
 abbrev pub is_bad_call : Option ℕ → DeviceCall → Bool
 is_bad_call bad (Program' block off bytes) = is_bad_block bad block
 is_bad_call bad (Erase' block) = is_bad_block bad block
 is_bad_call bad call = false
 
--- a call that counts is the one at which the device fails
+-- Whether the call is counted, and is the one planned to fail by its number.
 abbrev pub is_nth_call : Bool → CountedCalls → ℕ → List CallEvent → Bool
 is_nth_call counted which nth older = counted && call_count which older + 1 == nth
 
--- the failing call is past, and each later call fails too
+-- Whether the planned call is past, and every later call fails too.
 abbrev pub has_stopped : CountedCalls → ℕ → Bool → List CallEvent → Bool
 has_stopped which nth stops older = stops && nat_lt 0 nth && nat_le nth (call_count which older)
 
--- how much of a call is done at which the device fails by its number; none if it doesn't
+-- How much is done of a call that fails by its number, or None if it isn't due to fail by its
+-- number.
 abbrev pub numbered_extent : PlannedFault → Bool → List CallEvent → Option FaultExtent
 numbered_extent fault counted older =
     if is_nth_call counted fault.which fault.nth older then Some fault.extent else
     (if has_stopped fault.which fault.nth fault.stops older then Some Nothing else None)
 
--- the same, and none of a call that writes the block that can't be written
+-- The extent of a call that fails by its number. For any other call it is Nothing if the call
+-- writes the bad block, and None if it doesn't.
 abbrev pub extent_with_bad : Bool → Option FaultExtent → Option FaultExtent
 extent_with_bad bad (Some extent) = Some extent
 extent_with_bad bad None = if bad then Some Nothing else None
 
--- how much of the call is done; none if it isn't due to fail
+-- How much is done of the call before it fails, or None if it isn't due to fail.
 abbrev pub extent_if_due : PlannedFault → DeviceCall → List CallEvent → Option FaultExtent
 extent_if_due fault call older = extent_with_bad (is_bad_call fault.bad_block call) (numbered_extent fault (is_counted fault.which call) older)
 
--- the next call is to fail
+-- Whether the next call is due to fail.
 abbrev pub is_to_fail : PlannedFault → DeviceCall → List CallEvent → Bool
 is_to_fail fault call older = is_some (extent_if_due fault call older)
 
--- a part of the call alone is done
+-- Whether the call is done in part.
 abbrev pub is_partial : FaultExtent → Bool
 is_partial Nothing = false
 is_partial (FirstBytes k) = true
 is_partial (AllButFirst k) = true
 is_partial Whole = false
 
--- each call failed that was to fail
+-- Whether every call that was due to fail failed.
 abbrev pub have_due_failed : PlannedFault → List CallEvent → Bool
 have_due_failed fault [] = true
 have_due_failed fault (e ∷ older) = (not (is_to_fail fault e.call older) || e.failed) && have_due_failed fault older
 
--- how many calls failed that weren't to fail
+-- The number of calls that failed without being due to.
 abbrev pub unplanned_faults : PlannedFault → List CallEvent → ℕ
 unplanned_faults fault [] = 0
 unplanned_faults fault (e ∷ older) = unplanned_faults fault older + (if e.failed && not (is_to_fail fault e.call older) then 1 else 0)

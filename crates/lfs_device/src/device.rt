@@ -9,23 +9,23 @@ ghost use Rattle.lfs_device.specs.BlockCalls.{AsksIfBlank, CanProgram, IsWithinB
 
 use crate::{Error, Geometry};
 
-/// A block device, such as flash. A block is erased whole, and then its bytes are programmed in
-/// whole pages, each byte once until the next erase.
+/// A block device, such as flash. A block is erased as a whole. The bytes of a block are programmed
+/// in whole pages, and each byte at most once between two erases of the block.
 ///
-/// Blocks are numbered from 0 on, and an offset counts bytes from the block's beginning. The only
-/// error is `Io`, which says that the device failed in this call. No call takes memory.
+/// Blocks are numbered from 0, and an offset counts bytes from the beginning of a block. The only
+/// error is `Io`, which says that the device failed in this call. No call allocates memory.
 ///
-/// A contract sees the bytes of each block and the calls so far. Other facts follow from the calls:
-/// how many of each kind there were and how many failed, which bytes are unprogrammed, and what a
-/// loss of power may have left.
+/// Contracts describe a device by the bytes of its blocks and by the history of its calls. The
+/// history determines how many calls of each kind there were, how many of them failed, which bytes
+/// are unprogrammed, and what a power loss may have left.
 pub trait BlockDevice {
-    /// The geometry of the device. It never changes.
+    /// The geometry of the device, which never changes.
     ghost geometry: { Self → Geometry };
 
-    /// The bytes of each block.
+    /// The bytes of each block of the device.
     ghost blocks: { Self → Blocks };
 
-    /// The calls so far, the newest first.
+    /// All calls to the device so far, the newest first.
     ghost history: { Self → List CallEvent };
 
     /// Returns the geometry: the sizes of blocks and pages in bytes, the number of blocks, and the
@@ -33,10 +33,10 @@ pub trait BlockDevice {
     fn geometry(&self) -> Geometry
         ensures { result ≡ geometry self.now };
 
-    /// Fills the buffer with the bytes of a block from the offset `off` on. The bytes are within
-    /// the block.
+    /// Fills the buffer with bytes from a block, starting at the offset `off`. The range must be
+    /// within the block.
     ///
-    /// Errors: `Io` where the device failed. The buffer may then hold any bytes.
+    /// Errors: `Io` if the device fails. After an error the buffer may hold any bytes.
     fn read(&mut self, block: u32, off: u32, buf: &mut [u8]) -> Result<(), Error>
         requires within { IsWithinBlock (geometry self.old) block off (length buf.old) }
         ensures bytes { OnOk result (buf.new ≡ slice_range (block_bytes (blocks self.old) block) off (off + length buf.old)) }
@@ -45,11 +45,12 @@ pub trait BlockDevice {
         ensures history { history self.new ≡ call_event (Read block off (length buf.old)) (blocks self.old) (blocks self.new) (is_err result) ∷ history self.old }
         ensures error { IfErr result (λ e. e ≡ Error.Io) };
 
-    /// Programs whole pages of a block, from the offset `off` on. Offset and length are multiples
-    /// of the page. Each byte of the pages is unprogrammed since the last erase of the block.
+    /// Programs whole pages of a block, starting at the offset `off`. The offset and the length
+    /// must be multiples of the page size. Each byte must have been erased, or reported as blank by
+    /// `is_unprogrammed`, and not been programmed since.
     ///
-    /// Errors: `Io` where the device failed. These pages may then hold any bytes, and count as
-    /// programmed.
+    /// Errors: `Io` if the device fails. After an error the pages may hold any bytes, which count
+    /// as programmed.
     fn prog(&mut self, block: u32, off: u32, bytes: &[u8]) -> Result<(), Error>
         requires can { CanProgram (geometry self.old) (history self.old) block off (length bytes.now) }
         ensures programs { Programs block off bytes.now (blocks self.old) (blocks self.new) result }
@@ -59,8 +60,8 @@ pub trait BlockDevice {
 
     /// Erases a block. After the call the block may hold any bytes, all of them unprogrammed.
     ///
-    /// Errors: `Io` where the device failed. The block may then hold any bytes, and they count as
-    /// programmed.
+    /// Errors: `Io` if the device fails. After an error the block may hold any bytes, which count
+    /// as programmed.
     fn erase(&mut self, block: u32) -> Result<(), Error>
         requires { block < (geometry self.old).block_count }
         ensures others { SameExcept block (blocks self.old) (blocks self.new) }
@@ -68,12 +69,12 @@ pub trait BlockDevice {
         ensures history { history self.new ≡ call_event (Erase block) (blocks self.old) (blocks self.new) (is_err result) ∷ history self.old }
         ensures error { IfErr result (λ e. e ≡ Error.Io) };
 
-    /// Returns whether the device knows that the `len` bytes at `off` have not been programmed since
-    /// the block was last erased. A driver returns true only if it is sure: the bytes read as erased,
-    /// and no program of them was cut short. The default implementation returns false, without a
-    /// call.
+    /// Returns whether the device knows that the `len` bytes at `off` haven't been programmed since
+    /// the block was last erased. A driver returns true only if it is sure that the bytes read as
+    /// erased and that no program of them was cut short. The default implementation always returns
+    /// false.
     ///
-    /// Errors: `Io` where the device failed.
+    /// Errors: `Io` if the device fails.
     fn is_unprogrammed(&mut self, block: u32, off: u32, len: u32) -> Result<bool, Error>
         requires within { IsWithinBlock (geometry self.old) block off len }
         ensures same { blocks self.new ≡ blocks self.old }
@@ -85,16 +86,15 @@ pub trait BlockDevice {
         Ok(false)
     }
 
-    /// The device has as many blocks as its geometry says, each of that size.
+    /// The device has as many blocks as its geometry says, each of the geometry's block size.
     ghost shape: { (d : Self) → HasBlockSizes (geometry d).block_size (geometry d).block_count (blocks d) };
 
-    /// A block holds bytes: numbers below 256.
+    /// Each block consists of bytes, which are numbers below 256.
     ghost bytes: { (d : Self) → AreByteBlocks (blocks d) };
 
-    /// The newest call, if there was one, left the blocks as they are.
+    /// If there was a call, the blocks are as the newest call left them.
     ghost newest: { (d : Self) → LeftByLatest (history d) (blocks d) };
 
-    /// Each call that didn't fail conforms: it did what the call is for, and changed no other
-    /// block.
+    /// Each call that didn't fail did its work and changed no other block.
     ghost conforms: { (d : Self) → CallsConform (history d) };
 }

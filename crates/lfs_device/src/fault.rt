@@ -12,7 +12,7 @@ ghost use Rattle.lfs_device.specs.CallsBelow.{AddsNoFault, KeepsFirstBytes, Pass
 use crate::partial::{erase_as_planned, program_as_planned, read_as_planned};
 use crate::{BlockDevice, Error, Geometry, Trace};
 
-/// Which calls are counted towards a fault.
+/// The kind of call that a `FaultDevice` counts to decide when to fail.
 #[derive(Clone, Copy, Debug, PartialEq, Eq)]
 pub enum CountedCalls {
     Any,
@@ -21,47 +21,49 @@ pub enum CountedCalls {
     Erase,
 }
 
-/// How much of the failing call a device does before it fails.
+/// The part of the failing call that a device performs before it fails.
 #[derive(Clone, Copy, Debug, PartialEq, Eq)]
 pub enum FaultExtent {
-    /// Nothing: the bytes stay as they were.
+    /// The device does nothing, and all bytes stay unchanged.
     Nothing,
-    /// A program stores its first `k` bytes, or all if it has fewer; any other call does nothing.
+    /// A failing program stores its first `k` bytes, or all of them if there are fewer. A failing
+    /// read or erase does nothing.
     FirstBytes(u32),
-    /// Of an erase all but the block's first `k` bytes, which stay. Of another call nothing.
+    /// A failing erase keeps the first `k` bytes of the block and erases the rest. A failing read
+    /// or program does nothing.
     AllButFirst(u32),
-    /// All of the call.
+    /// The device performs the whole call before it fails.
     Whole,
 }
 
-/// At which call a device fails, and how.
+/// The plan of a fault, which says at which call a device fails, and how.
 #[derive(Clone, Copy, Debug, PartialEq, Eq)]
 pub struct PlannedFault {
-    /// The calls that are counted.
+    /// The kind of call that is counted.
     pub which: CountedCalls,
-    /// The number of the call that fails, among those that are counted, from 1 on. At 0 no call
-    /// fails.
+    /// The number of the counted call that fails, starting at 1. At 0, no counted call fails.
     pub nth: u64,
-    /// Whether each later call fails too, without an effect.
+    /// Whether every call after the failing one fails too, without any effect.
     pub stops: bool,
-    /// How much of the failing call is done.
+    /// The part of the failing call that is performed.
     pub extent: FaultExtent,
-    /// A block whose erases and programs all fail too, without an effect.
+    /// A block of which every erase and every program fails without any effect.
     pub bad_block: Option<u32>,
 }
 
-/// A device over another device. One of its calls fails, for tests of faults.
+/// A device for tests of faults, which wraps another device and fails at a planned call.
 ///
-/// Each other call is passed to the device below, and fails only where that one fails. The calls
-/// are counted up to `u64::MAX`. Questions whether bytes are blank aren't counted.
+/// Every other call is passed to the wrapped device, and fails only if the wrapped device fails.
+/// Calls are counted up to `u64::MAX`. Calls to `is_unprogrammed` aren't counted.
 #[derive(Drop)]
 pub struct FaultDevice<D: BlockDevice> {
     inner: D,
     fault: PlannedFault,
     tears: bool,
-    // Whether the device passes on what the one below says of blank bytes.
+    // Whether `is_unprogrammed` asks the wrapped device.
     checks_blanks: bool,
-    // Holds a block's bytes while an erase of it is cut short. Without it such an erase does nothing.
+    // Holds a block's bytes during an erase that is cut short. Without a buffer, an erase that is
+    // cut short does nothing.
     buffer: Option<Vec<u8>>,
     read_calls: u64,
     program_calls: u64,
@@ -82,9 +84,9 @@ pub struct FaultDevice<D: BlockDevice> {
 impl<D: BlockDevice> FaultDevice<D> {
     ghost use Rattle.lfs_device.specs.FaultDevice.{inner_device, planned_fault, can_tear, passes_blanks, fault_history};
 
-    /// Makes a device whose `n`-th call of those that `which` names fails without an effect. `n`
-    /// counts from 1; at 0 no call fails. With `stop` each later call fails too. Every byte counts
-    /// as programmed.
+    /// Creates a device whose `n`-th call of the kind `which` fails without any effect. Calls are
+    /// counted from 1, and if `n` is 0, no call fails. If `stop` is true, every later call fails
+    /// too. All bytes of the new device count as programmed.
     pub fn new(inner: D, which: CountedCalls, n: u64, stop: bool) -> FaultDevice<D>
         ensures inner { inner_device result ≡ inner }
         ensures fault { planned_fault result ≡ record { which = which; nth = n; stops = stop; extent = FaultExtent.Nothing; bad_block = None } }
@@ -104,8 +106,8 @@ impl<D: BlockDevice> FaultDevice<D> {
         )
     }
 
-    /// Makes a device that can't write one block: each erase and program of it fails without an
-    /// effect. Every byte counts as programmed.
+    /// Creates a device on which every erase and program of one block fails without any effect. All
+    /// bytes of the new device count as programmed.
     pub fn with_bad_block(inner: D, block: u32) -> FaultDevice<D>
         ensures inner { inner_device result ≡ inner }
         ensures fault { planned_fault result ≡ record { which = CountedCalls.Any; nth = 0; stops = false; extent = FaultExtent.Nothing; bad_block = Some block } }
@@ -125,7 +127,7 @@ impl<D: BlockDevice> FaultDevice<D> {
         )
     }
 
-    // Makes a device with a fault that does no part of a call alone.
+    // Creates a device whose failing call is performed either as a whole or not at all.
     fn with_fault(inner: D, fault: PlannedFault) -> FaultDevice<D>
         requires { is_partial fault.extent ≡ false }
         ensures inner { inner_device result ≡ inner }
@@ -148,8 +150,8 @@ impl<D: BlockDevice> FaultDevice<D> {
         }
     }
 
-    /// Returns the same device, whose failing call, if it is a program, first stores its first `k`
-    /// bytes.
+    /// Changes the planned fault so that a failing program first stores its first `k` bytes, and
+    /// returns the device.
     pub fn torn(self, k: u32) -> FaultDevice<D>
         ensures inner { inner_device result ≡ inner_device self }
         ensures fault { planned_fault result ≡ record (planned_fault self) { extent = FaultExtent.FirstBytes k } }
@@ -160,8 +162,8 @@ impl<D: BlockDevice> FaultDevice<D> {
         self.with_fault_extent(FaultExtent::FirstBytes(k))
     }
 
-    /// Returns the same device, whose failing call, if it is an erase, leaves the block's first `k`
-    /// bytes as they were. The buffer is as long as a block. With another one such an erase does
+    /// Changes the planned fault so that a failing erase keeps the block's first `k` bytes, and
+    /// returns the device. If the buffer isn't exactly as long as a block, a failing erase does
     /// nothing.
     pub fn torn_erase(mut self, k: u32, buffer: Vec<u8>) -> FaultDevice<D>
         ensures inner { inner_device result ≡ inner_device self }
@@ -174,7 +176,8 @@ impl<D: BlockDevice> FaultDevice<D> {
         self.with_fault_extent(FaultExtent::AllButFirst(k))
     }
 
-    /// Returns the same device, whose failing call is done whole and then fails.
+    /// Changes the planned fault so that the failing call is performed as a whole before it fails,
+    /// and returns the device.
     pub fn whole(self) -> FaultDevice<D>
         ensures inner { inner_device result ≡ inner_device self }
         ensures fault { planned_fault result ≡ record (planned_fault self) { extent = FaultExtent.Whole } }
@@ -185,8 +188,8 @@ impl<D: BlockDevice> FaultDevice<D> {
         self.with_fault_extent(FaultExtent::Whole)
     }
 
-    /// Returns the same device, which passes on from now on what the device below says of blank bytes,
-    /// until it stops. Otherwise it never says that bytes are blank.
+    /// Returns the same device, whose `is_unprogrammed` asks the wrapped device until the fault
+    /// stops all calls. Without this setting `is_unprogrammed` always returns false.
     pub fn with_blank_checks(mut self) -> FaultDevice<D>
         ensures inner { inner_device result ≡ inner_device self }
         ensures fault { planned_fault result ≡ planned_fault self }
@@ -210,7 +213,7 @@ impl<D: BlockDevice> FaultDevice<D> {
         self
     }
 
-    /// Returns the device below.
+    /// Consumes the device and returns the wrapped device.
     pub fn into_inner(self) -> D
         ensures { result ≡ inner_device self }
     {
@@ -228,15 +231,15 @@ impl<D: BlockDevice> FaultDevice<D> {
         inner
     }
 
-    /// Borrows the device below.
+    /// Borrows the wrapped device.
     pub fn inner(&self) -> &D
         ensures { result.now ≡ inner_device self.now }
     {
         &self.inner
     }
 
-    /// Returns how many calls there were of those that `which` names, with those that failed.
-    /// Returns `u64::MAX` where there were more.
+    /// Returns the number of calls of the kind `which`, failed calls included. Returns `u64::MAX`
+    /// if there were more calls.
     pub fn calls(&self, which: CountedCalls) -> u64
         ensures { result ≡ min (call_count which (fault_history self.now)) (2 ^ 64 - 1) }
     {
@@ -252,22 +255,22 @@ impl<D: BlockDevice> FaultDevice<D> {
     }
 
     /// Returns whether [`torn`](FaultDevice::torn) or [`torn_erase`](FaultDevice::torn_erase) was
-    /// ever called: then a part of a program or of an erase alone may be done.
+    /// ever called. After such a call, a failing program or erase may be performed only in part.
     pub fn may_tear_program(&self) -> bool
         ensures { result ≡ can_tear self.now }
     {
         self.tears
     }
 
-    /// Shows a proof the premises of contracts about a loss of power. The device meets them where
-    /// no program and no erase is torn and the devices below are reliable. The call does nothing at
-    /// run time.
+    /// Proves that the device meets the premises of contracts about power loss. This requires that
+    /// no program or erase is torn, and that each device of the wrapped type never fails and meets
+    /// these premises too. The call does nothing at run time.
     pub fn lemma_premises_hold(&self)
         ensures { can_tear self.now ≡ false → DevicesMeetPremisesFaultless ⟦<D as BlockDevice>⟧ → MeetsPremises (fault_history self.now) }
     {}
 
-    // Returns how much of the next call is done before it fails, if it is due to fail. `counts`
-    // says whether the call is counted.
+    // Returns the part of the next call that is performed before it fails, or `None` if the call
+    // isn't due to fail. `counts` says whether the call is counted.
     fn numbered_extent(&self, counts: bool) -> Option<FaultExtent>
         ensures { result ≡ numbered_extent self.now.fault counts self.now.trace.events }
     {
@@ -284,7 +287,8 @@ impl<D: BlockDevice> FaultDevice<D> {
         None
     }
 
-    // Returns the same of a call that writes a block.
+    // Returns the part of a program or an erase of the block that is performed before it fails, or
+    // `None` if the call isn't due to fail.
     fn extent_at_block(&self, counts: bool, block: u32) -> Option<FaultExtent>
         ensures { result ≡ extent_with_bad (is_bad_block self.now.fault.bad_block block) (numbered_extent self.now.fault counts self.now.trace.events) }
     {
@@ -295,7 +299,7 @@ impl<D: BlockDevice> FaultDevice<D> {
         }
     }
 
-    // Whether a question about blank bytes goes to the device below.
+    // Returns whether `is_unprogrammed` asks the wrapped device.
     fn passes_questions(&self) -> bool
         ensures { result ≡ (self.now.checks_blanks && is_none (numbered_extent self.now.fault false self.now.trace.events)) }
     {
@@ -312,7 +316,7 @@ impl<D: BlockDevice> FaultDevice<D> {
     }
 }
 
-// Whether such a fault does a part of a call alone.
+// Returns whether the fault performs only a part of a call.
 fn is_part(extent: FaultExtent) -> bool
     ensures { result ≡ is_partial extent }
 {
@@ -399,8 +403,8 @@ impl<D: BlockDevice> BlockDevice for FaultDevice<D> {
         outcome
     }
 
-    /// Answers as the device below, if the device was asked to and hasn't stopped. Otherwise answers
-    /// no, without a call.
+    /// Returns the answer of the wrapped device, if `with_blank_checks` was called and the fault
+    /// hasn't stopped all calls. Otherwise returns false without asking the wrapped device.
     fn is_unprogrammed(&mut self, block: u32, off: u32, len: u32) -> Result<bool, Error>
         requires within { IsWithinBlock (D.geometry (inner_device self.old)) block off len }
         ensures unasked { passes_blanks self.old ≡ false → (result ≡ Ok false) × (self.new ≡ self.old) }

@@ -5,27 +5,27 @@ ghost use Rattle.lfs_model.specs.format.Geometry.{IsValidGeometry};
 use crate::Error;
 use lfs_model::Profile;
 
-/// How a device is divided: into blocks, which are erased whole, and pages, which are programmed
-/// whole. Sizes are in bytes.
+/// The division of a device into blocks, which are erased as a whole, and pages, which are
+/// programmed as a whole. All sizes are in bytes.
 ///
-/// A page is a power of two from 8 to 512 and at most an eighth of a block.
-/// A block is a multiple of the page, from 1,024 to 65,536.
-/// There are 2 to 65,536 blocks, in all at most 268,435,456 bytes.
+/// The page size is a power of two from 8 to 512, and at most an eighth of the block size. The
+/// block size is a multiple of the page size, from 1,024 to 65,536. A device has 2 to 65,536
+/// blocks, and at most 268,435,456 bytes in all.
 #[derive(Clone, Copy, Debug, PartialEq, Eq)]
 pub struct Geometry {
     pub block_size: u32,
     pub page: u32,
     pub block_count: u32,
-    /// What a mount of the device accepts, and what is written there.
+    /// The versions and limits by which images on the device are accepted and written.
     pub profile: Profile,
     pub ghost valid: { IsValidGeometry block_size page block_count },
 }
 
 impl Geometry {
-    /// Makes a geometry of these sizes in bytes, with the profile of `Profile::new`. The call takes
-    /// no memory.
+    /// Creates a geometry with the given sizes in bytes and the profile of `Profile::new`. The call
+    /// allocates no memory.
     ///
-    /// Errors: `Invalid` exactly where the sizes are outside the limits.
+    /// Errors: `Invalid` if and only if the sizes are outside the limits.
     pub fn new(block_size: u32, page: u32, block_count: u32) -> Result<Geometry, Error>
         ensures { MatchResult result
             (λ g. (g.block_size ≡ block_size) × (g.page ≡ page) × (g.block_count ≡ block_count) × (g.profile ≡ default_profile))
@@ -55,7 +55,7 @@ impl Geometry {
         })
     }
 
-    /// Returns the same geometry with that profile.
+    /// Returns the same geometry with the given profile.
     pub fn with_profile(self, profile: Profile) -> Geometry
         ensures { result ≡ record self { profile = profile } }
     {
@@ -67,61 +67,62 @@ impl Geometry {
         }
     }
 
-    /// Returns how many bytes the slots of a written metadata pair may take, each name, struct and
-    /// attribute with its tag of 4 bytes. These are a block less 39 bytes and a page, which the
-    /// revision, tail, move state and checksum may take (SPEC.md of littlefs, "Metadata pairs").
+    /// Returns the number of bytes that the slots of a written metadata pair may need. Each name,
+    /// struct and attribute counts with its tag of 4 bytes. This capacity is the block size minus
+    /// 39 bytes and one page, which are reserved for the revision count, tail, move state and
+    /// checksum (SPEC.md of littlefs, "Metadata pairs").
     pub fn pair_capacity(self) -> u32
         ensures { result ≡ pair_capacity self.block_size self.page }
     {
         self.block_size - 39 - self.page
     }
 
-    /// Returns how many bytes a name and its attributes may take, with their tags: half of the
-    /// bytes of a pair's slots.
+    /// Returns the number of bytes that a name and its attributes may need, including their tags:
+    /// half of what `pair_capacity` returns.
     pub fn entry_size_limit(self) -> u32
         ensures { result ≡ charge_limit self.block_size self.page }
     {
         self.pair_capacity() / 2
     }
 
-    /// Returns the size in bytes of the largest file that is kept inline: an eighth of a block, and
-    /// at most 1,022 and the profile's.
+    /// Returns the size in bytes of the largest file that is kept inline: the smallest of an eighth
+    /// of a block, 1,022 and the profile's `inline_max`.
     pub fn inline_limit(self) -> u32
         ensures { result ≡ inline_limit self.profile self.block_size }
     {
         self.profile.inline_max.min((self.block_size / 8).min(1022))
     }
 
-    /// Returns the size in bytes of the longest struct of an entry: inline contents, or 8 bytes for
-    /// a list or a directory.
+    /// Returns the size in bytes of the largest struct of an entry. A struct holds inline contents,
+    /// or the 8 bytes of a CTZ skip-list or a directory.
     pub fn struct_limit(self) -> u32
         ensures { result ≡ struct_max self.profile self.block_size }
     {
         self.inline_limit().max(8)
     }
 
-    /// Returns the longest name that is written, in bytes: at most 255.
+    /// Returns the length in bytes of the longest name that is written, at most 255.
     pub fn name_max(self) -> u32
         ensures { result ≡ profile_name_max self.profile }
     {
         self.profile.name_max.min(255)
     }
 
-    /// Returns the longest file that is written, in bytes: at most 2,147,483,647.
+    /// Returns the size in bytes of the largest file that is written, at most 2,147,483,647.
     pub fn file_max(self) -> u32
         ensures { result ≡ profile_file_max self.profile }
     {
         self.profile.file_max.min(2_147_483_647)
     }
 
-    /// Returns the longest attribute that is written, in bytes: at most 1,022.
+    /// Returns the size in bytes of the largest attribute that is written, at most 1,022.
     pub fn attr_max(self) -> u32
         ensures { result ≡ profile_attr_max self.profile }
     {
         self.profile.attr_max.min(1022)
     }
 
-    /// Returns how many slots a written metadata pair may have.
+    /// Returns the largest number of slots that a written metadata pair may have.
     pub fn slot_limit(self) -> usize
         ensures { result ≡ slots_limit }
     {

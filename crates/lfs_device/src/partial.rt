@@ -10,7 +10,8 @@ ghost use Rattle.lfs_device.specs.Partial.{ChangesOnlyErasedBlock, ChangesOnlyRa
 use crate::fault::FaultExtent;
 use crate::{BlockDevice, Error};
 
-/// Reads, or does the part of the read that is due and fails.
+/// Reads bytes if no fault is due. If a fault is due, does the part of the read that `due` says,
+/// and returns `Io`.
 pub(crate) fn read_as_planned<D: BlockDevice>(
     device: &mut D,
     due: Option<FaultExtent>,
@@ -35,7 +36,8 @@ pub(crate) fn read_as_planned<D: BlockDevice>(
     }
 }
 
-/// Programs, or does the part of the program that is due and fails.
+/// Programs bytes if no fault is due. If a fault is due, does the part of the program that `due`
+/// says, and returns `Io`.
 pub(crate) fn program_as_planned<D: BlockDevice>(
     device: &mut D,
     due: Option<FaultExtent>,
@@ -66,7 +68,8 @@ pub(crate) fn program_as_planned<D: BlockDevice>(
     }
 }
 
-/// Erases, or does the part of the erase that is due and fails.
+/// Erases a block if no fault is due. If a fault is due, does the part of the erase that `due`
+/// says, and returns `Io`.
 pub(crate) fn erase_as_planned<D: BlockDevice>(
     device: &mut D,
     due: Option<FaultExtent>,
@@ -93,8 +96,8 @@ pub(crate) fn erase_as_planned<D: BlockDevice>(
     }
 }
 
-// Erases a block, and then programs the first `k` bytes that it had. Does nothing without a buffer
-// as long as a block.
+// Erases a block, and then programs the first `k` bytes that the block had before. Does nothing
+// unless there is a buffer of exactly a block's size.
 fn erase_all_but_first<D: BlockDevice>(
     device: &mut D,
     block: u32,
@@ -113,7 +116,8 @@ fn erase_all_but_first<D: BlockDevice>(
     }
 }
 
-// The same with a buffer as long as a block.
+// Erases a block, and then programs the first `k` bytes that the block had before. The buffer has a
+// block's size.
 fn erase_behind_first<D: BlockDevice>(
     device: &mut D,
     block: u32,
@@ -131,8 +135,8 @@ fn erase_behind_first<D: BlockDevice>(
     program_first_bytes(device, block, 0, bytes, k)
 }
 
-/// Programs the first `k` of these bytes, all where there are fewer. The bytes after them stay as
-/// they are.
+/// Programs the first `k` of the given bytes, or all of them if there are fewer. Leaves all other
+/// bytes unchanged.
 pub(crate) fn program_first_bytes<D: BlockDevice>(
     device: &mut D,
     block: u32,
@@ -155,7 +159,8 @@ pub(crate) fn program_first_bytes<D: BlockDevice>(
     program_page_part(device, block, off + whole as u32, &bytes[whole..stored])
 }
 
-// Programs the beginning of a page, and the remaining bytes of the page with what it holds.
+// Programs the given bytes at the beginning of a page, and the rest of the page with the bytes that
+// it already holds.
 fn program_page_part<D: BlockDevice>(
     device: &mut D,
     block: u32,

@@ -6,8 +6,8 @@ ghost use Rattle.lfs_device.specs.declared.geometry.Geometry.{Geometry};
 use crate::{BlockDevice, Error, Geometry};
 use lfs_model::Profile;
 
-/// A device whose images are accepted and written by a given profile. Its blocks and calls are those
-/// of the device below.
+/// A device that wraps another device and replaces that device's profile. The blocks and the calls
+/// are those of the wrapped device.
 #[derive(Drop)]
 pub struct Profiled<D: BlockDevice> {
     inner: D,
@@ -22,21 +22,21 @@ impl<D: BlockDevice> Profiled<D> {
         Profiled { inner, profile }
     }
 
-    /// Borrows the device below.
+    /// Borrows the wrapped device.
     pub fn inner(&self) -> &D
         ensures { result.now ≡ self.now.inner }
     {
         &self.inner
     }
 
-    /// Returns the device below.
+    /// Consumes the device and returns the wrapped device.
     pub fn into_inner(self) -> D
         ensures { result ≡ self.inner }
     {
         self.inner
     }
 
-    /// Returns the profile.
+    /// Returns the profile that replaces the wrapped device's own profile.
     pub fn profile(&self) -> Profile
         ensures { result ≡ self.now.profile }
     {

@@ -11,22 +11,22 @@ ghost use Rattle.lfs_device.specs.Erased.{FillIsByte, erased_bytes, erased_range
 use crate::{BlockDevice, Error, Geometry, Trace};
 use std::alloc::Global;
 
-/// What a successful erase leaves in each byte of a block.
+/// The values of a block's bytes after a successful erase.
 #[derive(Clone, Copy, Debug, PartialEq, Eq)]
 pub enum Erased {
-    /// This byte, as flash is 0xff after an erase.
+    /// Each byte has this value, such as the 0xff of erased flash.
     Fill(u8),
-    /// The bytes from before the erase.
+    /// Each byte keeps its value from before the erase.
     Keep,
 }
 
-/// A device in memory. Its reads, programs and erases take no memory and never fail.
+/// A block device in memory, whose reads, programs and erases allocate no memory and never fail.
 #[derive(Drop)]
 pub struct RamDevice {
     geometry: Geometry,
     bytes: Vec<u8>,
     erased: Erased,
-    // Whether the device says that bytes are blank.
+    // Whether `is_unprogrammed` may return true.
     checks_blanks: bool,
     trace: Trace,
     ghost are_bytes: { ElementsAreBytes bytes.items },
@@ -40,10 +40,10 @@ pub struct RamDevice {
 impl RamDevice {
     ghost use Rattle.lfs_device.specs.RamDevice.{ram_geometry, ram_bytes, ram_blocks, erase_setting, checks_blanks, ram_history};
 
-    /// Makes a device that holds 0xff in every byte. An erase fills a block with 0xff. Every byte
-    /// counts as programmed.
+    /// Creates a device whose bytes are all 0xff and count as programmed. An erase fills a block
+    /// with 0xff.
     ///
-    /// Errors: `NoMemory` where memory for all bytes isn't granted.
+    /// Errors: `NoMemory` if memory for the bytes can't be allocated.
     pub fn blank(alloc: Global, geometry: Geometry) -> Result<RamDevice, Error>
         ensures geometry { IfOk result (λ d. ram_geometry d ≡ geometry) }
         ensures bytes { IfOk result (λ d. ram_bytes d ≡ replicate (geometry.block_size * geometry.block_count) 255) }
@@ -62,10 +62,10 @@ impl RamDevice {
         })
     }
 
-    /// Makes a device that holds these bytes, block after block. An erase fills a block with 0xff.
-    /// Every byte counts as programmed. The call takes no memory.
+    /// Creates a device that holds the given bytes, block after block. All bytes count as
+    /// programmed. An erase fills a block with 0xff. The call allocates no memory.
     ///
-    /// Errors: `Invalid` exactly where the number of bytes isn't that of the geometry.
+    /// Errors: `Invalid` if and only if the number of bytes doesn't match the geometry.
     pub fn from_bytes(geometry: Geometry, bytes: Vec<u8>) -> Result<RamDevice, Error>
         ensures made { MatchResult result
             (λ d. (ram_geometry d ≡ geometry) × (ram_bytes d ≡ bytes.items) × (erase_setting d ≡ Erased.Fill 255) × (checks_blanks d ≡ false))
@@ -84,7 +84,7 @@ impl RamDevice {
         })
     }
 
-    /// Returns the same device, in which an erase leaves other bytes from now on.
+    /// Returns the same device, whose erases leave bytes as `erased` specifies.
     pub fn with_erased(self, erased: Erased) -> RamDevice
         ensures geometry { ram_geometry result ≡ ram_geometry self }
         ensures bytes { ram_bytes result ≡ ram_bytes self }
@@ -108,8 +108,8 @@ impl RamDevice {
         }
     }
 
-    /// Returns the same device, which says from now on that bytes are blank where each of them is
-    /// 0xff. Otherwise it never says so.
+    /// Returns the same device, whose `is_unprogrammed` returns true if all of the bytes are 0xff.
+    /// Without this setting `is_unprogrammed` always returns false.
     pub fn with_blank_checks(self) -> RamDevice
         ensures geometry { ram_geometry result ≡ ram_geometry self }
         ensures bytes { ram_bytes result ≡ ram_bytes self }
@@ -141,7 +141,7 @@ impl RamDevice {
         &self.bytes
     }
 
-    /// Returns all bytes of the device, block after block. The device is dropped.
+    /// Consumes the device and returns all its bytes, block after block.
     pub fn to_bytes(self) -> Vec<u8>
         ensures bytes { result.items ≡ ram_bytes self }
         ensures blocks { ram_blocks self ≡ cut (ram_geometry self).block_size (ram_geometry self).block_count result.items }
@@ -149,7 +149,7 @@ impl RamDevice {
         self.bytes
     }
 
-    // Returns where a byte of a block is among all bytes.
+    // Returns the index of a block's byte among all bytes of the device.
     fn byte_index(&self, block: u32, off: u32) -> usize
         requires in_device { block < self.now.geometry.block_count }
         requires in_block { off ≤ self.now.geometry.block_size }
@@ -159,14 +159,13 @@ impl RamDevice {
     }
 }
 
-/// Shows a proof the premises of contracts about a loss of power. Devices in memory meet them: an
-/// erase leaves no log or the one that was there, and no call fails. The call does nothing at run
-/// time.
+/// Proves that a device in memory meets the premises of contracts about power loss: no call fails,
+/// and an erase leaves no log or the old one. The call does nothing at run time.
 pub fn lemma_ram_premises()
     ensures { DevicesMeetPremisesFaultless ⟦<RamDevice as BlockDevice>⟧ }
 {}
 
-// Writes bytes over those from an offset on.
+// Overwrites the bytes at the offset `at`.
 fn overwrite_device_bytes(all: &mut Vec<u8>, at: usize, bytes: &[u8])
     requires { at + length bytes.now ≤ length all.old.items }
     ensures { all.new.items ≡ overwritten_at all.old.items at bytes.now }
@@ -174,7 +173,7 @@ fn overwrite_device_bytes(all: &mut Vec<u8>, at: usize, bytes: &[u8])
     all[at..at + bytes.len()].copy_from_slice(bytes);
 }
 
-// Fills the bytes from an offset on with what an erase leaves.
+// Sets `len` bytes at the offset `at` to what an erase leaves.
 fn fill_erased(all: &mut Vec<u8>, at: usize, len: usize, erased: Erased)
     requires { at + len ≤ length all.old.items }
     ensures erased { all.new.items ≡ erased_range erased all.old.items at len }
@@ -274,7 +273,7 @@ impl BlockDevice for RamDevice {
     }
 }
 
-// Whether each byte is 0xff, as flash is after an erase.
+// Returns whether each byte is 0xff, as in erased flash.
 fn are_all_erased(bytes: &[u8]) -> bool {
     bytes.iter().all(|byte| *byte == 0xff)
 }

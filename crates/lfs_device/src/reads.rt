@@ -6,10 +6,10 @@ ghost use Rattle.lfs_device.specs.DeviceCalls.{ReadsOnce, ReadsOnly, ReportsFaul
 use crate::{BlockDevice, Error};
 use std::alloc::Global;
 
-/// Reads `len` bytes of a block, from the offset `off` on, into a new vector.
+/// Reads `len` bytes of a block into a new vector, starting at the offset `off`.
 ///
-/// Errors: `NoMemory` where memory for the vector isn't granted; the device is untouched then. `Io`
-/// where the read fails.
+/// Errors: `NoMemory` if memory for the vector can't be allocated, before any device call. `Io` if
+/// the read fails.
 pub fn read_part<D: BlockDevice>(
     alloc: Global,
     device: &mut D,
@@ -23,7 +23,7 @@ pub fn read_part<D: BlockDevice>(
     ensures faults { ReportsFaults D.BlockDevice device.old device.new result }
     ensures errors { IfErr result (λ e. (e ≡ Error.Io) ⊎ (e ≡ Error.NoMemory)) }
 
-    // There is one read, unless memory wasn't granted.
+    // There is exactly one read, unless memory couldn't be allocated.
     ensures once { ReadsOnce D.BlockDevice block off len device.old device.new result }
 {
     let mut bytes = Vec::from_elem(alloc, 0u8, len as usize)?;
@@ -33,8 +33,8 @@ pub fn read_part<D: BlockDevice>(
 
 /// Reads a whole block into a new vector.
 ///
-/// Errors: `NoMemory` where memory for the vector isn't granted; the device is untouched then. `Io`
-/// where the read fails.
+/// Errors: `NoMemory` if memory for the vector can't be allocated, before any device call. `Io` if
+/// the read fails.
 pub fn read_block<D: BlockDevice>(
     alloc: Global,
     device: &mut D,
@@ -46,7 +46,7 @@ pub fn read_block<D: BlockDevice>(
     ensures faults { ReportsFaults D.BlockDevice device.old device.new result }
     ensures errors { IfErr result (λ e. (e ≡ Error.Io) ⊎ (e ≡ Error.NoMemory)) }
 
-    // There is one read, unless memory wasn't granted.
+    // There is exactly one read, unless memory couldn't be allocated.
     ensures once { ReadsOnce D.BlockDevice block 0 (D.geometry device.old).block_size device.old device.new result }
 {
     let block_size = device.geometry().block_size;

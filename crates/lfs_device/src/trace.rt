@@ -4,11 +4,11 @@ ghost use Rattle.lfs_model.specs.session.History.{CallEvent};
 
 use std::marker::Model;
 
-/// The history of a device, for those who write a device. Only proofs read a trace: it takes no
-/// memory, and its methods do nothing at run time.
+/// The call history of a device, for authors of devices. Only proofs read a trace, so a trace needs
+/// no memory, and its methods do nothing at run time.
 ///
-/// A device has a `Trace` in a field. Its ghost member `history` is `events` of that field, and
-/// each call assigns a new trace. Callers of a device need no trace.
+/// A device keeps a `Trace` in a field, and defines its ghost member `history` as `events` of that
+/// field. Each call assigns a new trace to the field. Callers of a device need no trace.
 #[derive(Drop)]
 pub struct Trace {
     pub ghost events: { List CallEvent },
@@ -21,8 +21,8 @@ impl Model for Trace {
 }
 
 impl Trace {
-    /// Makes any history. The caller's proof picks the history from what the two references point
-    /// to. They are mostly the device before the call and the call's arguments.
+    /// Returns a trace with a history that the caller's proof chooses. The proof may use the values
+    /// of both arguments, usually the device before the call and the call's arguments.
     pub fn with_ghost_history<S, T>(_device: &S, _call: &T) -> Trace
         ghost events: { List CallEvent }
         ensures { result.events ≡ events }

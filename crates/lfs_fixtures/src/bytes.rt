@@ -3,7 +3,7 @@ ghost use Rattle.lfs_device.specs.Bytes.{AreByteBlocks};
 
 use lfs_device::BlockDevice;
 
-/// Gives proofs that the blocks of any device hold bytes.
+/// Proves that the blocks of any device consist of bytes.
 pub fn lemma_device_bytes<D: BlockDevice>(_device: &D)
     ensures { AreByteBlocks (D.blocks _device.now) }
 {}

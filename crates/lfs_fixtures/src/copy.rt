@@ -6,11 +6,12 @@ ghost use Rattle.lfs_model.specs.session.History.{erase_count, program_count};
 use lfs_device::{BlockDevice, Error, read_block};
 use std::alloc::Global;
 
-/// Copies the block `from` over the block `to`, which is erased first and programmed a page at a time.
+/// Copies the block `from` to the block `to`, which is first erased and then programmed one page at
+/// a time.
 ///
-/// Errors: `NoMemory` where memory for the bytes of a block isn't granted; the device is untouched
-/// then. `Io` where the device failed. After `Io`, and after a loss of power at any time, `to` may
-/// hold any bytes, and each other block what it held.
+/// Errors: `NoMemory` if memory for the bytes of a block can't be allocated, before any device
+/// call. `Io` if a device call fails. After `Io`, and after a power loss at any time, `to` may hold
+/// any bytes, and every other block is unchanged.
 pub fn copy_block<D: BlockDevice>(
     alloc: Global,
     device: &mut D,

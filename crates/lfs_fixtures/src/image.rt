@@ -1,8 +1,9 @@
-// Makes images of 16 blocks of 4,096 bytes from tags and bytes, without the crates that read them.
+// Builds images of 16 blocks of 4,096 bytes from tags and bytes, without the crates that read
+// images.
 
 use std::alloc::{AllocError, Global};
 
-/// The entries of a commit: tags with their data.
+/// The entries of a commit, each a tag with its data.
 pub type FixtureEntries<'a> = &'a [(u32, &'a [u8])];
 
 // The superblock's struct: version 2.0, 16 blocks of 4,096 bytes, and three limits.
@@ -26,8 +27,8 @@ fn checksum(bytes: &[u8]) -> u32 {
     sum
 }
 
-// Appends a commit after the tag `last`, padded to the next page of 256 bytes. Returns the commit's
-// own last tag.
+// Appends a commit that is padded to the next page of 256 bytes, and returns the commit's last tag.
+// `last` is the tag before the commit.
 fn push_commit(
     bytes: &mut Vec<u8>,
     last: u32,
@@ -64,7 +65,7 @@ fn superblock_block(alloc: Global, revision: u32) -> Result<(Vec<u8>, u32), Allo
     Ok((bytes, last))
 }
 
-/// Returns a block with the superblock in its first commit, and these commits after it.
+/// Returns a block with the superblock in its first commit, followed by the given commits.
 pub fn commits_beginning(
     alloc: Global,
     revision: u32,
@@ -77,8 +78,8 @@ pub fn commits_beginning(
     Ok(bytes)
 }
 
-/// Returns a block with the superblock in its first commit and these entries, if any, in a second
-/// one.
+/// Returns a block with the superblock in its first commit and the given entries in a second one.
+/// Without entries there is no second commit.
 pub fn block_with_entries(
     alloc: Global,
     revision: u32,
@@ -91,14 +92,14 @@ pub fn block_with_entries(
     Ok(bytes)
 }
 
-// Returns a block with one commit of these entries, at revision 1.
+// Returns a block with the revision count 1 and one commit of the given entries.
 fn one_commit_block(alloc: Global, entries: FixtureEntries<'_>) -> Result<Vec<u8>, AllocError> {
     let mut bytes = Vec::from_slice(alloc, &[1, 0, 0, 0])?;
     push_commit(&mut bytes, 0xffff_ffff, entries)?;
     Ok(bytes)
 }
 
-/// The contents of a block: one commit, or bytes.
+/// The contents of a block, either one commit or plain bytes.
 #[derive(Clone, Copy)]
 pub enum BlockFilling<'a> {
     Commit(FixtureEntries<'a>),
@@ -130,8 +131,8 @@ fn put_block_content(
     Ok(())
 }
 
-/// Returns an image whose first block has the superblock and a commit of these entries. `others`
-/// are the contents of other blocks, by their addresses.
+/// Returns an image whose first block has the superblock and a commit of the given entries.
+/// `others` lists the contents of other blocks by their addresses.
 pub fn image_with_commit(
     alloc: Global,
     entries: FixtureEntries<'_>,
@@ -145,7 +146,7 @@ pub fn image_with_commit(
     Ok(image)
 }
 
-/// Returns an image with these two blocks at its beginning.
+/// Returns an image that begins with the two given blocks.
 pub fn image_with_pair(alloc: Global, first: &[u8], second: &[u8]) -> Result<Vec<u8>, AllocError> {
     let mut image = Vec::from_slice(alloc, first)?;
     image.resize(4096, 0xff)?;

@@ -1,5 +1,5 @@
 // SPDX-License-Identifier: BSD-3-Clause
-//! Examples of callers, proved over any device, and images for the tests of several crates.
+//! Example functions that are proved over any device, and images for the tests of several crates.
 #![tactic(auto)]
 
 mod bytes;

@@ -1,4 +1,4 @@
--- What a loss of power leaves.
+-- What the disk may hold after a power loss.
 pub mod Conformance
 pub mod Frame
 pub mod Failure

@@ -1,4 +1,4 @@
--- Images, histories, sessions and sources for worked examples.
+-- Images, histories, sessions and sources for examples.
 pub mod Images
 pub mod Violations
 pub mod Histories

@@ -1,4 +1,4 @@
--- What a session answers, and what it leaves on the disk.
+-- What a session replies, and what it writes to the disk.
 pub mod History
 pub mod Operations
 pub mod TreeEdits

@@ -1,4 +1,4 @@
--- Which tree a disk shows, and which disks are accepted.
+-- The tree that a disk shows, and the disks that are accepted.
 pub mod Tree
 pub mod Shown
 pub mod View

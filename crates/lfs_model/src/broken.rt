@@ -1,4 +1,4 @@
-// Images that break a rule, one for each, and one that breaks none.
+// Images of which each breaks one rule, and images that break none.
 
 ghost use Rattle.std.specs.Prelude.{[], ◌∷◌};
 ghost use Rattle.lfs_model.specs.declared.breaches.OtherLimit.TheVariants as limit;
@@ -11,7 +11,7 @@ ghost use Rattle.lfs_model.specs.tree.Fresh.{IsFreshDisk};
 ghost use Rattle.lfs_model.specs.layers.Violations.{Breaks};
 ghost use Rattle.lfs_model.specs.examples.Violations.{HasBreach, absent_block_image, doubled_block_image, tail_to_root_image, unwritten_pair_image, later_version_image, bad_move_image, create_first_image, dot_name_image, empty_list_image, empty_pair_image, falling_names_image, shared_branch_image, large_entry_image, unwritable_inline_image, loose_branch_image, shared_block_image, short_names_image, differing_superblocks_image, unnamed_pair_image, no_superblock_image};
 
-/// Images whose thread can't be followed.
+/// Each of these images breaks one rule about the tails from pair to pair.
 pub fn broken_thread_rules()
     ensures out_of_range { Breaks absent_block_image (violation.OutOfRange (2 ∷ 16 ∷ [])) }
     ensures one_block { Breaks doubled_block_image (violation.OneBlock (2 ∷ 2 ∷ [])) }
@@ -22,7 +22,7 @@ pub fn broken_thread_rules()
     ensures none { (disk : Disk) (v : Violation) → IsFreshDisk disk → ¬ Breaks disk v }
 {}
 
-/// Images whose superblock is wrong.
+/// Each of these images breaks one rule about superblocks.
 pub fn broken_superblock_rules()
     ensures no_superblock { Breaks no_superblock_image violation.NoSuperblock }
     ensures first_entry { Breaks create_first_image (violation.FirstEntry (0 ∷ 1 ∷ [])) }
@@ -30,7 +30,7 @@ pub fn broken_superblock_rules()
     ensures other_superblock { Breaks differing_superblocks_image (violation.OtherSuperblock (2 ∷ 3 ∷ [])) }
 {}
 
-/// Images with a wrong entry, or whose directories are no tree with names in order.
+/// Each of these images breaks one rule about entries or directories.
 pub fn broken_directory_rules()
     ensures entry { Breaks dot_name_image (violation.Entry (0 ∷ 1 ∷ []) 1) }
     ensures names { Breaks falling_names_image (violation.Names (0 ∷ 1 ∷ [])) }
@@ -39,14 +39,14 @@ pub fn broken_directory_rules()
     ensures no_path { Breaks unnamed_pair_image (violation.NoPath (2 ∷ 3 ∷ [])) }
 {}
 
-/// Images with a wrong move or list.
+/// Each of these images breaks one rule about moves or CTZ skip-lists.
 pub fn broken_list_rules()
     ensures set_move { Breaks bad_move_image violation.Move }
     ensures list { Breaks empty_list_image (violation.List (0 ∷ 1 ∷ []) 1) }
     ensures two_owners { Breaks shared_block_image (violation.TwoOwners (0 ∷ 1 ∷ []) 2 2) }
 {}
 
-/// Accepted images that aren't in the writing profile.
+/// Each of these accepted images breaks one rule of the writing profile.
 pub fn broken_profile_rules()
     ensures other_limits { HasBreach short_names_image (breach.OtherLimits (0 ∷ 1 ∷ []) 0 (limit.Name 32)) }
     ensures long_inline { HasBreach unwritable_inline_image (breach.LongInline (0 ∷ 1 ∷ []) 1) }

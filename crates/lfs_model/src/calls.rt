@@ -1,4 +1,4 @@
-// What the history of a device's calls shows.
+// What a device's call history says.
 
 ghost use Rattle.std.specs.Prelude.{◌≡◌, ℕ, true, false, [], ◌∷◌, map};
 ghost use Rattle.lfs_model.specs.format.Blocks.{Blocks, block_bytes};
@@ -6,14 +6,14 @@ ghost use Rattle.lfs_model.specs.session.History.{CallEvent, Program, Erase, cal
 ghost use Rattle.lfs_model.specs.crash.Conformance.{CallsConform};
 ghost use Rattle.lfs_model.specs.examples.Histories.{example_after_erase, example_after_program, blank_event, failed_blank, after_erase, after_program, after_read, lost_program, other_erase};
 
-/// How many reads, programs, erases and faults there were.
+/// A history determines how many reads, programs, erases, blank checks and faults a device has had.
 pub fn history_counts_device_calls()
     ensures each { read_count after_read ∷ program_count after_read ∷ erase_count after_read ∷ fault_count after_read ∷ [] ≡ 1 ∷ 1 ∷ 1 ∷ 1 ∷ [] }
     ensures blanks { blank_count after_read ∷ blank_count (blank_event ∷ after_read) ∷ [] ≡ 0 ∷ 1 ∷ [] }
     ensures fewer { read_count after_program ∷ fault_count after_program ∷ program_count after_erase ∷ [] ≡ 0 ∷ 0 ∷ 0 ∷ [] }
 {}
 
-/// A byte is unprogrammed from an erase that succeeds to the next program of it.
+/// A byte is unprogrammed after a successful erase of its block, until the byte is programmed.
 pub fn bytes_are_unprogrammed_after_erase()
     ensures bytes { map (is_unprogrammed_byte after_read 0) (0 ∷ 1 ∷ 2 ∷ 3 ∷ []) ≡ false ∷ false ∷ true ∷ true ∷ [] }
     ensures never_erased { is_unprogrammed_byte after_read 1 0 ≡ false }
@@ -22,13 +22,13 @@ pub fn bytes_are_unprogrammed_after_erase()
     ensures not_before { AreUnprogrammed after_read 0 1 4 → ⊥ }
 {}
 
-/// Calls in some blocks leave the bytes of others unprogrammed.
+/// A call in one block leaves the unprogrammed bytes of all other blocks unprogrammed.
 pub fn other_bytes_stay_unprogrammed()
     ensures stay { StayUnprogrammed (0 ∷ []) after_erase after_read }
     ensures dont_stay { StayUnprogrammed (1 ∷ []) after_erase after_read → ⊥ }
 {}
 
-/// Bytes that the device says are blank are unprogrammed, until they are programmed.
+/// Bytes that the device reports as blank are unprogrammed until they are programmed.
 pub fn blank_is_unprogrammed()
     ensures bytes { map (is_unprogrammed_byte (blank_event ∷ after_read) 1) (0 ∷ 1 ∷ 2 ∷ 3 ∷ []) ≡ false ∷ false ∷ true ∷ true ∷ [] }
     ensures other_block { is_unprogrammed_byte (blank_event ∷ after_read) 0 1 ≡ false }
@@ -38,7 +38,7 @@ pub fn blank_is_unprogrammed()
     ensures stays { StayUnprogrammed [] after_read (blank_event ∷ after_read) }
 {}
 
-/// What all calls since an older history have in common.
+/// `AllCallsSince` says that every call since an older history has a property.
 pub fn device_calls_since_history_share_property()
     ensures succeeded { AllCallsSince (λ (e : CallEvent). e.failed ≡ false) [] after_program }
     ensures one_failed { AllCallsSince (λ (e : CallEvent). e.failed ≡ false) [] after_read → ⊥ }
@@ -46,13 +46,14 @@ pub fn device_calls_since_history_share_property()
     ensures not_only { OnlyReadsSince example_after_program after_erase after_read → ⊥ }
 {}
 
-/// What a stop in any of the calls since an older history may leave, at worst.
+/// At worst, a power loss in a call changes any bytes of the block that the call is for. The loss
+/// changes no other block.
 pub fn power_loss_changes_only_block_of_call()
     ensures block_1 { HoldsAtLosses LossLeavesAtWorst [] after_read (λ (blocks : Blocks). block_bytes blocks 1 ≡ 5 ∷ 6 ∷ 7 ∷ 8 ∷ []) }
     ensures block_0 { HoldsAtLosses LossLeavesAtWorst [] after_read (λ (blocks : Blocks). block_bytes blocks 0 ≡ 9 ∷ 9 ∷ 0xff ∷ 0xff ∷ []) → ⊥ }
 {}
 
-/// Each call that didn't fail conforms.
+/// A history conforms if each call that didn't fail did its work and changed no other block.
 pub fn calls_conform_unless_failed()
     ensures conforms { CallsConform after_read }
     ensures not_programmed { CallsConform (lost_program ∷ []) → ⊥ }

@@ -1,4 +1,4 @@
-// What each operation checks, in which order, and what it queries of the disk.
+// What each operation checks, in which order, and how queries of the disk are answered.
 
 ghost use Rattle.std.specs.Prelude.{◌≡◌, true, false, [], ◌∷◌, ◌++◌, filter, Some, None, replicate, codes};
 ghost use Rattle.lfs_model.specs.format.Slots.{zero_gstate};
@@ -10,7 +10,8 @@ ghost use Rattle.lfs_model.specs.crash.Frame.{refused_before_search, needs_sessi
 ghost use Rattle.lfs_model.specs.examples.Runs.{all_refusals, writer_session};
 ghost use Rattle.lfs_model.specs.examples.Sessions.{writable_summary, all_replies, fresh_replies, with_used_count, read_flags, write_flags, creating_flags};
 
-/// A disk outside the writing profile is read. Each call that would change it is refused before any other check.
+/// A disk outside the writing profile can only be read. An operation that would change such a disk
+/// is refused with `ReadOnly` before any other check.
 pub fn read_only_is_checked_first()
     ensures { all_replies (λ used. record (writable_summary 4096 256 16 used) { writable = false }) (mounted_session empty_tree) (with_used_count 2
         (ops.Open [] write_flags ∷ ops.Open (codes "/a") (record write_flags { read = true }) ∷ ops.Mkdir [] ∷ ops.Remove (codes "/")
@@ -21,7 +22,8 @@ pub fn read_only_is_checked_first()
         ∷ ops.Refused Invalid ∷ ops.Refused BadFile ∷ ops.Items [] ∷ ops.StatIs None ∷ ops.Refused Invalid ∷ [] }
 {}
 
-/// Which refusals need no look-up, and which operations take neither the device nor memory.
+/// Lists the refusals that need no look-up, and the operations that need neither the device nor
+/// memory.
 pub fn some_refusals_need_no_look_up()
     ensures made { filter (refused_before_search (ops.Mkdir (codes "/d"))) all_refusals ≡ BadFile ∷ Invalid ∷ ReadOnly ∷ ops.Failed ∷ [] }
     ensures written { filter (refused_before_search (ops.Write 0 [])) all_refusals ≡ all_refusals }
@@ -30,7 +32,8 @@ pub fn some_refusals_need_no_look_up()
         ≡ ops.Seek 0 1 ∷ ops.Write 0 [] ∷ ops.UsedCount ∷ [] }
 {}
 
-/// The queries of a disk.
+/// Queries of a disk report its global state, whether a block is used, and how many blocks are
+/// used.
 pub fn queries_of_disk_are_answered()
     ensures plain { all_replies (writable_summary 4096 256 16) (mounted_session empty_tree) (with_used_count 1
         (ops.AskGstate ∷ ops.IsUsed 0 ∷ ops.IsUsed 15 ∷ ops.IsUsed 16 ∷ ops.UsedCount ∷ ops.Recover ∷ []))
@@ -40,7 +43,8 @@ pub fn queries_of_disk_are_answered()
         ≡ ops.GstateIs true (Some ((3, 2), 3)) ∷ [] }
 {}
 
-/// Two blocks are needed, and one is free.
+/// If only one block is free, a rename, a `SetAttr` or a truncation is refused with `NoSpace`. A
+/// remove needs no free block.
 pub fn changes_need_two_free_blocks()
     ensures { fresh_replies 1024 128 4
         (with_used_count 2 (ops.Open (codes "/a") creating_flags ∷ ops.Write 0 (1 ∷ []) ∷ ops.Close 0 ∷ [])
@@ -52,7 +56,8 @@ pub fn changes_need_two_free_blocks()
         ∷ ops.Opened 0 ∷ ops.Refused NoSpace ∷ ops.Done ∷ ops.Count 0 ∷ ops.Done ∷ ops.Done ∷ [] }
 {}
 
-/// A rename's new name counts, and its own path may be too long.
+/// A rename is refused if the new name is too long, or doesn't fit a pair together with the entry's
+/// attributes. The parents of the old path are checked before those of the new path.
 pub fn rename_counts_size_of_new_name()
     ensures { fresh_replies 1024 128 64 (with_used_count 2
         (ops.Open (codes "/a") creating_flags ∷ ops.Close 0 ∷ ops.SetAttr (codes "/a") 0x41 (replicate 200 1)
@@ -61,8 +66,9 @@ pub fn rename_counts_size_of_new_name()
         ≡ ops.Opened 0 ∷ ops.Done ∷ ops.Done ∷ ops.Refused EntryFull ∷ ops.Refused NameTooLong ∷ ops.Refused NoEnt ∷ ops.Refused NoEnt ∷ ops.Refused NotDir ∷ [] }
 {}
 
-/// Where a write begins, and how a truncate and a sync change the end of the last write: three blocks are free, and a
-/// nonsequential writer holds four.
+/// A write that doesn't begin where the last write ended makes its writer nonsequential. A
+/// truncation that lengthens the file moves the end of the last write, and a sync forgets that end.
+/// A nonsequential writer needs four blocks here, and three are free.
 pub fn truncate_and_sync_change_end_of_last_write()
     ensures gap { fresh_replies 1024 128 5 (with_used_count 2
         (ops.Open (codes "/a") creating_flags ∷ ops.Write 0 (replicate 500 7) ∷ ops.Seek 0 600 ∷ ops.Write 0 (1 ∷ []) ∷ ops.Seek 0 0 ∷ ops.Write 0 (1 ∷ []) ∷ []))
@@ -76,7 +82,7 @@ pub fn truncate_and_sync_change_end_of_last_write()
         ≡ ops.Opened 0 ∷ ops.Count 500 ∷ ops.Done ∷ ops.Done ∷ ops.Count 1 ∷ [] }
 {}
 
-/// The first check that fails decides.
+/// The first check that fails decides with which error an operation is refused.
 pub fn first_failing_check_decides_refusal()
     ensures directories { fresh_replies 4096 256 64 ((2, ops.Mkdir (codes "/d")) ∷ with_used_count 4
         (ops.Open (codes "/d") (record creating_flags { exclusive = true }) ∷ ops.Open (codes "/d") creating_flags ∷ ops.Open (codes "/") read_flags

@@ -1,4 +1,4 @@
-// Which images are accepted, and what they show.
+// Images that are accepted, and the trees that they show.
 
 ghost use Rattle.std.specs.Prelude.{◌≡◌, true, false, [], ◌∷◌, ◌++◌, Some, replicate, codes};
 ghost use Rattle.byteorder.specs.Endian.{little_bytes};
@@ -18,7 +18,8 @@ ghost use Rattle.lfs_model.specs.layers.BlockBytes.{unwritten_bytes, block_padde
 ghost use Rattle.lfs_model.specs.examples.Images.{nodes_view, IsNotAccepted, IsNotWritable, small_image, large_image, shifted_slot_block, shifted_slot_image, image_over_zeros, two_commit_image, large_disk_with, root_block_with, pair_block_with, superblock_struct_with, disk_with_versions, superblock_entries_with, root_struct_block, blocks_image};
 ghost use Rattle.lfs_model.specs.examples.Violations.{unwritable_inline_image, short_names_image};
 
-/// A fresh image is accepted and may be written. It shows the empty root, and uses the first two blocks.
+/// A fresh image is accepted and may be written. A fresh image has an empty root directory, and
+/// uses only blocks 0 and 1.
 pub fn fresh_image_is_accepted()
     ensures accepted { (disk : Disk) → IsFreshDisk disk → IsAccepted disk (fresh_pair disk ∷ []) }
     ensures writable { (disk : Disk) → IsFreshDisk disk → IsWritable disk (fresh_pair disk ∷ []) }
@@ -27,13 +28,13 @@ pub fn fresh_image_is_accepted()
     ensures used { (disk : Disk) → used_blocks disk (fresh_pair disk ∷ []) ≡ 0 ∷ 1 ∷ [] }
 {}
 
-/// These bytes are fresh images.
+/// The example images `small_image` and `large_image` are fresh images.
 pub fn fresh_images_are_these_bytes()
     ensures small { IsFreshDisk small_image }
     ensures large { IsFreshDisk large_image }
 {}
 
-/// Images with one file show it.
+/// An image with one file shows exactly that file.
 pub fn image_shows_its_only_file()
     ensures shifted { HasDiskView shifted_slot_image
         (nodes_view (([], DirectoryNode [] (codes "b" ∷ []))
@@ -58,7 +59,8 @@ pub fn image_shows_its_only_file()
         ∷ (codes "b" ∷ [], FileNode [] []) ∷ [])
         zero_gstate (0 ∷ 1 ∷ [])) }
 
-    // Three blocks: the last has one byte, after the addresses of the second and the first.
+    // The file has three blocks. The last block has one byte, after the addresses of the second and
+    // the first block.
     ensures list { HasDiskView
         (blocks_image (root_block_with (list_slot_entries 1 (codes "a") 4 8189) 0xaa94cc85 187)
         (replicate 4096 97
@@ -69,16 +71,16 @@ pub fn image_shows_its_only_file()
         zero_gstate (0 ∷ 1 ∷ 2 ∷ 3 ∷ 4 ∷ [])) }
 {}
 
-/// Of the two blocks of a pair the later one is shown.
+/// Of the two blocks of a pair, the image shows the one with the later revision count.
 pub fn later_block_of_pair_is_shown()
-    // Block 1 is a fresh root of the revision before block 0's.
+    // Block 1 is a fresh root with an earlier revision count than block 0.
     ensures first { HasDiskView
         (large_disk_with (shifted_slot_block ∷ metadata_bytes 4096 0xffffffff (superblock_entries default_profile 4096 16 ++ checksum_entry 0xc3e1dffc 204 ∷ []) ∷ []))
         (nodes_view (([], DirectoryNode [] (codes "b" ∷ []))
         ∷ (codes "b" ∷ [], FileNode ((0x41, codes "x") ∷ []) []) ∷ [])
         zero_gstate (0 ∷ 1 ∷ [])) }
 
-    // Block 1 has a file, and the revision after block 0's.
+    // Block 1 has a file and a later revision count than block 0.
     ensures second { HasDiskView
         (large_disk_with (root_block_with [] 0xf3277f4a 204 ∷ metadata_bytes 4096 2 (superblock_entries default_profile 4096 16 ++ inline_entries 1 (codes "a") (codes "hello") ++ checksum_entry 0xe6da60eb 190 ∷ []) ∷ []))
         (nodes_view (([], DirectoryNode [] (codes "a" ∷ []))
@@ -86,9 +88,11 @@ pub fn later_block_of_pair_is_shown()
         zero_gstate (0 ∷ 1 ∷ [])) }
 {}
 
-/// A directory is its pairs, from the first that an entry names to the last that a hard tail names.
+/// A directory consists of the pair that its entry points to, and of all pairs that hard tails join
+/// to that pair.
 pub fn directory_consists_of_joined_pairs()
-    // The entry may name the two blocks in either order. The thread's order decides which of them holds.
+    // The entry may give the two blocks in either order. If the two revision counts are equal, the
+    // first block in the tail is active.
     ensures either_order { HasDiskView
         (blocks_image (root_block_with (branch_entries 1 (codes "d") (3, 2) ++ tail_entry false (Some (2, 3)) ∷ []) 0x73136a7f 175)
         (pair_block_with (inline_entries 0 (codes "x") (codes "hi")) 0x99061daa 233
@@ -109,9 +113,10 @@ pub fn directory_consists_of_joined_pairs()
         zero_gstate (0 ∷ 1 ∷ 4 ∷ 5 ∷ 6 ∷ 7 ∷ [])) }
 {}
 
-/// A slot that a set move names isn't shown.
+/// A slot that a pending move refers to isn't shown.
 pub fn moved_slot_is_hidden()
-    // "f" of {2, 3} is "g" of the root now, and is still at its old place.
+    // The file "f" of the pair {2, 3} was moved to "g" in the root, and its old slot is still
+    // there.
     ensures old_place { HasDiskView
         (blocks_image (root_block_with (branch_entries 1 (codes "d") (2, 3) ++ inline_entries 2 (codes "g") (codes "hi") ++ tail_entry false (Some (2, 3)) ∷ move_state_entry 0x4ff00000 (2, 3) ∷ []) 0x3341c275 148)
         (pair_block_with (inline_entries 0 (codes "f") (codes "hi")) 0x6586f267 233 ∷ []))
@@ -120,7 +125,8 @@ pub fn moved_slot_is_hidden()
         ∷ (codes "g" ∷ [], FileNode [] (codes "hi")) ∷ [])
         (record { sync = false; kind = 0x4ff; id = 0; pair = (2, 3) }) (0 ∷ 1 ∷ 2 ∷ 3 ∷ [])) }
 
-    // Of two slots of one name the moved one, whose list begins past the last block, doesn't count.
+    // The move refers to one of two slots of the same name. The moved slot doesn't count, nor does
+    // its list, which begins past the last block.
     ensures same_name { HasDiskView
         (blocks_image (root_block_with (list_slot_entries 1 (codes "f") 16 5 ++ inline_entries 2 (codes "f") (codes "hi") ++ move_state_entry 0x4ff00400 (0, 1) ∷ []) 0x13066eaa 160) [])
         (nodes_view (([], DirectoryNode [] (codes "f" ∷ []))
@@ -128,7 +134,7 @@ pub fn moved_slot_is_hidden()
         (record { sync = false; kind = 0x4ff; id = 1; pair = (0, 1) }) (0 ∷ 1 ∷ [])) }
 {}
 
-/// A pair that no directory names is accepted with the sync bit, and only with it.
+/// An image with a pair that no directory entry leads to is accepted only if the sync bit is set.
 pub fn unreached_pair_needs_sync_bit()
     ensures with_it { HasDiskView
         (blocks_image (root_block_with (tail_entry false (Some (2, 3)) ∷ move_state_entry 0x80000000 (0, 0) ∷ []) 0x45859103 176)
@@ -140,13 +146,13 @@ pub fn unreached_pair_needs_sync_bit()
         (pair_block_with [] 0x43f29ceb 244 ∷ [])) }
 {}
 
-/// A tail of two null addresses ends the thread.
+/// A tail with two null addresses ends the threaded linked-list.
 pub fn null_tail_ends_thread()
     ensures { HasDiskView (blocks_image (root_block_with (tail_entry false (Some (0xffffffff, 0xffffffff)) ∷ []) 0xcb81f586 192) [])
         (nodes_view (([], DirectoryNode [] []) ∷ []) zero_gstate (0 ∷ 1 ∷ [])) }
 {}
 
-/// The root begins at the last pair of the superblock's chain.
+/// The root directory begins at the last pair of the superblock chain.
 pub fn root_begins_at_end_of_superblock_chain()
     ensures expanded { HasDiskView
         (blocks_image (root_block_with (tail_entry true (Some (2, 3)) ∷ []) 0xef8649c3 192)
@@ -163,7 +169,7 @@ pub fn root_begins_at_end_of_superblock_chain()
         ∷ (codes "a" ∷ [], FileNode [] (codes "hi")) ∷ [])
         zero_gstate (0 ∷ 1 ∷ 2 ∷ 3 ∷ 4 ∷ 5 ∷ [])) }
 
-    // A follower without a superblock continues the root.
+    // A second pair without a superblock continues the root directory.
     ensures follower { HasDiskView
         (blocks_image (root_block_with (tail_entry true (Some (2, 3)) ∷ []) 0xef8649c3 192)
         (pair_block_with (inline_entries 0 (codes "a") (codes "hi")) 0x4cbde7e4 233 ∷ []))
@@ -171,7 +177,7 @@ pub fn root_begins_at_end_of_superblock_chain()
         ∷ (codes "a" ∷ [], FileNode [] (codes "hi")) ∷ [])
         zero_gstate (0 ∷ 1 ∷ 2 ∷ 3 ∷ [])) }
 
-    // The superblock of the second pair gives version 2.1, and that of the first 2.0.
+    // The first pair's superblock has version 2.0, and the second pair's has version 2.1.
     ensures two_versions { HasDiskView
         (disk_with_versions AlsoTwoOne (blocks_image (root_block_with (tail_entry true (Some (2, 3)) ∷ []) 0xef8649c3 192)
         (pair_block_with (superblock_entries_with (superblock_struct_with 0x00020001 4096 255) ++ inline_entries 1 (codes "a") (codes "hi")) 0xe9294708 193 ∷ [])))
@@ -180,9 +186,9 @@ pub fn root_begins_at_end_of_superblock_chain()
         zero_gstate (0 ∷ 1 ∷ 2 ∷ 3 ∷ [])) }
 {}
 
-/// The superblocks of a chain give the same, and stand alone in their pairs.
+/// All superblocks of a chain must agree, and each pair before the last one may have no other slot.
 pub fn bad_superblock_chain_is_refused()
-    // The superblock of the second pair gives 17 blocks.
+    // The superblock of the second pair states 17 blocks.
     ensures other_bytes { IsNotAccepted
         (blocks_image (root_block_with (tail_entry true (Some (2, 3)) ∷ []) 0xef8649c3 192)
         (pair_block_with (superblock_entries default_profile 4096 17 ++ inline_entries 1 (codes "a") (codes "hi")) 0xa947a470 193 ∷ [])) }
@@ -190,13 +196,13 @@ pub fn bad_superblock_chain_is_refused()
         (blocks_image (root_block_with (tail_entry true (Some (2, 3)) ∷ []) 0xef8649c3 192)
         (pair_block_with (superblock_entries_with (superblock_struct_with 0x00020001 4096 255) ++ inline_entries 1 (codes "a") (codes "hi")) 0xe9294708 193 ∷ [])) }
 
-    // The first pair has a file beside its superblock.
+    // The first pair has a file in addition to its superblock.
     ensures not_alone { IsNotAccepted
         (blocks_image (root_block_with (inline_entries 1 (codes "z") [] ++ tail_entry true (Some (2, 3)) ∷ []) 0xfc3d37d9 183)
         (root_block_with [] 0xf3277f4a 204 ∷ [])) }
 {}
 
-/// A superblock that was moved leaves pairs without slots before it.
+/// Pairs without slots may precede a superblock that was moved to another pair.
 pub fn moved_superblock_is_read()
     ensures moved { HasDiskView
         (blocks_image (pair_block_with (tail_entry true (Some (2, 3)) ∷ []) 0x9f96c0e0 232)
@@ -205,7 +211,8 @@ pub fn moved_superblock_is_read()
         ∷ (codes "a" ∷ [], FileNode [] (codes "hi")) ∷ [])
         zero_gstate (0 ∷ 1 ∷ 2 ∷ 3 ∷ [])) }
 
-    // A copy of the superblock is in the first pair, and a pair without a slot is between.
+    // The first pair has a copy of the superblock, and a pair without slots comes between the two
+    // superblocks.
     ensures between { HasDiskView
         (blocks_image (root_block_with (tail_entry true (Some (2, 3)) ∷ []) 0xef8649c3 192)
         (pair_block_with (tail_entry true (Some (4, 5)) ∷ []) 0xb6c46c87 232 ∷ unwritten_bytes 4096
@@ -214,7 +221,8 @@ pub fn moved_superblock_is_read()
         ∷ (codes "a" ∷ [], FileNode [] (codes "hi")) ∷ [])
         zero_gstate (0 ∷ 1 ∷ 2 ∷ 3 ∷ 4 ∷ 5 ∷ [])) }
 
-    // No superblock follows the pair without a slot, so it is the root's second one.
+    // No superblock follows the pair without slots, so that pair is the second one of the root
+    // directory.
     ensures no_more { HasDiskView
         (blocks_image (root_block_with (tail_entry true (Some (2, 3)) ∷ []) 0xef8649c3 192)
         (pair_block_with (tail_entry true (Some (4, 5)) ∷ []) 0xb6c46c87 232 ∷ unwritten_bytes 4096
@@ -232,9 +240,9 @@ pub fn moved_superblock_is_read()
         (pair_block_with (inline_entries 0 (codes "a") (codes "hi")) 0x4cbde7e4 233 ∷ [])) }
 {}
 
-/// What other tools write is shown, and may not be written.
+/// An image outside the writing profile is accepted and shows its tree, but may not be written.
 pub fn image_outside_profile_is_read_only()
-    // An entry has 600 bytes, where at most 512 are written.
+    // The file has 600 inline bytes, and at most 512 are written.
     ensures long_entry { HasDiskView unwritable_inline_image
         (nodes_view (([], DirectoryNode [] (codes "a" ∷ []))
         ∷ (codes "a" ∷ [], FileNode [] (replicate 600 97)) ∷ [])
@@ -246,7 +254,7 @@ pub fn image_outside_profile_is_read_only()
         (nodes_view (([], DirectoryNode [] []) ∷ []) zero_gstate (0 ∷ 1 ∷ [])) }
     ensures name_limit_read_only { IsNotWritable short_names_image }
 
-    // The superblock gives version 2.1, which is accepted.
+    // The superblock has version 2.1, which the profile accepts.
     ensures newer { HasDiskView (disk_with_versions AlsoTwoOne (blocks_image (root_struct_block (superblock_struct_with 0x00020001 4096 255) 0xf2928257) []))
         (nodes_view (([], DirectoryNode [] []) ∷ []) zero_gstate (0 ∷ 1 ∷ [])) }
 {}

@@ -1,4 +1,5 @@
-// What turns define: what an accepted operation does, which tree a loss of power leaves, which session may lose power.
+// What the turns of a session's life determine. A turn is one operation that was answered, or that
+// an error ended.
 
 ghost use Rattle.std.specs.Prelude.{◌≡◌, ℕ, true, false, List, [], ◌∷◌, Some, None, codes};
 ghost use Rattle.lfs_model.specs.format.Disk.{Disk};
@@ -20,40 +21,44 @@ ghost use Rattle.lfs_model.specs.examples.Sessions.{creating_flags, read_flags};
 ghost use Rattle.lfs_model.specs.examples.Images.{small_image};
 ghost use Rattle.lfs_model.specs.examples.Runs.{fresh_state, failed_state, blockless_disk};
 
-/// An operation that wasn't refused passed its checks, and had its effect.
+/// An operation that isn't refused has passed its checks and has its defined effect.
 pub fn accepted_operations_have_their_effect()
     ensures effect { (from to : SystemState) (op : Operation) (reply : Reply) (s : Session) → from.state ≡ Healthy s → is_remount op ≡ false → is_refusal reply ≡ false → IsTreeStep from op reply to → IsAcceptedStep from s op reply to }
     ensures open { (from to : SystemState) (s : Session) (path : List ℕ) (flags : FlagsOfOpen) (fd : ℕ) → from.state ≡ Healthy s → IsTreeStep from (ops.Open path flags) (ops.Opened fd) to → IsAcceptedOpen s path flags fd }
 
-    // What is written under that number, is found there.
+    // The open file that is stored under a number is found under that number.
     ensures file { (files : OpenFilesByNumber) (fd : ℕ) (old new : OpenFile) → file_numbered files fd ≡ Some old → file_numbered (files_with_file files fd (Some new)) fd ≡ Some new }
 
-    // A file is made where none is, if the open may create it.
+    // A missing file is created if the flags of the open say so.
     ensures made { IsAcceptedOpen (mounted_session empty_tree) (codes "/b") creating_flags 0 }
     ensures not_made { IsAcceptedOpen (mounted_session empty_tree) (codes "/b") read_flags 0 → ⊥ }
 {}
 
-/// Wherever power is lost in a life, one of its trees is left: the next start mounts the disk and has it.
+/// A power loss at any point of a session's life leaves one of that life's trees, and the next
+/// session that mounts the disk has this tree.
 pub fn power_loss_leaves_a_tree_of_the_life()
     ensures { (around : DiskSummary) (s : Session) (from : SystemState) (turns : List Turn) (to : SystemState) (left : Disk) → from.state ≡ Healthy s → fails_last turns ≡ true → IsLife from turns to → MeetsRunPremises from to
         → LeftBetween from to left → LeavesTreeOfLife around s turns left }
 {}
 
-/// What a safe start is: some session mounts the disk, and whichever does has a tree of the life.
+/// After a power loss a session can mount the disk. Each session that mounts the disk has a tree of
+/// the interrupted session's life.
 pub fn sessions_start_safely()
     ensures mounts { (around : DiskSummary) (s : Session) (turns : List Turn) (left : Disk) → LeavesTreeOfLife around s turns left → (begin : SystemState) × (SameBytes left begin.disk × IsMounted begin.disk begin) }
     ensures has { (around : DiskSummary) (s : Session) (turns : List Turn) (left : Disk) → LeavesTreeOfLife around s turns left → (begin : SystemState) → SameBytes left begin.disk → (mounts : IsMounted begin.disk begin)
         → IsTreeOfLife around s turns mounts.tree }
     ensures keeps { (tree : Tree) (left : Disk) → KeepsTree tree left → StartsSafely (λ t. t ≡ tree) left }
 
-    // A session mounts a fresh disk, and has no tree but the empty one. None mounts a disk without blocks.
+    // A session can mount a fresh disk, and then has the empty tree. No session can mount a disk
+    // without blocks.
     ensures fresh { StartsSafely (λ tree. tree ≡ empty_tree) small_image }
     ensures no_other { StartsSafely (λ tree. tree [] ≡ None) small_image → ⊥ }
     ensures none { (tree : Tree) → StartsSafely (λ t. t ≡ tree) blockless_disk → ⊥ }
 {}
 
-/// Where the premises about a session hold: after a format, after a recovery that isn't refused, and after more turns. What is left
-/// of them is about the device's erases.
+/// A session may lose power after a format, after a recovery that isn't refused, and after any
+/// turns that were answered. The only other premise of the promise on power loss is about the
+/// device's erases.
 pub fn session_may_lose_power()
     ensures fresh { (at : SystemState) → IsFreshDisk at.disk → at.state ≡ Healthy (mounted_session empty_tree) → MayLosePower at }
     ensures recovered { (from to : SystemState) (s : Session) → from.state ≡ Healthy s → IsTreeStep from ops.Recover ops.Done to → MayLosePower to }
@@ -63,7 +68,8 @@ pub fn session_may_lose_power()
     ensures may_not { MayLosePower failed_state → ⊥ }
 {}
 
-/// The trees of a life: the directory is made, and the second time refused.
+/// A life in which a directory is made has two trees, one without the directory and one with it. A
+/// refused operation adds no tree.
 pub fn trees_of_life_are_defined_by_turns()
     ensures first { (around : DiskSummary) (a b : SystemState) → IsTreeOfLife around (mounted_session empty_tree) (answered (ops.Mkdir (codes "/d")) ops.Done a ∷ []) empty_tree }
     ensures after { (around : DiskSummary) (a b : SystemState) → IsTreeOfLife around (mounted_session empty_tree) (answered (ops.Mkdir (codes "/d")) ops.Done a ∷ answered (ops.Mkdir (codes "/d")) (ops.Refused Exist) b ∷ [])

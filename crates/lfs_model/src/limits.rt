@@ -1,4 +1,4 @@
-// What is accepted of an image, and what is written.
+// Versions and limits of the images that are accepted and written.
 
 ghost use Rattle.std.specs.Prelude.{◌≡◌, ◌↔◌, IsTrue, List};
 ghost use Rattle.lfs_model.specs.format.Disk.{Disk, AreValidLimits, default_profile};
@@ -7,41 +7,45 @@ ghost use Rattle.lfs_model.specs.tree.View.{IsAccepted};
 ghost use Rattle.lfs_model.specs.declared.limits.AcceptedVersions.TheVariants.{AlsoTwoOne, OnlyTwoZero};
 ghost use Rattle.lfs_model.specs.examples.Images.{disk_with_versions};
 
-/// Which on-disk versions a superblock may give. Version 2.1 adds forward checksums alone (type 0x5ff), which mean nothing here.
+/// The on-disk versions that a superblock may have. Version 2.1 only adds entries with forward
+/// checksums (type 0x5ff), which this library ignores.
 #[derive(Clone, Copy, Debug, PartialEq, Eq)]
 pub enum AcceptedVersions {
-    /// Version 2.0.
+    /// Only version 2.0 is accepted.
     OnlyTwoZero,
-    /// Version 2.0, or 2.1, which littlefs writes since its release 2.6.
+    /// Versions 2.0 and 2.1 are accepted. Since its release 2.6, littlefs writes version 2.1.
     AlsoTwoOne,
 }
 
-/// What is accepted of an image, and what is written. A build of littlefs mounts an image only if the
-/// limits in its superblock are at most its own `LFS_NAME_MAX`, `LFS_FILE_MAX` and `LFS_ATTR_MAX`.
-/// It keeps a file inline only if its cache holds it.
+/// The versions and limits by which images are accepted and written. A build of littlefs mounts an
+/// image only if the limits in the image's superblock are at most the build's own `LFS_NAME_MAX`,
+/// `LFS_FILE_MAX` and `LFS_ATTR_MAX`. A file is kept inline by littlefs only if the file fits in
+/// littlefs's cache.
 ///
-/// A limit above the format's own means the format's own.
+/// A limit above the format's own limit counts as the format's limit.
 #[derive(Clone, Copy, Debug, PartialEq, Eq)]
 pub struct Profile {
-    /// The versions that a mount accepts.
+    /// The on-disk versions that a mount accepts.
     pub versions: AcceptedVersions,
-    /// The longest name, in bytes: at most 255.
+    /// The length in bytes of the longest name, at most 255.
     pub name_max: u32,
-    /// The longest file, in bytes: at most 2,147,483,647.
+    /// The size in bytes of the largest file, at most 2,147,483,647.
     pub file_max: u32,
-    /// The longest attribute, in bytes: at most 1,022.
+    /// The size in bytes of the largest attribute, at most 1,022.
     pub attr_max: u32,
-    /// The longest file that is kept inline, in bytes: at most an eighth of a block, and 1,022.
+    /// The size in bytes of the largest file that is kept inline. A file of more than 1,022 bytes,
+    /// or of more than an eighth of a block, is never kept inline.
     pub inline_max: u32,
-    /// How many compactions a metadata pair stays at its place for. At 0 it stays for good.
+    /// The number of compactions after which a metadata pair is due to move to other blocks. If
+    /// this number is 0, no pair moves because of wear.
     pub pair_cycles: u32,
-    /// A number that is mixed into where a mount begins to search for free blocks. At 0 the image
-    /// alone determines it.
+    /// A seed that influences at which block a mount begins to search for free blocks. If the seed
+    /// is 0, the image alone determines this block.
     pub search_seed: u32,
 }
 
 impl Profile {
-    /// Returns the profile that is taken where none is given: version 2.0 and littlefs's own limits.
+    /// Returns the default profile, with version 2.0 only and littlefs's own default limits.
     pub fn new() -> Profile
         ensures { result ≡ default_profile }
     {
@@ -56,7 +60,7 @@ impl Profile {
         }
     }
 
-    /// Returns whether no limit is 0 or above the format's own.
+    /// Returns whether each limit is at least 1 and at most the format's own limit.
     pub fn is_valid(&self) -> bool
         ensures { IsTrue result ↔ AreValidLimits self.now }
     {
@@ -67,7 +71,7 @@ impl Profile {
     }
 }
 
-/// Where version 2.1 is accepted too, all images of version 2.0 still are.
+/// An image that is accepted with version 2.0 alone is also accepted if version 2.1 is allowed.
 pub fn later_version_is_accepted_too()
     ensures { (disk : Disk) (ps : List Pair) → IsAccepted (disk_with_versions OnlyTwoZero disk) ps → IsAccepted (disk_with_versions AlsoTwoOne disk) ps }
 {}

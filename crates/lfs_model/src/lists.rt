@@ -1,4 +1,4 @@
-// Skip lists, in blocks of 1,024 bytes.
+// CTZ skip-lists in blocks of 1,024 bytes.
 
 ghost use Rattle.std.specs.Prelude.{◌≡◌, ℕ, [], ◌∷◌, ◌++◌, map, replicate};
 ghost use Rattle.lfs_model.specs.format.Disk.{default_profile};
@@ -6,29 +6,32 @@ ghost use Rattle.lfs_model.specs.format.SkipLists.{IsBytePlace, IsSkipList, bloc
 ghost use Rattle.lfs_model.specs.session.Session.{list_block_count};
 ghost use Rattle.lfs_model.specs.examples.Images.{three_blocks, three_blocks_with, endless_list};
 
-/// How many blocks a list of some bytes has, and how many bytes each block holds after its pointers.
+/// The size of a CTZ skip-list determines how many blocks it has. A block's index in the list
+/// determines how many pointers and how many bytes of the file the block holds.
 pub fn skip_list_size_gives_block_count()
     ensures blocks { map (block_count_for 1024) (0 ∷ 1 ∷ 1024 ∷ 1025 ∷ 2044 ∷ 2045 ∷ 3060 ∷ 3061 ∷ 4080 ∷ 4081 ∷ [])
         ≡ 0 ∷ 1 ∷ 1 ∷ 2 ∷ 2 ∷ 3 ∷ 3 ∷ 4 ∷ 4 ∷ 5 ∷ [] }
     ensures pointers { map pointer_count (0 ∷ 1 ∷ 2 ∷ 3 ∷ 4 ∷ 5 ∷ 6 ∷ 7 ∷ 8 ∷ []) ≡ 0 ∷ 1 ∷ 2 ∷ 1 ∷ 3 ∷ 1 ∷ 2 ∷ 1 ∷ 4 ∷ [] }
     ensures capacities { map (block_capacity 1024) (0 ∷ 1 ∷ 2 ∷ 3 ∷ 4 ∷ []) ≡ 1024 ∷ 1020 ∷ 1016 ∷ 1020 ∷ 1012 ∷ [] }
 
-    // Where the file's bytes 1023, 1024, 2043, 2044 and 4080 are: in which block, at which offset.
+    // The block index and the offset in that block of the file's bytes 1023, 1024, 2043, 2044 and
+    // 4080.
     ensures places { IsBytePlace 1024 1023 0 1023 × IsBytePlace 1024 1024 1 4 × IsBytePlace 1024 2043 1 1023 × IsBytePlace 1024 2044 2 8 × IsBytePlace 1024 4080 4 12 }
 
     // A file of at most an eighth of a block has no list.
     ensures inline { map (list_block_count default_profile 1024) (128 ∷ 129 ∷ []) ≡ 0 ∷ 1 ∷ [] }
 {}
 
-/// A list of 2,045 bytes in the blocks 5, 6 and 7.
+/// A CTZ skip-list of 2,045 bytes in blocks 5, 6 and 7 consists of the bytes that these blocks hold
+/// after their pointers.
 pub fn bytes_of_skip_list_are_read()
     ensures list { IsSkipList three_blocks 1024 7 2045 }
     ensures blocks { blocks_to_head three_blocks (block_count_for 1024 2045) 7 ≡ 5 ∷ 6 ∷ 7 ∷ [] }
     ensures bytes { list_bytes three_blocks 1024 7 2045 ≡ replicate 1024 1 ++ replicate 1020 2 ++ 3 ∷ [] }
 
-    // A list whose pointers 0 form a circle never gets to its first block.
+    // If the first pointers of the blocks form a cycle, the list never reaches its first block.
     ensures round { IsSkipList endless_list 1024 7 2045 → ⊥ }
 
-    // Pointer 1 of the last block names the second block.
+    // Pointer 1 of the last block points to the second block instead of the first.
     ensures wrong_pointer { IsSkipList (three_blocks_with 6) 1024 7 2045 → ⊥ }
 {}

@@ -1,10 +1,11 @@
-// The two orders in which a directory may have its names.
+// The two orders of the names in a directory.
 
-/// In which order a directory has its names: by their bytes. The order decides where one name is the beginning of another.
+/// The order of the names in a directory. Names are compared byte by byte, and the two orders
+/// differ only if one name is a prefix of the other.
 #[derive(Clone, Copy, Debug, PartialEq, Eq)]
 pub enum NameOrder {
-    /// The shorter one comes first, as in any dictionary.
+    /// A name comes before all longer names that begin with it, as in a dictionary.
     ShorterFirst,
-    /// The longer one comes first, as littlefs's own code has it.
+    /// A name comes after all longer names that begin with it, as in littlefs's own code.
     LongerFirst,
 }

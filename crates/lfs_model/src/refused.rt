@@ -1,4 +1,4 @@
-// Which images are refused. Their checksums are right, except where a clause says otherwise.
+// Images that aren't accepted. Their checksums are correct unless a clause says otherwise.
 
 ghost use Rattle.std.specs.Prelude.{true, false, [], ◌∷◌, ◌++◌, Some, replicate, codes};
 ghost use Rattle.byteorder.specs.Endian.{little_bytes};
@@ -7,21 +7,23 @@ ghost use Rattle.lfs_model.specs.layers.WrittenContent.{tail_entry};
 ghost use Rattle.lfs_model.specs.layers.BlockBytes.{unwritten_bytes, block_padded, inline_entries, list_slot_entries, branch_entries, move_state_entry};
 ghost use Rattle.lfs_model.specs.examples.Images.{IsNotAccepted, root_block_with, pair_block_with, blocks_image, resized_image, superblock_struct_with, root_struct_block, disk_with_versions};
 
-/// The thread must end, within the disk, and must not have a block twice.
+/// The threaded linked-list of metadata pairs must end, stay within the disk, and contain no block
+/// twice.
 pub fn bad_thread_is_not_accepted()
-    // The root's tail names the root.
+    // The root's tail points to the root itself.
     ensures itself { IsNotAccepted (blocks_image (root_block_with (tail_entry false (Some (0, 1)) ∷ []) 0x19dcec1e 192) []) }
     ensures block_twice { IsNotAccepted (blocks_image (root_block_with (tail_entry false (Some (2, 2)) ∷ []) 0x7b687562 192)
         (pair_block_with [] 0x43f29ceb 244 ∷ [])) }
     ensures one_null { IsNotAccepted (blocks_image (root_block_with (tail_entry false (Some (2, 0xffffffff)) ∷ []) 0xa3905289 192) []) }
 
-    // Block 2 has a commit, and block 16 isn't there.
+    // Block 2 has a commit, and block 16 doesn't exist.
     ensures out_of_range { IsNotAccepted (blocks_image (root_block_with (tail_entry false (Some (2, 16)) ∷ []) 0x45f64334 192)
         (pair_block_with [] 0x43f29ceb 244 ∷ [])) }
     ensures unwritten_pair { IsNotAccepted (blocks_image (root_block_with (tail_entry false (Some (2, 3)) ∷ []) 0xb7c275fc 192) []) }
 {}
 
-/// A directory's entry names the first pair of a directory that no other entry names.
+/// A directory's entry must point to the first pair of a directory, and no two entries may point to
+/// the same directory.
 pub fn bad_directory_address_is_not_accepted()
     ensures root { IsNotAccepted (blocks_image (root_block_with (branch_entries 1 (codes "d") (0, 1)) 0xe27bd4d5 187) []) }
     ensures twice { IsNotAccepted
@@ -30,13 +32,13 @@ pub fn bad_directory_address_is_not_accepted()
     ensures absent { IsNotAccepted (blocks_image (root_block_with (branch_entries 1 (codes "d") (2, 3)) 0x4c654d37 187)
         (pair_block_with [] 0x43f29ceb 244 ∷ [])) }
 
-    // It names a pair that continues the root.
+    // The entry points to a pair that continues the root directory.
     ensures follower { IsNotAccepted
         (blocks_image (root_block_with (branch_entries 1 (codes "d") (2, 3) ++ tail_entry true (Some (2, 3)) ∷ []) 0xcf150821 175)
         (pair_block_with [] 0x43f29ceb 244 ∷ [])) }
 {}
 
-/// Names have a form, and increase in their directory.
+/// Names must be well-formed, and in ascending order within their directory.
 pub fn bad_name_is_not_accepted()
     ensures descending { IsNotAccepted (blocks_image (root_block_with (inline_entries 1 (codes "b") [] ++ inline_entries 2 (codes "a")
         []) 0x5f10df56 186) []) }
@@ -46,13 +48,14 @@ pub fn bad_name_is_not_accepted()
     ensures slash { IsNotAccepted (blocks_image (root_block_with (inline_entries 1 (codes "a/b") []) 0xd9b0dbad 193) []) }
     ensures long { IsNotAccepted (blocks_image (root_block_with (inline_entries 1 (replicate 256 97) []) 0xe28fdd43 196) []) }
 
-    // The names of two pairs of one directory.
+    // The names are in two pairs of one directory.
     ensures across { IsNotAccepted
         (blocks_image (root_block_with (inline_entries 1 (codes "b") [] ++ tail_entry true (Some (2, 3)) ∷ []) 0x922b2c43 183)
         (pair_block_with (inline_entries 0 (codes "a") (codes "hi")) 0x4cbde7e4 233 ∷ [])) }
 {}
 
-/// A file's list lies within the disk, has one to 2147483647 bytes and right pointers, and no block that another owns.
+/// A file's CTZ skip-list must stay within the disk, have 1 to 2,147,483,647 bytes and correct
+/// pointers, and share no block.
 pub fn bad_skip_list_is_not_accepted()
     ensures shared { IsNotAccepted
         (blocks_image (root_block_with (list_slot_entries 1 (codes "a") 2 10 ++ list_slot_entries 2 (codes "b") 2 10) 0xc767c5eb 170)
@@ -62,7 +65,7 @@ pub fn bad_skip_list_is_not_accepted()
     ensures empty { IsNotAccepted (blocks_image (root_block_with (list_slot_entries 1 (codes "a") 2 0) 0xb05184d9 187) []) }
     ensures too_long { IsNotAccepted (blocks_image (root_block_with (list_slot_entries 1 (codes "a") 2 0x80000000) 0x01b7344b 187) []) }
 
-    // Pointer 1 of the third block names the second block.
+    // Pointer 1 of the third block points to the second block instead of the first.
     ensures pointer { IsNotAccepted
         (blocks_image (root_block_with (list_slot_entries 1 (codes "a") 4 8189) 0xaa94cc85 187)
         (replicate 4096 97
@@ -70,7 +73,8 @@ pub fn bad_skip_list_is_not_accepted()
         ∷ block_padded 4096 (little_bytes 4 3 ++ little_bytes 4 3 ++ 99 ∷ []) ∷ [])) }
 {}
 
-/// The global state is zero but for the sync bit, or names a slot that isn't the superblock's.
+/// Apart from the sync bit, the global state must be zero or refer to an existing slot other than
+/// the superblock's.
 pub fn move_naming_no_entry_is_not_accepted()
     ensures id_alone { IsNotAccepted (blocks_image (root_block_with (move_state_entry 0x00000400 (0, 0) ∷ []) 0x33e0939e 188) []) }
     ensures superblock { IsNotAccepted (blocks_image (root_block_with (move_state_entry 0x4ff00000 (0, 1) ∷ []) 0x86d7ee5a 188) []) }
@@ -78,16 +82,16 @@ pub fn move_naming_no_entry_is_not_accepted()
     ensures other_type { IsNotAccepted (blocks_image (root_block_with (move_state_entry 0x00100000 (0, 0) ∷ []) 0xdf2eca91 188) []) }
 {}
 
-/// The superblock gives the block size, the block count and the version 2.0, where no other is accepted.
+/// The superblock must state the disk's block size and block count, and an accepted version.
 pub fn bad_superblock_is_not_accepted()
-    // The 16 blocks of a fresh image cut to 2, and lengthened by one.
+    // A fresh image of 16 blocks is cut to 2 blocks, or lengthened to 17.
     ensures cut { IsNotAccepted (resized_image 2) }
     ensures lengthened { IsNotAccepted (resized_image 17) }
     ensures version { IsNotAccepted (blocks_image (root_struct_block (superblock_struct_with 0x00020001 4096 255) 0xf2928257) []) }
-    // Version 2.2, where 2.1 is accepted too.
+    // Version 2.2 isn't accepted even if version 2.1 is.
     ensures later_version { IsNotAccepted (disk_with_versions AlsoTwoOne (blocks_image (root_struct_block (superblock_struct_with 0x00020002 4096 255) 0xf04c8570) [])) }
     ensures block_size { IsNotAccepted (blocks_image (root_struct_block (superblock_struct_with 0x00020000 8192 255) 0xf0b0f59e) []) }
 
-    // Storage that nothing was written to.
+    // Nothing was ever written to this storage.
     ensures unwritten { IsNotAccepted (blocks_image (unwritten_bytes 4096) []) }
 {}

@@ -1,4 +1,4 @@
-// What sessions on a fresh disk reply.
+// Replies of sessions that begin with a fresh disk.
 
 ghost use Rattle.std.specs.Prelude.{◌≡◌, true, [], ◌∷◌, ◌++◌, Some, None, replicate, codes};
 ghost use Rattle.lfs_model.specs.format.Disk.{default_profile};
@@ -8,7 +8,8 @@ ghost use Rattle.lfs_model.specs.session.State.{SessionHealth, HasFailed, Health
 ghost use Rattle.lfs_model.specs.tree.Fresh.{empty_tree};
 ghost use Rattle.lfs_model.specs.examples.Sessions.{writable_summary, fresh_replies, all_replies, with_used_count, no_flags, read_flags, write_flags, creating_flags};
 
-/// Paths that are refused, and names of the greatest length.
+/// A malformed path is refused with `Invalid`, and a name of more than 255 bytes with
+/// `NameTooLong`.
 pub fn paths_are_checked()
     ensures forms { fresh_replies 4096 256 16 (with_used_count 2
         (ops.Stat [] ∷ ops.Stat (codes "a") ∷ ops.Stat (codes "/a/") ∷ ops.Stat (codes "//a") ∷ ops.Stat (codes "/.") ∷ ops.Stat (codes "/a/../b")
@@ -22,7 +23,7 @@ pub fn paths_are_checked()
         ≡ ops.Done ∷ ops.Refused NameTooLong ∷ ops.Refused Exist ∷ ops.Refused NoEnt ∷ ops.Done ∷ [] }
 {}
 
-/// Which flags an open takes, and what they do.
+/// An open is refused with `Invalid` if its flags are unknown or incompatible.
 pub fn flags_are_checked()
     ensures refused { fresh_replies 4096 256 16 (with_used_count 2
         (ops.Open (codes "/a") no_flags ∷ ops.Open (codes "/a") (record creating_flags { read = true })
@@ -32,7 +33,8 @@ pub fn flags_are_checked()
         ≡ ops.Refused Invalid ∷ ops.Refused Invalid ∷ ops.Refused Invalid ∷ ops.Refused Invalid
         ∷ ops.Refused Invalid ∷ ops.Refused NoEnt ∷ [] }
 
-    // Truncate empties a file at the next sync, and append writes at its end.
+    // The `truncate` flag empties a file at the next sync or close. The `append` flag makes each
+    // write begin at the end of the file.
     ensures used { fresh_replies 4096 256 16 (with_used_count 2
         (ops.Open (codes "/a") creating_flags ∷ ops.Write 0 (codes "hello") ∷ ops.Close 0
         ∷ ops.Open (codes "/a") (record creating_flags { exclusive = true })
@@ -46,7 +48,8 @@ pub fn flags_are_checked()
         ∷ ops.Opened 0 ∷ ops.StatIs (Some 6) ∷ ops.Done ∷ ops.StatIs (Some 0) ∷ [] }
 {}
 
-/// Positions, gaps and the greatest size of a file.
+/// A session keeps the position of each open file, fills gaps with zeros, and refuses to exceed the
+/// largest file size.
 pub fn file_positions_are_kept()
     ensures { fresh_replies 1024 128 64 (with_used_count 2
         (ops.Open (codes "/a") creating_flags ∷ ops.Seek 0 2147483647 ∷ ops.Write 0 (0 ∷ []) ∷ ops.Write 0 []
@@ -59,7 +62,7 @@ pub fn file_positions_are_kept()
         ∷ ops.Opened 0 ∷ ops.Bytes (0 ∷ 0 ∷ []) ∷ ops.Bytes (0 ∷ 120 ∷ []) ∷ ops.Bytes [] ∷ [] }
 {}
 
-/// One writer and 16 readers, and what can't be done to an open file.
+/// A session has at most one writer and 16 readers, and can neither remove nor rename an open file.
 pub fn open_files_are_busy()
     ensures { fresh_replies 4096 256 16 (with_used_count 2
         (ops.Open (codes "/a") creating_flags ∷ ops.Open (codes "/b") creating_flags ∷ ops.Open (codes "/a") read_flags
@@ -78,7 +81,7 @@ pub fn open_files_are_busy()
         ∷ ops.Refused Busy ∷ ops.Refused Busy ∷ ops.Done ∷ ops.Refused BadFile ∷ ops.Opened 3 ∷ [] }
 {}
 
-/// What a rename replaces, and what it moves.
+/// A rename replaces a file or an empty directory, and moves a directory with everything below it.
 pub fn rename_moves_subtree()
     ensures onto_itself { fresh_replies 4096 256 16 (with_used_count 2
         (ops.Rename (codes "/a") (codes "/a/b/c") ∷ ops.Rename (codes "/") (codes "/a")
@@ -88,7 +91,7 @@ pub fn rename_moves_subtree()
         ≡ ops.Refused Invalid ∷ ops.Refused Invalid ∷ ops.Refused NoEnt ∷ ops.Opened 0 ∷ ops.Refused Busy ∷ ops.Done
         ∷ ops.Done ∷ ops.Refused Invalid ∷ [] }
 
-    // A file leaves its directory, which can then be removed.
+    // After the only file of a directory is moved away, the directory can be removed.
     ensures across { fresh_replies 4096 256 16
         ((2, ops.Mkdir (codes "/s")) ∷ with_used_count 4 (ops.Open (codes "/s/f") creating_flags ∷ ops.Close 0
         ∷ ops.Remove (codes "/s") ∷ ops.Rename (codes "/s/f") (codes "/g") ∷ ops.Remove (codes "/s") ∷ [])
@@ -96,7 +99,7 @@ pub fn rename_moves_subtree()
         ≡ ops.Done ∷ ops.Opened 0 ∷ ops.Done ∷ ops.Refused NotEmpty ∷ ops.Done ∷ ops.Done
         ∷ ops.Items (record { name = codes "g"; size = Some 0 } ∷ []) ∷ [] }
 
-    // A directory moves with the entries beneath it, and replaces an empty one.
+    // A directory moves with all entries below it, and may replace an empty directory.
     ensures directories { fresh_replies 4096 256 64
         ((2, ops.Mkdir (codes "/a")) ∷ (4, ops.Mkdir (codes "/a/b")) ∷ (6, ops.Mkdir (codes "/c")) ∷ with_used_count 8
         (ops.Open (codes "/a/b/f") creating_flags ∷ ops.Write 0 (codes "hello") ∷ ops.Rename (codes "/a") (codes "/c")
@@ -116,7 +119,8 @@ pub fn rename_moves_subtree()
         ∷ ops.Refused NotDir ∷ [] }
 {}
 
-/// What space an operation needs, and what a writer holds.
+/// An operation is refused with `NoSpace` if too few blocks are free. Blocks that an open writer
+/// may need don't count as free.
 pub fn space_for_blocks_is_checked()
     ensures two_blocks { fresh_replies 1024 128 2 ((2, ops.Open (codes "/a") creating_flags) ∷ []) ≡ ops.Refused NoSpace ∷ [] }
     ensures four_blocks { fresh_replies 1024 128 4 (with_used_count 2
@@ -124,7 +128,8 @@ pub fn space_for_blocks_is_checked()
         ∷ ops.Close 0 ∷ ops.UsedCount ∷ []))
         ≡ ops.Refused NoSpace ∷ ops.Opened 0 ∷ ops.Count 1 ∷ ops.Refused NoSpace ∷ ops.Done ∷ ops.Count 2 ∷ [] }
 
-    // 5,000 bytes take five blocks. A write elsewhere makes the writer nonsequential, and it then holds them twice.
+    // 5,000 bytes need five blocks. A write elsewhere makes the writer nonsequential, and such a
+    // writer needs the blocks twice.
     ensures not_turned { fresh_replies 1024 128 13
         (with_used_count 2 (ops.Open (codes "/a") creating_flags ∷ ops.Write 0 (replicate 5000 7) ∷ ops.Seek 0 10
         ∷ ops.Write 0 (1 ∷ []) ∷ ops.Close 0 ∷ []) ++ (7, ops.Stat (codes "/a")) ∷ [])
@@ -141,7 +146,8 @@ pub fn space_for_blocks_is_checked()
         ≡ ops.Opened 0 ∷ ops.Count 5000 ∷ ops.Done ∷ ops.Refused NoSpace ∷ ops.Done ∷ ops.StatIs (Some 4000) ∷ [] }
 {}
 
-/// What attributes are kept, and how many bytes fit an entry: 428 here, with 128 reserved for contents.
+/// A name and its attributes may need at most half of a metadata pair. In these examples half a
+/// pair has 428 bytes, of which 128 are reserved for inline contents.
 pub fn attributes_are_kept_up_to_charge_limit()
     ensures limit { fresh_replies 1024 128 64 (with_used_count 2
         (ops.Open (47 ∷ replicate 255 97) creating_flags ∷ ops.Close 0
@@ -152,7 +158,8 @@ pub fn attributes_are_kept_up_to_charge_limit()
         ≡ ops.Opened 0 ∷ ops.Done ∷ ops.Done ∷ ops.Refused EntryFull
         ∷ ops.Bytes (replicate 33 1) ∷ ops.Done ∷ ops.Refused NoAttr ∷ ops.Refused NoAttr ∷ [] }
 
-    // A missing file is reported before too many bytes, and these before a full entry.
+    // A missing file is reported before an overlong attribute, and an overlong attribute before a
+    // full entry.
     ensures order { fresh_replies 1024 128 64 (with_used_count 2
         (ops.SetAttr (codes "/none") 0x41 (replicate 1023 1) ∷ ops.Open (codes "/f") creating_flags
         ∷ ops.SetAttr (codes "/f") 0x41 (replicate 1023 1) ∷ ops.SetAttr (codes "/f") 0x41 (replicate 1022 1)
@@ -160,7 +167,8 @@ pub fn attributes_are_kept_up_to_charge_limit()
         ≡ ops.Refused NoEnt ∷ ops.Opened 0 ∷ ops.Refused TooBig ∷ ops.Refused EntryFull ∷ ops.Refused Invalid ∷ [] }
 {}
 
-/// A session from a directory to a file of the root.
+/// Shows the replies of a session that makes a directory, writes a file in it, moves the file to
+/// the root, and reads it there.
 pub fn replies_of_a_whole_session()
     ensures { fresh_replies 1024 128 64
         ((2, ops.Mkdir (codes "/d")) ∷ with_used_count 4 (ops.Open (codes "/d/f") creating_flags ∷ ops.Write 0 (replicate 5000 7)
@@ -175,7 +183,8 @@ pub fn replies_of_a_whole_session()
         ++ 1 ∷ replicate 4989 7) ∷ ops.Done ∷ ops.Bytes (codes "x") ∷ ops.Count 7 ∷ [] }
 {}
 
-/// A failed session refuses all but a remount, which begins a session with the tree of the disk.
+/// A failed session refuses every operation except a remount, which begins a new session with the
+/// disk's tree.
 pub fn failed_session_refuses_all_but_remount()
     ensures stat { result_and_health (writable_summary 4096 256 16 2) (Some empty_tree) HasFailed (ops.Stat (codes "/")) ≡ (Some (ops.Refused Failed), HasFailed) }
     ensures remount { result_and_health (writable_summary 4096 256 16 2) (Some empty_tree) HasFailed ops.Remount ≡ (Some ops.Done, Healthy (mounted_session empty_tree)) }
@@ -183,7 +192,7 @@ pub fn failed_session_refuses_all_but_remount()
     ensures not_accepted { (state : SessionHealth) → result_and_health (writable_summary 4096 256 16 2) None state ops.Remount ≡ (None, HasFailed) }
 {}
 
-/// A profile lowers the limits of names, files and attributes, and what is inline.
+/// A profile can lower the limits on names, files and attributes.
 pub fn profile_lowers_limits()
     ensures { all_replies (λ used. record (writable_summary 4096 256 16 used) { profile = record default_profile { name_max = 3; file_max = 5; attr_max = 2 } }) (mounted_session empty_tree)
         (with_used_count 2

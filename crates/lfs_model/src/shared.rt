@@ -1,4 +1,4 @@
-// Laws of the definitions that the layers above share.
+// Laws of the definitions that several crates above this one use.
 
 ghost use Rattle.std.specs.Prelude.{◌≡◌, ◌≤◌, ◌<◌, ◌⊎◌, ℕ, ◌+◌, true, List, [], ◌∷◌, ◌++◌, length, drop, sum_by, slice_get, Some, None, All, Contains, codes};
 ghost use Rattle.std.specs.List.{insert};
@@ -28,32 +28,36 @@ ghost use Rattle.lfs_model.specs.tree.View.{IsAccepted, superblock_entry};
 ghost use Rattle.lfs_model.specs.tree.Shown.{LeadsTo};
 ghost use Rattle.lfs_model.specs.layers.WrittenContent.{slot_size_raw, content_entries};
 
-/// Where all slots but one fit a pair, and that one takes at most half of it, they can be cut into two parts that fit.
+/// Slots can be split between two pairs if all but one of them fit in a pair, and that one needs at
+/// most half a pair.
 pub fn full_pair_can_be_split()
     ensures cut { (block_size page : ℕ) (front : List RawSlot) (s : RawSlot) (back : List RawSlot) → slot_size_raw s ≤ charge_limit block_size page
         → sum_by slot_size_raw front + sum_by slot_size_raw back ≤ pair_capacity block_size page → length front + length back ≤ slots_limit
         → AreSplittable block_size page (front ++ s ∷ back) }
 
-    // an entry of the profile is added to a pair that fitted
+    // An entry within the profile's limits is added to a pair whose slots fitted, or replaces one
+    // of these slots.
     ensures comes { (profile : Profile) (block_size page : ℕ) (raw : RawContent) (c old : PairContent) (id : ℕ) (s : Slot) → 1024 ≤ block_size → IsWellFormed raw → complete_content raw ≡ Some c
         → c.slots ≡ insert old.slots id s → IsWritableEntry profile block_size page s → FitsInPair block_size page old → AreSplittable block_size page raw.slots }
     ensures changes { (profile : Profile) (block_size page : ℕ) (raw : RawContent) (c old : PairContent) (front : List Slot) (was s : Slot) (back : List Slot) → 1024 ≤ block_size → IsWellFormed raw
         → complete_content raw ≡ Some c → old.slots ≡ front ++ was ∷ back → c.slots ≡ front ++ s ∷ back → IsWritableEntry profile block_size page s → FitsInPair block_size page old
         → AreSplittable block_size page raw.slots }
 
-    // where the whole doesn't fit, no part is without slots
+    // If the slots don't fit in one pair, neither part of a split is empty.
     ensures inside { (block_size page : ℕ) (raw : RawContent) (c : PairContent) (at : ℕ) → IsWellFormed raw → complete_content raw ≡ Some c → (FitsInPair block_size page c → ⊥)
         → IsFittingSplit block_size page raw.slots at → (1 ≤ at) × (at < length raw.slots) }
 {}
 
-/// A name's type is a file's, a directory's or a superblock's. What is written anew with the superblock in slot 0 begins with its entry.
+/// Every name has the type of a file, a directory or a superblock. If slot 0 is the superblock, a
+/// compacted log begins with the superblock's name entry.
 pub fn superblock_is_written_first()
     ensures types { (kind : ℕ) (bytes : List ℕ) → IsAllowedPart 0 (kind, bytes) → (kind ≡ file_name_type) ⊎ ((kind ≡ directory_name_type) ⊎ (kind ≡ superblock_name_type)) }
     ensures first { (raw : RawContent) (c : PairContent) → AreWellFormed raw.slots → complete_content raw ≡ Some c → superblock_first c.slots ≡ true
         → option_map (λ (s : Slot). s.name) (slice_get c.slots 0) ≡ Some (codes "littlefs") → slice_get (content_entries raw) 0 ≡ Some superblock_entry }
 {}
 
-/// After a failed call the device holds what a stop leaves, where failed calls leave what stops in them may.
+/// After a failed call the disk has the tree from before or after the operation, if that call left
+/// what a power loss in it may leave.
 pub fn failed_call_leaves_what_power_loss_leaves()
     ensures newest { (disk : Disk) (old new : List CallEvent) (blocks : Blocks) (before after : Tree) → SurvivesLossSince disk old new before after → AllCallsSince ErasesCleanly old new
         → fault_count old < fault_count new → LeftByLatestLoss LeftByLoss new blocks → HasEitherTree (with_blocks blocks disk) before after }
@@ -61,7 +65,8 @@ pub fn failed_call_leaves_what_power_loss_leaves()
         → FailLikeLossSince old new → fault_count old < fault_count new → LeftByFailure new blocks → HasEitherTree (with_blocks blocks disk) before after }
 {}
 
-/// A list has as many bytes as its size gives. It keeps them where only other blocks change.
+/// A CTZ skip-list has exactly as many bytes as its size says, and these bytes stay the same while
+/// only other blocks change.
 pub fn skip_list_keeps_its_bytes()
     ensures size { (disk : Blocks) (block_size block_count head size : ℕ) → 1024 ≤ block_size → HasBlockSizes block_size block_count disk → IsSkipList disk block_size head size
         → length (list_bytes disk block_size head size) ≡ size }
@@ -71,13 +76,15 @@ pub fn skip_list_keeps_its_bytes()
         → IsSkipList new block_size head size × (list_bytes new block_size head size ≡ list_bytes old block_size head size) }
 {}
 
-/// No more blocks are in flight, or used, than there are in a list that has them all.
+/// Neither the number of used blocks nor the number of blocks in flight exceeds the length of a
+/// list that contains all of them. Blocks in flight are allocated, but aren't in any commit yet.
 pub fn list_with_all_used_blocks_bounds_their_count()
     ensures flying { (sets : BlockStates) (bs : List ℕ) → ((b : ℕ) → IsInFlight sets b → Contains bs b) → in_flight_count sets ≤ length bs }
     ensures used { (sets : BlockStates) (bs : List ℕ) → ((b : ℕ) → IsUsedBlock sets b → Contains bs b) → used_count sets ≤ length bs }
 {}
 
-/// A search in the pairs of a directory finds the entry at the name's path, and reads as many pairs as the directory has.
+/// A search of a directory's pairs finds exactly the entry at the path of the searched name, and
+/// covers as many pairs as the directory has.
 pub fn search_finds_entry_at_path()
     ensures stands { (disk : Disk) (ps : List Pair) (path : Path) (at : ℕ × ℕ) (first pair id : ℕ) (name : Name) → IsAccepted disk ps → pairs_gstate ps ≡ zero_gstate → LeadsTo ps path at
         → IsPairAt ps at first → (s : IsPlaceOf ps first name pair id) → slot_of ps (path ++ name ∷ []) ≡ Some s.stands.slot }

@@ -1,4 +1,4 @@
-// What operations make of slots, and of the pairs that have them.
+// How operations change slots, and the pairs that hold them.
 
 ghost use Rattle.std.specs.Prelude.{◌≡◌, true, false, List, [], ◌∷◌, ◌++◌, filter, replicate, Some, None, codes};
 ghost use Rattle.lfs_model.specs.format.Disk.{default_profile};
@@ -23,7 +23,8 @@ ghost use Rattle.lfs_model.specs.examples.Sessions.{creating_flags, read_flags};
 ghost use Rattle.lfs_model.specs.examples.Images.{small_disk_with, small_image, large_image};
 ghost use Rattle.lfs_model.specs.examples.Runs.{pair_with_tail, example_tail, root_with_d, worn_pairs_image, root_and_directory, root_and_two, root_with_file, long_attribute_slot, slot_with_list, each_operation, reader_session, writer_session};
 
-/// Which operations recover first, which change where slots are, and which leave the disk alone.
+/// Classifies operations by what they do to the disk: recover it first, only read it, change an
+/// open file's contents, or make no device call.
 pub fn operations_are_classified_by_disk_effect()
     ensures recover { filter recovers_first each_operation
         ≡ ops.Open (codes "/b") creating_flags ∷ ops.Mkdir (codes "/d") ∷ ops.Remove (codes "/b") ∷ ops.Rename (codes "/a") (codes "/b")
@@ -36,7 +37,8 @@ pub fn operations_are_classified_by_disk_effect()
     ensures itself { filter renames_itself each_operation ≡ ops.Rename (codes "/a") (codes "/a") ∷ [] }
 {}
 
-/// A dirty file is committed by a sync and by a close. A file that isn't dirty isn't committed.
+/// A sync or a close commits a file if the file is dirty, and makes no device call if the file is
+/// clean.
 pub fn operations_on_open_file_are_classified()
     ensures dirty { filter (edits_slots (writer_session [] true [])) (ops.Sync 0 ∷ ops.Close 0 ∷ ops.Write 0 [] ∷ ops.Sync 1 ∷ []) ≡ ops.Sync 0 ∷ ops.Close 0 ∷ [] }
     ensures clean { filter (needs_no_device (writer_session [] false [])) each_operation
@@ -44,7 +46,8 @@ pub fn operations_on_open_file_are_classified()
     ensures sized { filter (needs_no_device (writer_session [] true (codes "hi"))) (ops.Truncate 0 2 ∷ ops.Truncate 0 3 ∷ ops.Truncate 1 2 ∷ ops.Write 0 (codes "!") ∷ []) ≡ ops.Truncate 0 2 ∷ [] }
 {}
 
-/// What each operation makes of the slots.
+/// Shows how operations change slots: a mkdir adds one, a rename moves one, and a remove takes one
+/// away.
 pub fn operations_edit_slots()
     ensures made { EditsSlots large_image root_and_two (mounted_session empty_tree) (ops.Mkdir (codes "/e")) (pair_with_tail (8, 9) [] None ∷ []) root_and_two
         (root_and_directory (directory_slot (codes "e") (8, 9) ∷ []) (file_slot (codes "a") ∷ [])) }
@@ -52,20 +55,21 @@ pub fn operations_edit_slots()
     ensures moved { EditsSlots large_image root_and_two (mounted_session empty_tree) (ops.Rename (codes "/d/a") (codes "/e")) [] root_and_two
         (root_and_directory (file_slot (codes "e") ∷ []) []) }
 
-    // The struct moves, too: the bytes are the same under the new name.
+    // A rename also moves the struct, so the file has the same bytes under its new name.
     ensures other_bytes { EditsSlots large_image (root_with_file (codes "a") (codes "x")) (mounted_session empty_tree) (ops.Rename (codes "/a") (codes "/b")) []
         (root_with_file (codes "a") (codes "x")) (root_with_file (codes "b") (codes "y")) → ⊥ }
     ensures removed { EditsSlots large_image root_and_two (mounted_session empty_tree) (ops.Remove (codes "/d/a")) [] root_and_two (root_and_directory [] []) }
     ensures no_slot { (new : List Pair) → EditsSlots large_image root_and_two (mounted_session empty_tree) (ops.Remove (codes "/x")) [] root_and_two new → ⊥ }
 {}
 
-/// A sync of a dirty file commits its struct.
+/// A sync of a dirty file commits the file's new struct.
 pub fn sync_edits_struct()
     ensures { EditsSlots large_image (root_with_file (codes "a") []) (writer_session (codes "a" ∷ []) true (codes "hi")) (ops.Sync 0) []
         (root_with_file (codes "a") []) (root_with_file (codes "a") (codes "hi")) }
 {}
 
-/// Entries that others replace, and attributes that are set and removed.
+/// A rename replaces the slot at the new path. Setting or removing an attribute changes the slot of
+/// its entry.
 pub fn slots_and_attributes_are_replaced()
     ensures onto { EditsSlots large_image (root_and_directory (file_slot (codes "e") ∷ []) (file_slot (codes "a") ∷ [])) (mounted_session empty_tree) (ops.Rename (codes "/d/a") (codes "/e")) []
         (root_and_directory (file_slot (codes "e") ∷ []) (file_slot (codes "a") ∷ [])) (root_and_directory (file_slot (codes "e") ∷ []) []) }
@@ -79,7 +83,8 @@ pub fn slots_and_attributes_are_replaced()
         (root_with_file (codes "a") []) (root_with_file (codes "a") []) → ⊥ }
 {}
 
-/// At most an eighth of a block is in the entry, and no more than the profile has.
+/// A file is stored inline if its size is at most an eighth of a block and at most the profile's
+/// `inline_max`.
 pub fn inline_limit_is_eighth_of_block()
     ensures inline { GivesBytes small_image (replicate 128 7) (Inline (replicate 128 7)) }
     ensures too_long { GivesBytes small_image (replicate 129 7) (Inline (replicate 129 7)) → ⊥ }
@@ -89,7 +94,8 @@ pub fn inline_limit_is_eighth_of_block()
     ensures list { GivesBytes (small_disk_with (replicate 1024 7)) (replicate 1024 7) (Ctz 0 1024) }
 {}
 
-/// A pair is cut where its slots don't fit, and dropped where it has none and isn't the first.
+/// A pair is split if its slots don't fit, and dropped if it has no slots and isn't the first pair
+/// of its directory.
 pub fn pairs_are_split_and_dropped()
     ensures cut { PairBecomes small_image true ⊥ (pair_with_tail (2, 3) (long_attribute_slot (codes "a") ∷ long_attribute_slot (codes "b") ∷ []) None)
         (pair_with_tail (2, 3) (long_attribute_slot (codes "a") ∷ []) None ∷ pair_with_tail (4, 5) (long_attribute_slot (codes "b") ∷ []) None ∷ []) }
@@ -99,7 +105,9 @@ pub fn pairs_are_split_and_dropped()
     ensures first_stays { PairBecomes small_image true ⊥ (pair_with_tail (2, 3) [] None) [] → ⊥ }
 {}
 
-/// Where the profile gives no cycles, slots are where an operation alone lays them out. So they are where nothing moved.
+/// If the profile's `pair_cycles` is 0, no pair moves because of wear, so each slot is where the
+/// operation itself puts it. With every profile, an operation may also leave all worn pairs in
+/// place.
 pub fn pairs_stay_without_cycles()
     ensures laid_out { (disk new : Disk) (ps qs : List Pair) (s : Session) (op : Operation) (calls : List CallEvent) → disk.profile.pair_cycles ≡ 0
         → IsLayoutMoved disk ps s op calls new qs → IsLayoutRecovered disk ps s op new qs }
@@ -107,30 +115,31 @@ pub fn pairs_stay_without_cycles()
         → IsLayoutRecovered disk ps s op new qs → IsLayoutMoved disk ps s op calls new qs }
 {}
 
-/// A worn pair moves whole, or all its slots go to a pair behind it. A pair that isn't worn stays.
+/// A worn pair moves to other blocks as a whole, or moves all its slots to a new pair that follows
+/// it. A pair that isn't worn stays where it is.
 pub fn worn_pair_moves()
     ensures moved { IsPairMoved (worn_pairs_image 1) root_and_two
         (root_with_d ∷ pair_with_tail (4, 5) (file_slot (codes "a") ∷ []) (example_tail true (8, 9)) ∷ pair_with_tail (8, 9) (file_slot (codes "z") ∷ []) None ∷ []) }
     ensures unloaded { (new : Disk) → block_count new ≡ 16 → IsPairUnloaded (worn_pairs_image 1) root_and_two new
         (root_with_d ∷ pair_with_tail (4, 5) [] (example_tail true (8, 9)) ∷ pair_with_tail (8, 9) (file_slot (codes "a") ∷ []) (example_tail true (6, 7)) ∷ pair_with_tail (6, 7) (file_slot (codes "z") ∷ []) None ∷ []) }
 
-    // A superblock stays in the first pair, and another one goes with the entries.
+    // The first pair keeps its superblock, and a second superblock goes with the entries.
     ensures root { (new : Disk) → block_count new ≡ 16 → IsRootUnloaded (worn_pairs_image 1) root_and_two new
         (pair_with_tail (0, 1) (superblock_slot default_profile 4096 16 ∷ []) (example_tail true (8, 9)) ∷ record root_with_d { at = (8, 9) }
         ∷ pair_with_tail (4, 5) (file_slot (codes "a") ∷ []) (example_tail true (6, 7)) ∷ pair_with_tail (6, 7) (file_slot (codes "z") ∷ []) None ∷ []) }
 
-    // Eight of nine blocks would be used.
+    // Eight of nine blocks would be used, which is more than seven eighths.
     ensures no_room { (new : Disk) → block_count new ≡ 9 → IsPairUnloaded (worn_pairs_image 1) root_and_two new
         (root_with_d ∷ pair_with_tail (4, 5) [] (example_tail true (8, 9)) ∷ pair_with_tail (8, 9) (file_slot (codes "a") ∷ []) (example_tail true (6, 7)) ∷ pair_with_tail (6, 7) (file_slot (codes "z") ∷ []) None ∷ []) → ⊥ }
     ensures not_worn { (new : Disk) (qs : List Pair) → IsMoved (worn_pairs_image 2) root_and_two new qs → ⊥ }
 
-    // The first pair of a directory doesn't move whole: no hard tail names it.
+    // The first pair of a directory doesn't move as a whole, because no hard tail points to it.
     ensures not_first { IsPairMoved (worn_pairs_image 1) root_and_two
         (pair_with_tail (0, 1) root_with_d.content.slots (example_tail true (8, 9)) ∷ pair_with_tail (8, 9) (file_slot (codes "a") ∷ []) (example_tail true (6, 7)) ∷ pair_with_tail (6, 7) (file_slot (codes "z") ∷ []) None ∷ []) → ⊥ }
     ensures no_cycles { (new : Disk) (qs : List Pair) → IsMoved (worn_pairs_image 0) root_and_two new qs → ⊥ }
 {}
 
-/// A directory is dropped where it is removed, or where a rename replaces it.
+/// A directory is dropped if it is removed or if a rename replaces it.
 pub fn replaced_directory_is_dropped()
     ensures removed { removed_addresses root_and_two (ops.Remove (codes "/d")) ≡ (4, 5) ∷ [] }
     ensures file { removed_addresses root_and_two (ops.Remove (codes "/d/a")) ≡ [] }
@@ -138,7 +147,7 @@ pub fn replaced_directory_is_dropped()
     ensures itself { removed_addresses root_and_two (ops.Rename (codes "/d") (codes "/d")) ≡ [] }
 {}
 
-/// Which files an operation is about.
+/// A remove or a rename affects the files at and below its paths, and no other files.
 pub fn only_files_of_operation_are_stored_or_moved()
     ensures beneath { vacates_path (ops.Remove (codes "/d")) (codes "d" ∷ codes "a" ∷ []) ≡ true }
     ensures onto { vacates_path (ops.Rename (codes "/a") (codes "/b")) (codes "b" ∷ []) ≡ true }
@@ -146,14 +155,14 @@ pub fn only_files_of_operation_are_stored_or_moved()
     ensures none { filter (λ op. vacates_path op (codes "b" ∷ [])) each_operation ≡ ops.Remove (codes "/b") ∷ ops.Rename (codes "/a") (codes "/b") ∷ [] }
 {}
 
-/// A sync and a close are about the file that is open, and no other operation stores one.
+/// Only a sync or a close may store the contents of an open file, and only at that file's path.
 pub fn only_sync_stores()
     ensures stored { filter (λ op. may_store_at (writer_session (codes "b" ∷ []) true []) op (codes "b" ∷ [])) each_operation ≡ ops.Sync 0 ∷ ops.Close 0 ∷ [] }
     ensures elsewhere { may_store_at (writer_session (codes "b" ∷ []) true []) (ops.Sync 0) (codes "a" ∷ []) ≡ false }
     ensures not_open { may_store_at (writer_session (codes "b" ∷ []) true []) (ops.Sync 1) (codes "b" ∷ []) ≡ false }
 {}
 
-/// Files that an operation isn't about keep their structs, and not only their bytes.
+/// A file that an operation doesn't store, move or remove keeps its struct, and not only its bytes.
 pub fn other_files_keep_their_structs()
     ensures committed { (disk : Disk) → KeepsStructs disk (root_with_file (codes "a") []) (writer_session (codes "a" ∷ []) true (codes "hi")) (ops.Sync 0) (root_with_file (codes "a") (codes "hi")) }
     ensures changed { (disk : Disk) → KeepsStructs disk (root_with_file (codes "a") []) (mounted_session empty_tree) (ops.Mkdir (codes "/d")) (root_with_file (codes "a") (codes "hi")) → ⊥ }

@@ -1,4 +1,4 @@
-// What a tree of files is made from.
+// Sources, from which trees of files are made.
 
 ghost use Rattle.std.specs.Prelude.{◌≡◌, [], ◌∷◌, map, Some, None, codes};
 ghost use Rattle.lfs_model.specs.tree.Tree.{FileNode, DirectoryNode};
@@ -7,7 +7,7 @@ ghost use Rattle.lfs_model.specs.layers.Source.{HaveBadOrRepeated, AFile, AFolde
 ghost use Rattle.lfs_model.specs.examples.Sources.{file_source, endless_source};
 ghost use Rattle.lfs_model.specs.examples.Images.{tree_of_nodes};
 
-/// A source makes the tree that has what its folders name, and no other.
+/// The tree of a source has exactly the files and folders that the source's folders list.
 pub fn tree_mirrors_source_folders()
     ensures one { IsSourceTree file_source (tree_of_nodes (([], DirectoryNode [] (codes "a" ∷ [])) ∷ (codes "a" ∷ [], FileNode [] (codes "hello")) ∷ [])) }
     ensures not_empty { IsSourceTree file_source empty_tree → ⊥ }
@@ -15,7 +15,7 @@ pub fn tree_mirrors_source_folders()
         ≡ Some (AFolder (codes "d" ∷ codes "a" ∷ [])) ∷ Some (AFile (codes "/d/a")) ∷ None ∷ None ∷ [] }
 {}
 
-/// Names that a folder may not give.
+/// A folder of a source may not list a bad name, such as one with a slash, or the same name twice.
 pub fn bad_source_names_are_found()
     ensures slash { HaveBadOrRepeated (codes "a" ∷ codes "a/b" ∷ []) }
     ensures twice { HaveBadOrRepeated (codes "a" ∷ codes "b" ∷ codes "a" ∷ []) }

@@ -1,4 +1,4 @@
-// Operations step by step, with the disk's bytes: a file is written, synced, closed, renamed and removed.
+// The disk's bytes after each step as a file is written, synced, closed, renamed and removed.
 
 ghost use Rattle.std.specs.Prelude.{List, [], ◌∷◌, codes};
 ghost use Rattle.lfs_model.specs.format.Disk.{Disk};
@@ -12,13 +12,15 @@ ghost use Rattle.lfs_model.specs.examples.Sessions.{write_flags};
 ghost use Rattle.lfs_model.specs.examples.Runs.{blockless_disk, image_after_open, state_after_open, root_with_file, root_and_unreached, repeated_reads};
 ghost use Rattle.lfs_model.specs.examples.Written.{image_after_sync, image_after_rename, programming, renamed_commit, root_and_empty, opened_session, synced_session, closed_session, renamed_session, removed_session, state_after_write, state_after_sync, state_after_close, state_after_reopen, state_after_rename, state_after_remove};
 
-/// Two bytes are written. They are in memory, and the disk shows the file as before, without a call.
+/// After a write of two bytes, the bytes are only in memory. The write makes no device call and
+/// leaves the disk unchanged.
 pub fn written_bytes_are_not_shown()
     ensures turn { IsStep state_after_open (ops.Write 0 (codes "hi")) (ops.Count 2) state_after_write }
     ensures not_shown { IsStep state_after_open (ops.Write 0 (codes "hi")) (ops.Count 2) (record state_after_write { disk = image_after_sync; calls = state_after_sync.calls }) → ⊥ }
 {}
 
-/// A sync commits them, by one program. Where power is lost in it, the file has its old bytes or the new ones. The close after it makes no call.
+/// A sync commits the written bytes by a single program. After a power loss in the sync, the file
+/// has its old bytes or its new ones. A close after the sync makes no device call.
 pub fn sync_commits_written_bytes()
     ensures turn { IsStep state_after_write (ops.Sync 0) ops.Done state_after_sync }
     ensures not_uncommitted { IsStep state_after_write (ops.Sync 0) ops.Done (record state_after_write { state = Healthy synced_session }) → ⊥ }
@@ -27,7 +29,7 @@ pub fn sync_commits_written_bytes()
     ensures closed { IsStep state_after_sync (ops.Close 0) ops.Done state_after_close }
 {}
 
-/// A rename commits the file under its new name, and a remove takes it away.
+/// A rename commits the file under its new name, and a remove deletes the file.
 pub fn file_is_renamed_and_removed()
     ensures renamed { IsStep state_after_close (ops.Rename (codes "/b") (codes "/c")) ops.Done state_after_rename }
     ensures not_kept { IsStep state_after_close (ops.Rename (codes "/b") (codes "/c")) ops.Done (record state_after_close { state = Healthy renamed_session }) → ⊥ }
@@ -35,15 +37,17 @@ pub fn file_is_renamed_and_removed()
     ensures not_left { IsStep state_after_rename (ops.Remove (codes "/c")) ops.Done (record state_after_rename { state = Healthy removed_session }) → ⊥ }
 {}
 
-/// Where an operation has nothing to do on the disk: a file is there already, a rename is to itself, nothing is left to recover.
+/// The disk stays unchanged if an existing file is opened, a file is renamed to itself, or nothing
+/// is left to recover.
 pub fn disk_is_left_where_nothing_is_to_do()
     ensures opened { IsStep state_after_close (ops.Open (codes "/b") write_flags) (ops.Opened 0) state_after_reopen }
     ensures itself { IsStep state_after_close (ops.Rename (codes "/b") (codes "/b")) ops.Done state_after_close }
     ensures recovered { IsStep state_after_close ops.Recover ops.Done state_after_close }
 {}
 
-/// What operations may not do: a question, or an open of a file that is there, changes the disk; a rename to itself, or a recovery
-/// of nothing, programs; a sync of a clean file reads.
+/// A query, or an open of an existing file, may not change the disk. A rename of a file to itself
+/// may not program, nor may a recovery with nothing to recover. A sync of a clean file may not even
+/// read.
 pub fn disk_isnt_changed_where_nothing_is_to_do()
     ensures asks { (calls : List CallEvent) (qs : List Pair) → IsDiskEffect image_after_sync (root_with_file (codes "b") (codes "hi")) closed_session (ops.Stat (codes "/b")) calls image_after_rename qs → ⊥ }
     ensures opens { (calls : List CallEvent) (qs : List Pair) → IsDiskEffect image_after_sync (root_with_file (codes "b") (codes "hi")) closed_session (ops.Open (codes "/b") write_flags) calls image_after_rename qs → ⊥ }
@@ -54,7 +58,8 @@ pub fn disk_isnt_changed_where_nothing_is_to_do()
     ensures silent { (qs : List Pair) → IsDiskEffect image_after_sync (root_with_file (codes "b") (codes "hi")) synced_session (ops.Sync 0) (repeated_reads 1) image_after_sync qs → ⊥ }
 {}
 
-/// What operations may not do: a write shows its bytes, a mkdir or a question leaves something to recover, or an empty pair.
+/// A write may not make its bytes visible on the disk. A mkdir or a query may not leave anything to
+/// recover, and a query may not leave an empty pair.
 pub fn disk_isnt_left_outside_profile()
     ensures fills { (calls : List CallEvent) → IsDiskEffect image_after_open (root_with_file (codes "b") []) opened_session (ops.Write 0 (codes "hi")) calls image_after_sync (root_with_file (codes "b") (codes "hi")) → ⊥ }
     ensures recovered { (calls : List CallEvent) (new : Disk) → IsDiskEffect image_after_sync (root_with_file (codes "b") (codes "hi")) closed_session (ops.Mkdir (codes "/d")) calls new root_and_unreached → ⊥ }

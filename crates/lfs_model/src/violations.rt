@@ -1,4 +1,4 @@
-// Which rule of littlefs an image breaks.
+// The rules of littlefs that an image may break.
 
 ghost use Rattle.std.specs.Prelude.{List};
 ghost use Rattle.lfs_model.specs.format.Content.{content_at};
@@ -7,61 +7,62 @@ ghost use Rattle.lfs_model.specs.format.Thread.{Pair, IsThread};
 ghost use Rattle.lfs_model.specs.tree.View.{IsAccepted};
 ghost use Rattle.lfs_model.specs.layers.Violations.{Breaks, PairsBreak, BreaksThread};
 
-/// A rule that an image breaks, and where (SPEC.md and DESIGN.md of littlefs). A pair is known by its
-/// address, as the thread names it, and a slot by its number in its pair.
+/// A rule of littlefs's SPEC.md or DESIGN.md that an image breaks, and where. `pair` is the address
+/// of a metadata pair in the threaded linked-list, and `slot` is the index of a slot in that pair.
 #[derive(Clone, Copy, Debug, PartialEq, Eq)]
 pub enum Violation {
-    // ---- the thread
-    /// The thread names a pair with a block that the device doesn't have.
+    // ---- the thread: the threaded linked-list of all metadata pairs
+    /// A tail points to a pair with a block that the device doesn't have.
     OutOfRange {
         pair: [u32; 2],
     },
-    /// The thread names a pair of one block.
+    /// A tail points to a pair whose two blocks are the same.
     OneBlock {
         pair: [u32; 2],
     },
-    /// A block of the pair belongs to a pair before it in the thread.
+    /// A block of the pair already belongs to an earlier pair of the threaded linked-list.
     TwoPairs {
         pair: [u32; 2],
         block: u32,
     },
-    /// Neither block of the pair holds a content: a commit with a right checksum, entries that are
-    /// allowed, and a name and a struct for each slot.
+    /// The pair has no valid contents. Valid contents have a commit with a correct checksum, only
+    /// allowed entries, and a name and a struct for each slot.
     NoContent {
         pair: [u32; 2],
     },
 
     // ---- the superblock
-    /// The root directory doesn't begin with a superblock.
+    /// The first slot of the root directory isn't a superblock.
     NoSuperblock,
-    /// The pair is the first one that has a slot, and its log doesn't begin with the superblock's name.
+    /// The log of the first pair that has a slot doesn't begin with the superblock's name entry.
     FirstEntry {
         pair: [u32; 2],
     },
-    /// The pair is the first one that has a slot, and slot 0 is no superblock of an accepted version with
-    /// the device's sizes.
+    /// Slot 0 of the first pair that has a slot isn't a superblock with an accepted version and the
+    /// device's sizes.
     Superblock {
         pair: [u32; 2],
     },
-    /// The pair is of the superblock's chain, and its superblock differs from the first one in more than
-    /// an accepted version.
+    /// The superblock of the pair differs from the first superblock of the chain in more than the
+    /// version, or has a version that isn't accepted.
     OtherSuperblock {
         pair: [u32; 2],
     },
 
     // ---- slots
-    /// The slot is no file and no directory: by its name, or since name and struct don't match.
+    /// The slot is neither a valid file nor a valid directory: its name is bad, or its struct
+    /// doesn't match the type of its name.
     Entry {
         pair: [u32; 2],
         slot: u32,
     },
 
     // ---- directories
-    /// A path leads to the directory that begins with the pair, and its names don't rise.
+    /// The names of the reachable directory that begins with the pair aren't in ascending order.
     Names {
         pair: [u32; 2],
     },
-    /// A path leads to the directory that begins with the pair, and from there to a pair with which no
+    /// An entry of the reachable directory that begins with the pair points to a pair with which no
     /// directory begins.
     Branch {
         pair: [u32; 2],
@@ -70,22 +71,24 @@ pub enum Violation {
     TwoPaths {
         pair: [u32; 2],
     },
-    /// No path leads to the directory that begins with the pair, and the sync bit is clear.
+    /// No path leads to the directory that begins with the pair, although the global state's sync
+    /// bit is clear.
     NoPath {
         pair: [u32; 2],
     },
 
     // ---- the global state
-    /// A move is set that names no entry, or something else than a move.
+    /// The global state has a move that refers to no entry, or something other than a move.
     Move,
 
     // ---- the lists of files
-    /// The slot's list has a wrong size, block or pointer.
+    /// The slot's CTZ skip-list has a wrong size, block address or pointer.
     List {
         pair: [u32; 2],
         slot: u32,
     },
-    /// The block is in the slot's list, and it is used a second time: by a pair, or in a list.
+    /// The block belongs to the slot's CTZ skip-list, and is used a second time by a metadata pair
+    /// or a list.
     TwoOwners {
         pair: [u32; 2],
         slot: u32,
@@ -93,7 +96,8 @@ pub enum Violation {
     },
 }
 
-/// Where a disk breaks a rule, its image isn't accepted. Where it breaks a rule of the thread, it has no thread.
+/// A disk that breaks a rule isn't accepted. A disk that breaks a rule about its threaded
+/// linked-list has no valid threaded linked-list.
 pub fn violation_refuses_image()
     ensures image { (disk : Disk) (v : Violation) (ps : List Pair) → Breaks disk v → ¬ IsAccepted disk ps }
     ensures pairs { (disk : Disk) (v : Violation) (ps : List Pair) → PairsBreak disk ps v → ¬ IsAccepted disk ps }

@@ -1,4 +1,5 @@
--- How an error ends an operation without a reply. The device failed, memory was wanting, or a remount found no accepted disk.
+-- Operations that an error ends without a reply: the device had a fault, memory ran out, or a
+-- remount found no accepted disk.
 use Rattle.std.specs.Prelude.{◌≡◌, true, false, List, [], ◌++◌}
 use Rattle.lfs_model.specs.format.Disk.{SameGeometry}
 use Rattle.lfs_model.specs.format.Thread.{Pair}
@@ -10,9 +11,9 @@ use Rattle.lfs_model.specs.session.Session.{Session}
 use Rattle.lfs_model.specs.session.State.{HasFailed, Healthy, is_remount}
 use Rattle.lfs_model.specs.session.Run.{SystemState, is_read_only, renames_itself, IsUntouched}
 
--- The session fails in an operation. A query, a rename to itself and a remount write nothing. Nor does any operation on an image
--- outside the writing profile. Each call of a remount read, and found and left the disk's blocks. A session that had failed makes
--- no call but for a remount.
+-- The session failed in the operation. A query, a rename of a path to itself and a remount write
+-- nothing, and neither does any operation on an image outside the writing profile. A remount only
+-- reads. A session that had failed before makes no calls except for a remount.
 pub record OperationFails (from : SystemState) (op : Operation) (to : SystemState) : Type 0 where
   pub failed : to.state ≡ HasFailed
   pub geometry : SameGeometry from.disk to.disk

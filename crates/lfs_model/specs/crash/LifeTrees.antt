@@ -1,4 +1,4 @@
--- Which tree a loss of power in a life leaves, by what the turns define, and which session may lose power.
+-- The trees that a power loss in a life may leave, and the sessions that meet the premises for it.
 use Rattle.std.specs.Prelude.{◌≡◌, ◌⊎◌, List, [], ◌∷◌}
 use Rattle.lfs_model.specs.format.Disk.{Disk, ordered_disk}
 use Rattle.lfs_model.specs.declared.order.NameOrder.{NameOrder}
@@ -11,18 +11,19 @@ use Rattle.lfs_model.specs.crash.Lives.{Turn}
 use Rattle.lfs_model.specs.crash.LifeHeadline.{session_after_turn}
 use Rattle.lfs_model.specs.crash.RepeatedPowerLoss.{IsMounted, SameBytes, KeepsTree}
 
--- a session with its disk's tree, on an image that may be written
+-- The session has its disk's tree, and the disk is in the writing profile.
 pub record MayLosePower (at : SystemState) : Type 0 where
   pub agrees : HasDiskTree at
   pub profile : IsWritableDisk at.disk
 
--- the tree is one of those that a session has in its life: the first one, or the one after a turn
+-- The session has this tree at the beginning of its life, or after one of its turns.
 abbrev pub IsTreeOfLife : DiskSummary → Session → List Turn → Tree → Type 0
 IsTreeOfLife around s [] tree = tree ≡ s.tree
 IsTreeOfLife around s (turn ∷ turns) tree = (tree ≡ s.tree) ⊎ IsTreeOfLife around (session_after_turn around s turn) turns tree
 
--- A session can mount the disk, with its names in that order. It has that tree, which has P, and which a recovery keeps. Whichever
--- session mounts the disk has that tree and may write. So it begins a life that meets the premises again, if its device does.
+-- A session can mount the disk with its names in the order `order`. It then has the tree `tree`,
+-- which has the property `P`, and which a recovery keeps. Every session that mounts the disk has
+-- its disk's tree, and the disk is in the writing profile, so the premises of another life hold.
 pub record StartsSafely (P : Tree → Type 0) (left : Disk) : Type 0 where
   pub order : NameOrder
   pub tree : Tree
@@ -30,6 +31,6 @@ pub record StartsSafely (P : Tree → Type 0) (left : Disk) : Type 0 where
   pub safe : KeepsTree tree (ordered_disk order left)
   pub may : (begin : SystemState) → SameBytes left begin.disk → IsMounted begin.disk begin → MayLosePower begin
 
--- the next start has a tree of the life
+-- After the power loss, a session can mount the disk with a tree of the life.
 abbrev pub LeavesTreeOfLife : DiskSummary → Session → List Turn → Disk → Type 0
 LeavesTreeOfLife around s turns left = StartsSafely (IsTreeOfLife around s turns) left

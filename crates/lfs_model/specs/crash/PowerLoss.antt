@@ -1,4 +1,4 @@
--- What a loss of power at any time in an operation leaves.
+-- The disk that a power loss at any time during an operation leaves.
 use Rattle.std.specs.Prelude.{◌≡◌, ◌⊎◌, true, List}
 use Rattle.lfs_model.specs.format.Blocks.{Blocks}
 use Rattle.lfs_model.specs.format.Disk.{Disk}
@@ -17,41 +17,46 @@ use Rattle.lfs_model.specs.crash.Stops.{LeftByLoss, ErasesCleanly}
 
 -- ---- the disk that is left
 
--- an accepted disk in the writing profile, with the tree from before an operation or the one from after it
+-- The disk is accepted and in the writing profile, and has the tree `before` or the tree `after`.
 pub record HasEitherTree (disk : Disk) (before after : Tree) : Type 0 where
   pub pairs : List Pair
   pub accepted : IsAccepted disk pairs
   pub writable : IsWritable disk pairs
   pub tree : (disk_tree disk pairs ≡ before) ⊎ (disk_tree disk pairs ≡ after)
 
+-- The disk with other blocks.
 abbrev pub with_blocks : Blocks → Disk → Disk
 with_blocks blocks disk = record disk { blocks = blocks }
 
--- Each erase leaves no log, or one with the revision that was there. Then a stop at any time since the old history leaves such a disk.
+-- If every erase since the history `old` leaves no log, or one with the old revision count, then a
+-- power loss at any time since leaves a disk with the tree `before` or `after`.
 abbrev pub SurvivesLossSince : Disk → List CallEvent → List CallEvent → Tree → Tree → Type 0
 SurvivesLossSince disk old new before after =
     AllCallsSince ErasesCleanly old new → HoldsAtLosses LeftByLoss old new (λ blocks. HasEitherTree (with_blocks blocks disk) before after)
 
--- a call that failed left what a stop in it may leave
+-- If the call failed, it left a disk that a power loss in it might have left.
 abbrev pub FailsLikeLoss : CallEvent → Type 0
 FailsLikeLoss e = e.failed ≡ true → LeftByLoss e e.after
 
 -- ---- an operation
 
--- a healthy session over a disk in the writing profile
+-- The session is healthy, and its disk is accepted, with the pairs `ps`, and in the writing
+-- profile.
 pub record IsHealthySession (at : SystemState) (s : Session) (ps : List Pair) (around : DiskSummary) : Type 0 where
   pub healthy : at.state ≡ Healthy s
   pub accepted : IsAccepted at.disk ps
   pub writable : IsWritable at.disk ps
   pub surrounds : IsSummary at.disk ps around
 
--- wherever a session at work stops in the operation, the disk left has the tree from before it or from after it
+-- A power loss in any call of the operation, if the session was healthy, leaves a disk with the
+-- tree from before the operation or the one from after it.
 abbrev pub SurvivesStoppedCalls : SystemState → Operation → SystemState → Type 0
 SurvivesStoppedCalls from op to =
     (s : Session) (ps : List Pair) (around : DiskSummary) → IsHealthySession from s ps around
     → SurvivesLossSince from.disk from.calls to.calls s.tree (operation_result around s op).1.tree
 
--- A stop in the operation leaves the old tree or the new one. So does the operation's end, also where it is an error.
+-- A power loss in the operation leaves the old tree or the new one. So does the operation itself,
+-- even if it ends with an error.
 pub record SurvivesPowerLoss (from : SystemState) (op : Operation) (to : SystemState) : Type 0 where
   pub stops : SurvivesStoppedCalls from op to
   pub stands : (s : Session) (ps : List Pair) (around : DiskSummary) → IsHealthySession from s ps around

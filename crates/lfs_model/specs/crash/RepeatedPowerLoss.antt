@@ -1,4 +1,4 @@
--- Losses of power in a life of a session, any number of them one after another.
+-- Any number of power losses, one after another, in the lives of sessions.
 use Rattle.std.specs.Prelude.{◌≡◌, ◌⊎◌, false, List, [], ◌∷◌, ◌++◌, Some, All, Any}
 use Rattle.lfs_model.specs.format.Blocks.{Blocks}
 use Rattle.lfs_model.specs.format.Disk.{Disk, ordered_disk}
@@ -23,18 +23,18 @@ use Rattle.lfs_model.specs.crash.PowerLoss.{with_blocks, FailsLikeLoss, IsHealth
 
 -- ---- a mount and a recovery
 
--- a session just mounted from the disk
+-- A session was just mounted from the disk.
 pub record IsMounted (disk : Disk) (begin : SystemState) : Type 0 where
   pub on : begin.disk ≡ disk
   pub tree : Tree
   pub shows : ShowsTree disk (Some tree)
   pub healthy : begin.state ≡ Healthy (mounted_session tree)
 
--- both disks have the same bytes; a mount may take the other order of names
+-- Both disks have the same bytes. Their orders of names may differ, since a mount may find either.
 abbrev pub SameBytes : Disk → Disk → Type 0
 SameBytes disk other = other ≡ record disk { order = other.order }
 
--- A recovery was done: the disk has that tree, and nothing is left to recover.
+-- A recovery succeeded: the disk has the tree `tree`, and nothing is left to recover.
 pub record RecoversTree (tree : Tree) (reply : Reply) (disk : Disk) : Type 0 where
   pub done : reply ≡ ops.Done
   pub pairs : List Pair
@@ -43,7 +43,8 @@ pub record RecoversTree (tree : Tree) (reply : Reply) (disk : Disk) : Type 0 whe
   pub recovered : IsRecovered pairs
   pub kept : disk_tree disk pairs ≡ tree
 
--- The disk is accepted and in the writing profile, and has that tree. A session that mounts it has the tree, and a recovery keeps it.
+-- The disk is accepted and in the writing profile, and has the tree `tree`. A session that mounts
+-- it has that tree, and a recovery keeps it.
 pub record KeepsTree (tree : Tree) (disk : Disk) : Type 0 where
   pub pairs : List Pair
   pub accepted : IsAccepted disk pairs
@@ -53,23 +54,24 @@ pub record KeepsTree (tree : Tree) (disk : Disk) : Type 0 where
   pub recovers : (other : Disk) (begin to : SystemState) (reply : Reply) → SameBytes disk other → IsMounted other begin → IsTreeStep begin ops.Recover reply to
       → RecoversTree tree reply to.disk
 
--- ---- a stop
+-- ---- a power loss
 
--- a stop in one of the calls since the old history left these blocks
+-- A power loss in one of the calls since the history `old` may leave `blocks`.
 pub record LeftInCall (old new : List CallEvent) (blocks : Blocks) : Type 0 where
   pub events : List CallEvent
   pub extends : new ≡ events ++ old
   pub stopped : Any (λ e. LeftByLoss e blocks) events
 
--- Power was lost before the first call between these states, or in one of the calls, or after the last one. After the last one,
--- each call that failed left what a stop in it may leave.
+-- Power was lost before the first call between these states, during one of the calls, or after the
+-- last one. In the last case, each failed call left a disk that a power loss in it might have left.
 abbrev pub LeftBetween : SystemState → SystemState → Disk → Type 0
 LeftBetween from to left =
     (left ≡ from.disk)
     ⊎ (((blocks : Blocks) × ((left ≡ with_blocks blocks from.disk) × LeftInCall from.calls to.calls blocks))
     ⊎ ((left ≡ to.disk) × AllCallsSince FailsLikeLoss from.calls to.calls))
 
--- Power was lost in this operation. The tree is the one from before the operation, or the one from after it.
+-- Power was lost in this operation of a healthy session. The tree is the one from before the
+-- operation or the one from after it.
 pub record LossInOperation (from : SystemState) (op : Operation) (next : SystemState) (left : Disk) (tree : Tree) : Type 0 where
   pub stop : LeftBetween from next left
   pub session : Session
@@ -78,7 +80,7 @@ pub record LossInOperation (from : SystemState) (op : Operation) (next : SystemS
   pub work : IsHealthySession from session pairs around
   pub either : (tree ≡ session.tree) ⊎ (tree ≡ (operation_result around session op).1.tree)
 
--- Power was lost in one of these turns of a life, whose session worked before it.
+-- Power was lost in one of the turns of a life, before which the session was healthy.
 pub record LossInTurn (from : SystemState) (turns : List Turn) (left : Disk) (tree : Tree) : Type 0 where
   pub done : List Turn
   pub cut : Turn
@@ -96,14 +98,15 @@ pub record LossAfterLife (at : SystemState) (left : Disk) (tree : Tree) : Type 0
   pub healthy : at.state ≡ Healthy session
   pub is : tree ≡ session.tree
 
--- in one of the turns, or after them
+-- Power was lost in one of the turns or after all of them.
 abbrev pub LossInLife : SystemState → List Turn → SystemState → Disk → Tree → Type 0
 LossInLife from turns to left tree = LossInTurn from turns left tree ⊎ LossAfterLife to left tree
 
--- ---- a loss of power in a life
+-- ---- a power loss in a life
 
--- The disk that was left has the tree from before the turn that was cut, or from after it. A mount and a recovery keep that tree.
--- The names are in the order that the session had there, which only a remount finds anew.
+-- The disk left by the power loss has the tree from before or from after the turn that was cut
+-- short. A mount and a recovery keep that tree. Its order of names is the session's, which only a
+-- remount can change.
 pub record SurvivesLossInLife (from : SystemState) (turns : List Turn) (to : SystemState) (left : Disk) : Type 0 where
   pub order : NameOrder
   pub stays : All (λ turn. is_remount turn.op ≡ false) turns → order ≡ left.order
@@ -111,7 +114,8 @@ pub record SurvivesLossInLife (from : SystemState) (turns : List Turn) (to : Sys
   pub cut : LossInLife from turns to (ordered_disk order left) tree
   pub safe : KeepsTree tree (ordered_disk order left)
 
--- A session mounts the disk and lives, by a recovery for example. Power is lost then, and another disk is left.
+-- A session mounts the disk and has a life, for example a recovery. Then power is lost, which
+-- leaves the disk `left`.
 pub record LeftByLife (disk left : Disk) : Type 0 where
   pub begin : SystemState
   pub same : SameBytes disk begin.disk
@@ -123,24 +127,25 @@ pub record LeftByLife (disk left : Disk) : Type 0 where
   pub cleanly : AllCallsSince ErasesCleanly begin.calls to.calls
   pub stop : LeftBetween begin to left
 
--- power is lost on the disk, then on the one that was left, and so on
+-- Power is lost in a life on the disk, then in one on the disk left by that loss, and so on.
 abbrev pub LeftByLosses : Disk → List Disk → Type 0
 LeftByLosses disk [] = Unit {0}
 LeftByLosses disk (left ∷ others) = LeftByLife disk left × LeftByLosses left others
 
--- and each time it is survived
+-- Each of these power losses is survived.
 abbrev pub SurvivesLosses : (disk : Disk) (lefts : List Disk) → LeftByLosses disk lefts → Type 0
 SurvivesLosses disk [] losses = Unit {0}
 SurvivesLosses disk (left ∷ others) losses = SurvivesLossInLife losses.0.begin losses.0.turns losses.0.to left × SurvivesLosses left others losses.1
 
--- a session with its disk's tree, on an image in the writing profile, whose erases leave no log, or one with the revision that was there
+-- The session has its disk's tree, the disk is in the writing profile, and every erase of the run
+-- leaves no log, or one with the old revision count.
 pub record MeetsRunPremises (from to : SystemState) : Type 0 where
   pub agrees : HasDiskTree from
   pub profile : IsWritableDisk from.disk
   pub cleanly : AllCallsSince ErasesCleanly from.calls to.calls
 
--- The turns are a life between these states. Wherever power is lost in it, it is survived, in the turn that was cut. So is any
--- number of losses after it, also in the recovery.
+-- The turns are a life between these states. A power loss at any time in it is survived. So is any
+-- number of later power losses, including those during recovery.
 pub record CrashSafe (from : SystemState) (turns : List Turn) (to : SystemState) : Type 0 where
   pub lived : IsLife from turns to
   pub once : (left : Disk) → LeftBetween from to left → SurvivesLossInLife from turns to left

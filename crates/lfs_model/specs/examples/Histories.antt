@@ -1,4 +1,5 @@
--- A device of two blocks of four bytes, and its calls: block 0 is erased, two bytes of it are programmed, and a read fails.
+-- A device with two blocks of four bytes, and its calls: block 0 is erased, two bytes of it are
+-- programmed, and a read fails.
 use Rattle.std.specs.Prelude.{true, false, List, [], ◌∷◌, replicate}
 use Rattle.lfs_model.specs.format.Blocks.{Blocks}
 use Rattle.lfs_model.specs.session.History.{CallEvent, Read, Program, Erase, Blank, call_event}
@@ -21,7 +22,7 @@ program_event = call_event (Program 0 0 (9 ∷ 9 ∷ [])) example_after_erase ex
 abbrev pub failed_read : CallEvent
 failed_read = call_event (Read 1 0 2) example_after_program example_after_program true
 
--- after the erase, after the program, and after the read
+-- The histories after the erase, after the program, and after the read.
 abbrev pub after_erase : List CallEvent
 after_erase = erase_event ∷ []
 
@@ -31,15 +32,16 @@ after_program = program_event ∷ erase_event ∷ []
 abbrev pub after_read : List CallEvent
 after_read = failed_read ∷ program_event ∷ erase_event ∷ []
 
--- the device says that the end of block 1 is blank
+-- The device says that the last two bytes of block 1 are blank.
 abbrev pub blank_event : CallEvent
 blank_event = call_event (Blank 1 2 2) example_after_program example_after_program false
 
--- the same where the device failed
+-- A blank check that fails.
 abbrev pub failed_blank : CallEvent
 failed_blank = call_event (Blank 1 2 2) example_after_program example_after_program true
 
--- calls that don't conform: a program that left nothing, and an erase of another block
+-- Calls that don't conform: a program that changes nothing, and an erase that changes another
+-- block.
 abbrev pub lost_program : CallEvent
 lost_program = call_event (Program 0 0 (9 ∷ 9 ∷ [])) example_after_erase example_after_erase false
 

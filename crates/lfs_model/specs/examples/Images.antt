@@ -1,4 +1,4 @@
--- Images in bytes.
+-- Images as bytes.
 use Rattle.std.specs.Prelude.{ℕ, ◌-◌, List, [], ◌∷◌, ◌++◌, length, take, drop, find, replicate, slice_index, slice_set, bit_xor, ◌/◌, ◌%◌, ◌^◌, ◌+◌, Some, None, codes}
 use Rattle.std.specs.List.{flat_map}
 use Rattle.std.specs.Option.{option_map}
@@ -22,14 +22,15 @@ use Rattle.lfs_model.specs.format.Names.{Name}
 use Rattle.lfs_model.specs.tree.Fresh.{superblock_bytes}
 use Rattle.lfs_model.specs.layers.BlockBytes.{unwritten_bytes, block_padded, superblock_entries, checksum_entry, metadata_bytes}
 
--- the tree with these nodes and no others
+-- The tree with these nodes and no others.
 abbrev pub tree_of_nodes : List (Path × Node) → Tree
 tree_of_nodes nodes path = option_map (λ n. n.1) (find (λ n. same_path path n.0) nodes)
 
+-- The view of a disk with these nodes, this global state and these used blocks.
 abbrev pub nodes_view : List (Path × Node) → Gstate → List ℕ → DiskView
 nodes_view nodes gstate used = record { tree = tree_of_nodes nodes; gstate = gstate; used = used }
 
--- file `a` with `hello`, and directory `d` with an empty file `x`
+-- A file `a` with the contents `hello`, and a directory `d` with an empty file `x`.
 abbrev pub small_nodes : List (Path × Node)
 small_nodes =
     ([], DirectoryNode [] (codes "a" ∷ codes "d" ∷ []))
@@ -38,17 +39,17 @@ small_nodes =
     ∷ (codes "d" ∷ codes "x" ∷ [], FileNode [] [])
     ∷ []
 
--- No pairs make the disk an accepted image.
+-- The disk isn't accepted, with any pairs.
 abbrev pub IsNotAccepted : Disk → Type 0
 IsNotAccepted disk = (ps : List Pair) → IsAccepted disk ps → ⊥
 
--- The disk may not be written, if it is an accepted image.
+-- The disk isn't accepted, or isn't in the writing profile.
 abbrev pub IsNotWritable : Disk → Type 0
 IsNotWritable disk = (ps : List Pair) → IsAccepted disk ps → IsWritable disk ps → ⊥
 
 -- ---- fresh images
 
--- two blocks of 1,024 bytes with pages of 128
+-- The first commit of a fresh disk with two blocks of 1,024 bytes and pages of 128 bytes.
 abbrev pub small_commit : List ℕ
 small_commit =
     0x01 ∷ 0x00 ∷ 0x00 ∷ 0x00 ∷  -- revision 1
@@ -64,16 +65,18 @@ small_commit =
     0x1c ∷ 0x06 ∷ 0xb9 ∷ 0x35 ∷  -- the checksum
     unwritten_bytes 76  -- padding to the page
 
+-- A disk with two blocks of 1,024 bytes. The first one is `block`, and the other was never written.
 abbrev pub small_disk_with : List ℕ → Disk
 small_disk_with block = record { block_size = 1024; page = 128; order = ShorterFirst; profile = default_profile; blocks = block ∷ unwritten_bytes 1024 ∷ [] }
 
 abbrev pub small_block : List ℕ
 small_block = block_padded 1024 small_commit
 
+-- The fresh disk with two blocks.
 abbrev pub small_image : Disk
 small_image = small_disk_with small_block
 
--- 16 blocks of 4,096 bytes with pages of 256
+-- The first commit of a fresh disk with 16 blocks of 4,096 bytes and pages of 256 bytes.
 abbrev pub large_commit : List ℕ
 large_commit =
     0x01 ∷ 0x00 ∷ 0x00 ∷ 0x00 ∷  -- revision 1
@@ -89,14 +92,16 @@ large_commit =
     0x4a ∷ 0x7f ∷ 0x27 ∷ 0xf3 ∷  -- the checksum
     unwritten_bytes 204  -- padding to the page
 
--- a disk of 16 blocks of 4,096 bytes that begins with these blocks
+-- A disk with 16 blocks of 4,096 bytes. `blocks` are the first ones, and the others were never
+-- written.
 abbrev pub large_disk_with : Blocks → Disk
 large_disk_with blocks = record { block_size = 4096; page = 256; order = ShorterFirst; profile = default_profile; blocks = blocks ++ replicate (16 - length blocks) (unwritten_bytes 4096) }
 
+-- The fresh disk with 16 blocks.
 abbrev pub large_image : Disk
 large_image = large_disk_with (block_padded 4096 large_commit ∷ [])
 
--- a file "b" has been appended to the small image
+-- A commit that adds an empty file `b` to the small image.
 abbrev pub appending_commit : List ℕ
 appending_commit =
     0x10 ∷ 0x1f ∷ 0xf8 ∷ 0x50 ∷  -- 0x40100400 XOR 0x500ffc50: create id 1
@@ -108,19 +113,21 @@ appending_commit =
 abbrev pub two_commit_block : List ℕ
 two_commit_block = block_padded 1024 (small_commit ++ appending_commit)
 
+-- The fresh disk with two blocks, after a file `b` was added.
 abbrev pub two_commit_image : Disk
 two_commit_image = small_disk_with two_commit_block
 
--- the small image's only commit with revision 2, and the checksum of that
+-- The block of the small image, but with revision count 2 and a matching checksum.
 abbrev pub later_block : List ℕ
 later_block = block_padded 1024 (2 ∷ take 47 (drop 1 small_commit) ++ 0x78 ∷ 0x33 ∷ 0x6b ∷ 0x73 ∷ [])
 
--- bit k of the checksum is inverted
+-- The block of the small image, with bit `k` of its checksum inverted.
 abbrev pub bad_checksum_block : ℕ → List ℕ
 bad_checksum_block k = slice_set small_block (48 + k / 8) (bit_xor (slice_index small_block (48 + k / 8)) (2 ^ (k % 8)))
 
--- ---- slots that shift: "b" comes, "a" comes before it and goes again, and "b" gets an attribute
+-- ---- slots that shift: `b` and then `a` are added, `a` is deleted, `b` changes
 
+-- Four commits that add `b`, add `a` before it, delete `a`, and set an attribute of `b`.
 abbrev pub shifting_commits : List ℕ
 shifting_commits =
     0x10 ∷ 0x1f ∷ 0xf8 ∷ 0xd0 ∷  -- 0x40100400 XOR 0x500ffcd0: create id 1
@@ -146,16 +153,19 @@ shifted_slot_block = block_padded 4096 (large_commit ++ shifting_commits)
 abbrev pub shifted_slot_image : Disk
 shifted_slot_image = large_disk_with (shifted_slot_block ∷ [])
 
+-- The slot of an empty file, as a log has it.
 abbrev pub raw_empty_file : Name → RawSlot
 raw_empty_file name = record { name = Some (file_name_type, name); struct = Some (inline_type, []); attributes = [] }
 
+-- The slot of the superblock, as a log has it.
 abbrev pub raw_superblock : RawSlot
 raw_superblock = record { name = Some (superblock_name_type, codes "littlefs"); struct = Some (inline_type, superblock_bytes default_profile 4096 16); attributes = [] }
 
+-- The content of a pair with these slots, no tail and no delta of the global state.
 abbrev pub slots_content : List RawSlot → RawContent
 slots_content slots = record { slots = slots; tail = None; move = zero_gstate }
 
--- the same, as changes
+-- The changes that `shifting_commits` make.
 abbrev pub shifting_changes : List ContentChange
 shifting_changes =
     Create 1 file_name_type (codes "b") ∷ PutStruct 1 inline_type []
@@ -164,7 +174,7 @@ shifting_changes =
     ∷ PutAttribute 1 0x41 (codes "x")
     ∷ []
 
--- ---- a file comes, over storage whose erased bytes are zero: the tag behind such a checksum has the top bit turned
+-- ---- a file is added over zeros: the tag after the checksum has its top bit inverted
 
 abbrev pub block_over_zeros : List ℕ
 block_over_zeros =
@@ -183,39 +193,41 @@ image_over_zeros = record { block_size = 4096; page = 256; order = ShorterFirst;
 
 -- ---- other images of 16 blocks, by their entries
 
--- a block of the root: the superblock, these entries, the checksum and its padding
+-- A block of the root's pair: the superblock, these entries, the checksum `number` and the padding.
 abbrev pub root_block_with : List LogEntry → ℕ → ℕ → List ℕ
 root_block_with entries number padding = metadata_bytes 4096 1 (superblock_entries default_profile 4096 16 ++ entries ++ checksum_entry number padding ∷ [])
 
--- a block of another pair
+-- A block of another pair: these entries, the checksum `number` and the padding.
 abbrev pub pair_block_with : List LogEntry → ℕ → ℕ → List ℕ
 pair_block_with entries number padding = metadata_bytes 4096 1 (entries ++ checksum_entry number padding ∷ [])
 
--- the root in block 0, and these blocks from block 2 on
+-- The disk with the root in block 0, and these blocks from block 2 on.
 abbrev pub blocks_image : List ℕ → Blocks → Disk
 blocks_image root blocks = large_disk_with (root ∷ unwritten_bytes 4096 ∷ blocks)
 
--- the fresh image cut or lengthened to so many blocks
+-- The fresh disk, cut or extended to `count` blocks.
 abbrev pub resized_image : ℕ → Disk
 resized_image count = record { block_size = 4096; page = 256; order = ShorterFirst; profile = default_profile; blocks = block_padded 4096 large_commit ∷ replicate (count - 1) (unwritten_bytes 4096) }
 
--- the same disk, where these versions are accepted
+-- The disk, with these versions accepted.
 abbrev pub disk_with_versions : AcceptedVersions → Disk → Disk
 disk_with_versions versions disk = record disk { profile = record disk.profile { versions = versions } }
 
--- a superblock's struct with another version, block size or limit of names, and a fresh root with it
+-- The struct of a superblock with this version, block size and name limit.
 abbrev pub superblock_struct_with : ℕ → ℕ → ℕ → List ℕ
 superblock_struct_with version block_size name_limit = flat_map (little_bytes 4) (version ∷ block_size ∷ 16 ∷ name_limit ∷ size_limit ∷ 1022 ∷ [])
 
 abbrev pub superblock_entries_with : List ℕ → List LogEntry
 superblock_entries_with struct = superblock_entry ∷ log_entry inline_type 0 struct ∷ []
 
+-- The block of a fresh root with this struct of the superblock, and the checksum `number`.
 abbrev pub root_struct_block : List ℕ → ℕ → List ℕ
 root_struct_block struct number = metadata_bytes 4096 1 (superblock_entries_with struct ++ checksum_entry number 204 ∷ [])
 
 -- ---- a skip list
 
--- 2,045 bytes in the blocks 5, 6 and 7; the second pointer of the last is given
+-- A CTZ skip-list of 2,045 bytes in the blocks 5, 6 and 7. The second pointer of block 7 is
+-- `pointer`.
 abbrev pub three_blocks_with : ℕ → Blocks
 three_blocks_with pointer =
     replicate 5 (unwritten_bytes 1024)
@@ -226,6 +238,6 @@ three_blocks_with pointer =
 abbrev pub three_blocks : Blocks
 three_blocks = three_blocks_with 5
 
--- the last block's first pointer names the block itself
+-- The blocks of `three_blocks`, but with the first pointer of block 7 to block 7 itself.
 abbrev pub endless_list : Blocks
 endless_list = slice_set three_blocks 7 (little_bytes 4 7 ++ little_bytes 4 5 ++ replicate 1016 3)

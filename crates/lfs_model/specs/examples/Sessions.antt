@@ -1,4 +1,4 @@
--- Sessions for contracts that show their replies.
+-- Sessions for contracts that show replies.
 use Rattle.std.specs.Prelude.{ℕ, true, false, List, [], ◌∷◌, map, replicate}
 use Rattle.lfs_model.specs.format.Disk.{default_profile}
 use Rattle.lfs_model.specs.format.Slots.{zero_gstate}
@@ -8,20 +8,21 @@ use Rattle.lfs_model.specs.session.Effects.{operation_result}
 use Rattle.lfs_model.specs.session.State.{mounted_session}
 use Rattle.lfs_model.specs.tree.Fresh.{empty_tree}
 
--- a disk of this geometry in the writing profile, with so many blocks in use
+-- A disk of this geometry in the writing profile. The number of its used blocks is `used`.
 abbrev pub writable_summary : ℕ → ℕ → ℕ → ℕ → DiskSummary
 writable_summary block_size page block_count used = record { writable = true; profile = default_profile; block_size = block_size; page = page; block_count = block_count; used = replicate used 0; gstate = zero_gstate }
 
--- the replies to operations, each with the number of blocks in use before it
+-- The replies to operations, each given with the number of used blocks before it.
 abbrev pub all_replies : (ℕ → DiskSummary) → Session → List (ℕ × Operation) → List Reply
 all_replies disk s [] = []
 all_replies disk s (step ∷ steps) = (operation_result (disk step.0) s step.1).0 ∷ all_replies disk (operation_result (disk step.0) s step.1).1 steps
 
--- the same from a fresh disk
+-- The replies to operations of a session just mounted on a fresh disk, each given with the number
+-- of used blocks before it.
 abbrev pub fresh_replies : ℕ → ℕ → ℕ → List (ℕ × Operation) → List Reply
 fresh_replies block_size page block_count = all_replies (writable_summary block_size page block_count) (mounted_session empty_tree)
 
--- all with as many blocks in use
+-- The operations, each with the same number of used blocks.
 abbrev pub with_used_count : ℕ → List Operation → List (ℕ × Operation)
 with_used_count used ops = map (λ op. (used, op)) ops
 

@@ -2,10 +2,10 @@
 use Rattle.std.specs.Prelude.{true, false, [], ◌∷◌, codes}
 use Rattle.lfs_model.specs.layers.Source.{TreeSource}
 
--- a file `a` with `hello`
+-- A source with one file `a`, whose contents are `hello`.
 abbrev pub file_source : TreeSource
 file_source = record { names = λ folder. (codes "a", false) ∷ []; bytes = λ path. codes "hello" }
 
--- in each folder a folder `d` and a file `a`, whose bytes are its path
+-- A source in which every folder has a folder `d` and a file `a`, whose contents are its path.
 abbrev pub endless_source : TreeSource
 endless_source = record { names = λ folder. (codes "d", true) ∷ (codes "a", false) ∷ []; bytes = λ path. path }

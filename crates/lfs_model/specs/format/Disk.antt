@@ -1,4 +1,4 @@
--- A device's bytes under a geometry.
+-- A disk: the bytes of a device with their geometry, order of names and profile.
 use Rattle.std.specs.Prelude.{ℕ, ◌≡◌, ◌≤◌, ◌-◌, ◌/◌, ◌%◌, min, max, List, length}
 use Rattle.lfs_model.specs.format.Blocks.{Blocks, block_bytes, cut}
 use Rattle.lfs_model.specs.declared.order.NameOrder.{NameOrder}
@@ -12,9 +12,9 @@ use Rattle.lfs_model.specs.format.Tag.{data_limit}
 pub record Disk : Type 0 where
   pub block_size : ℕ
   pub page : ℕ
-  -- the order of the names in its directories
+  -- The order of the names in the directories.
   pub order : NameOrder
-  -- what is accepted of an image, and what is written
+  -- Which images are accepted, and what may be written.
   pub profile : Profile
   pub blocks : Blocks
 
@@ -24,15 +24,15 @@ block_count disk = length disk.blocks
 abbrev pub disk_block : Disk → ℕ → List ℕ
 disk_block disk b = block_bytes disk.blocks b
 
--- the same disk, with its names in that order
+-- The disk with `order` as its order of names.
 abbrev pub ordered_disk : NameOrder → Disk → Disk
 ordered_disk order disk = record disk { order = order }
 
--- A disk of which nobody knows the order of names yet. It says that the longer names come first, as in littlefs's own code.
+-- A disk whose order of names isn't known yet. Until then, it has littlefs's order, `LongerFirst`.
 abbrev pub plain_disk : ℕ → ℕ → Profile → Blocks → Disk
 plain_disk block_size page profile blocks = record { block_size = block_size; page = page; order = LongerFirst; profile = profile; blocks = blocks }
 
--- as many blocks and pages, of the same size, the same order of names, and the same profile
+-- The disks have the same block size, page size, number of blocks, order of names and profile.
 pub record SameGeometry (disk new : Disk) : Type 0 where
   pub block_size : new.block_size ≡ disk.block_size
   pub page : new.page ≡ disk.page
@@ -40,59 +40,67 @@ pub record SameGeometry (disk new : Disk) : Type 0 where
   pub profile : new.profile ≡ disk.profile
   pub count : block_count new ≡ block_count disk
 
--- An image of a device: its bytes, a whole number of blocks.
+-- The bytes are an image of a device: a whole number of blocks, in a valid geometry.
 pub record IsWholeImage (block_size page : ℕ) (bytes : List ℕ) : Type 0 where
   pub geometry : IsValidGeometry block_size page (length bytes / block_size)
   pub whole : length bytes % block_size ≡ 0
 
--- the disk of an image
+-- The disk with the bytes of an image.
 abbrev pub disk_of_image : ℕ → ℕ → Profile → NameOrder → List ℕ → Disk
 disk_of_image block_size page profile order bytes = record { block_size = block_size; page = page; order = order; profile = profile; blocks = cut block_size (length bytes / block_size) bytes }
 
--- The size of the largest file that is kept inline, in bytes: an eighth of a block, and no more than the profile has.
+-- The size of the largest file that is kept inline, in bytes: an eighth of a block, but at most
+-- `inline_max` and `data_limit`.
 abbrev pub inline_limit : Profile → ℕ → ℕ
 inline_limit profile block_size = min profile.inline_max (min (block_size / 8) data_limit)
 
--- the most bytes of a struct: of inline contents, or 8 of two addresses
+-- The largest size of a struct in bytes: `inline_limit`, but at least the 8 bytes of a CTZ struct
+-- or a directory struct.
 abbrev pub struct_max : Profile → ℕ → ℕ
 struct_max profile block_size = max 8 (inline_limit profile block_size)
 
--- How many bytes the slots of a written pair may take. They take the block without revision (4), tail (12), move state (16),
--- checksum (8) and the padding to a page (page - 1).
+-- The number of bytes in a written pair that its slots may use. The rest of the block is for the
+-- revision count (4), a tail (12), a move state (16), a checksum (8) and the padding to a page
+-- (page - 1).
 abbrev pub pair_capacity : ℕ → ℕ → ℕ
 pair_capacity block_size page = block_size - 39 - page
 
+-- The largest `entry_charge` of an entry that is written: half the capacity of a pair.
 abbrev pub charge_limit : ℕ → ℕ → ℕ
 charge_limit block_size page = pair_capacity block_size page / 2
 
+-- The largest number of slots in a pair that is written.
 abbrev pub slots_limit : ℕ
 slots_limit = 1000
 
--- the most bytes of a file that an image may have
+-- The largest size of a file in any image, in bytes.
 abbrev pub size_limit : ℕ
 size_limit = 2147483647
 
--- the most bytes of an attribute that an image may have
+-- The largest size of a user attribute in any image, in bytes.
 abbrev pub attribute_limit : ℕ
 attribute_limit = 1022
 
--- ---- what a profile lets be written
+-- ---- the limits for writing
 
--- The most bytes of a name, a file and an attribute. A profile can only lower what an image may have.
+-- The largest length of a name that may be written, in bytes. A profile can only lower the limit of
+-- the format.
 abbrev pub profile_name_max : Profile → ℕ
 profile_name_max profile = min profile.name_max name_limit
 
+-- The largest size of a file that may be written, in bytes.
 abbrev pub profile_file_max : Profile → ℕ
 profile_file_max profile = min profile.file_max size_limit
 
+-- The largest size of a user attribute that may be written, in bytes.
 abbrev pub profile_attr_max : Profile → ℕ
 profile_attr_max profile = min profile.attr_max attribute_limit
 
--- Version 2.0 and littlefs's own limits. No metadata pair moves.
+-- Version 2.0 only, and littlefs's limits. No metadata pair is relocated for wear leveling.
 abbrev pub default_profile : Profile
 default_profile = record { versions = OnlyTwoZero; name_max = 255; file_max = 2147483647; attr_max = 1022; inline_max = 1022; pair_cycles = 0; search_seed = 0 }
 
--- no limit is 0, or above what an image may have
+-- No limit of the profile is 0 or greater than the limit of the format.
 pub record AreValidLimits (profile : Profile) : Type 0 where
   pub some_name : 1 ≤ profile.name_max
   pub name : profile.name_max ≤ name_limit

@@ -1,10 +1,11 @@
--- The limits of a geometry.
+-- The device geometries that are supported.
 use Rattle.std.specs.Prelude.{◌≡◌, ◌≤◌, ℕ, ◌*◌, ◌%◌, Bool, true, ◌==◌, ◌||◌}
 
--- a power of two from 8 to 512
+-- True if `n` is a power of two from 8 to 512.
 abbrev pub is_page : ℕ → Bool
 is_page n = n == 8 || n == 16 || n == 32 || n == 64 || n == 128 || n == 256 || n == 512
 
+-- The block size and the page size, in bytes, and the number of blocks are supported.
 pub record IsValidGeometry (block_size page block_count : ℕ) : Type 0 where
   pub power : is_page page ≡ true
   pub pages : 8 * page ≤ block_size

@@ -1,4 +1,4 @@
--- Names of files and directories: one to 255 bytes, without 0 and '/', neither "." nor "..".
+-- Names of files and directories: 1 to 255 bytes, without 0 and '/', and neither "." nor "..".
 use Rattle.std.specs.Prelude.{ℕ, Bool, true, false, not, ◌&&◌, ◌||◌, ◌==◌, nat_le, if◌then◌else◌, List, [], ◌∷◌, length}
 use Rattle.std.specs.List.{list_all}
 use Rattle.std.specs.Cmp.Lexicographic.{slice_cmp}
@@ -11,14 +11,16 @@ use Rattle.lfs_model.specs.declared.order.NameOrder.TheVariants.{ShorterFirst, L
 abbrev pub Name : Type 0
 Name = List ℕ
 
--- by unsigned bytes, a proper beginning last
+-- The order of two names by unsigned bytes. If one is a prefix of the other, the longer one comes
+-- first.
 abbrev pub cmp_longer_first : Name → Name → Ordering
 cmp_longer_first [] [] = Equal
 cmp_longer_first [] (y ∷ ys) = Greater
 cmp_longer_first (x ∷ xs) [] = Less
 cmp_longer_first (x ∷ xs) (y ∷ ys) = ordering_then (nat_cmp x y) (cmp_longer_first xs ys)
 
--- by unsigned bytes; the order decides which comes first of a name and a proper beginning of it
+-- The order of two names by unsigned bytes. If one is a prefix of the other, the `NameOrder`
+-- decides which of them comes first.
 abbrev pub name_cmp : NameOrder → Name → Name → Ordering
 name_cmp ShorterFirst = slice_cmp nat_cmp
 name_cmp LongerFirst = cmp_longer_first
@@ -42,7 +44,8 @@ dot_byte = 46
 abbrev pub slash_byte : ℕ
 slash_byte = 47
 
--- which bytes may be a component of a path, of any length
+-- True if `name` can be a component of a path: it isn't empty, "." or "..", and has no byte 0 or
+-- '/'. Its length isn't limited.
 abbrev pub is_component : Name → Bool
 is_component name =
     nat_le 1 (length name) && list_all (λ b. not (b == 0 || b == slash_byte)) name
@@ -56,12 +59,12 @@ is_valid_name name = is_component name && nat_le (length name) name_limit
 
 -- ---- lists of names
 
--- a name, inserted at its place among names that increase
+-- The list of names with `name` inserted before the first greater one. A sorted list stays sorted.
 abbrev pub insert_name : NameOrder → Name → List Name → List Name
 insert_name order name [] = name ∷ []
 insert_name order name (n ∷ ns) = if is_less (name_cmp order name n) then name ∷ n ∷ ns else n ∷ insert_name order name ns
 
--- the same names in an order
+-- The same names, sorted by `order`.
 abbrev pub sorted_names : NameOrder → List Name → List Name
 sorted_names order [] = []
 sorted_names order (n ∷ ns) = insert_name order n (sorted_names order ns)

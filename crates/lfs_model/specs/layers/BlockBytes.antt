@@ -1,4 +1,4 @@
--- Metadata blocks in bytes, made of the entries in them. Checksums are given as numbers.
+-- The bytes of metadata blocks, made from log entries. Checksums are given as numbers.
 use Rattle.std.specs.Prelude.{ℕ, ◌-◌, List, [], ◌∷◌, ◌++◌, length, replicate}
 use Rattle.byteorder.specs.Endian.{little_bytes}
 use Rattle.lfs_model.specs.format.Log.{LogEntry}
@@ -10,38 +10,42 @@ use Rattle.lfs_model.specs.tree.View.{superblock_entry}
 use Rattle.lfs_model.specs.declared.limits.Profile.{Profile}
 use Rattle.lfs_model.specs.tree.Fresh.{superblock_bytes}
 
--- storage that nothing was written to
+-- `size` bytes that nothing was written to.
 abbrev pub unwritten_bytes : ℕ → List ℕ
 unwritten_bytes size = replicate size 0xff
 
--- these bytes, and unwritten storage to the end of the block
+-- The bytes of a block of `size` bytes that begins with `bytes`; nothing was written to the rest.
 abbrev pub block_padded : ℕ → List ℕ → List ℕ
 block_padded size bytes = bytes ++ unwritten_bytes (size - length bytes)
 
 -- ---- entries
 
--- a slot's name and struct
+-- The entries of an inline file: its name and its struct.
 abbrev pub inline_entries : ℕ → Name → List ℕ → List LogEntry
 inline_entries id name bytes = log_entry file_name_type id name ∷ log_entry inline_type id bytes ∷ []
 
+-- The entries of a file with a CTZ skip-list: its name and its struct.
 abbrev pub list_slot_entries : ℕ → Name → ℕ → ℕ → List LogEntry
 list_slot_entries id name head size = log_entry file_name_type id name ∷ log_entry ctz_type id (address_bytes (head, size)) ∷ []
 
+-- The entries of a directory: its name and its struct.
 abbrev pub branch_entries : ℕ → Name → ℕ × ℕ → List LogEntry
 branch_entries id name to = log_entry directory_name_type id name ∷ log_entry directory_type id (address_bytes to) ∷ []
 
+-- The entries of a superblock: its name and its struct.
 abbrev pub superblock_entries : Profile → ℕ → ℕ → List LogEntry
 superblock_entries profile block_size block_count = superblock_entry ∷ log_entry inline_type 0 (superblock_bytes profile block_size block_count) ∷ []
 
--- a move state by its first word
+-- The entry of a move state with the first word `word` and the pair `pair`.
 abbrev pub move_state_entry : ℕ → ℕ × ℕ → LogEntry
 move_state_entry word pair = log_entry move_type no_id (little_bytes 4 word ++ address_bytes pair)
 
--- the checksum, and so many bytes of padding
+-- The entry of the checksum `number`, with `padding` unwritten bytes at its end.
 abbrev pub checksum_entry : ℕ → ℕ → LogEntry
 checksum_entry number padding = log_entry 0x500 no_id (little_bytes 4 number ++ unwritten_bytes padding)
 
--- ---- in bytes
+-- ---- blocks
 
+-- The bytes of a metadata block with this revision count and these entries.
 abbrev pub metadata_bytes : ℕ → ℕ → List LogEntry → List ℕ
 metadata_bytes block_size revision entries = block_padded block_size (little_bytes 4 revision ++ encoded_entries 0xffffffff entries)

@@ -1,13 +1,13 @@
--- Which blocks are used and which are in flight: two sets without a common member, as one state for each block.
+-- Which blocks are used and which are in flight, as one state for each block.
 use Rattle.std.specs.Prelude.{◌≡◌, ◌↔◌, ℕ, Bool, true, false, List, Some, Contains, count_by, slice_get}
 
--- A block in flight was taken, and no commit has settled it yet.
+-- The state of a block. A block in flight is allocated, and no commit has made it used yet.
 pub data BlockState : Type 0 where
   Free : BlockState
   InFlight : BlockState
   Used : BlockState
 
--- the state of each block, by its number
+-- The state of each block, by its address.
 abbrev pub BlockStates : Type 0
 BlockStates = List BlockState
 
@@ -36,10 +36,10 @@ in_flight_count sets = count_by state_in_flight sets
 abbrev pub used_count : BlockStates → ℕ
 used_count sets = count_by is_used sets
 
--- the blocks of the list are those in flight
+-- The blocks in flight are exactly those in `bs`.
 abbrev pub AreInFlight : BlockStates → List ℕ → Type 0
 AreInFlight sets bs = (b : ℕ) → IsInFlight sets b ↔ Contains bs b
 
--- the blocks of the list are the used ones
+-- The used blocks are exactly those in `bs`.
 abbrev pub AreUsed : BlockStates → List ℕ → Type 0
 AreUsed sets bs = (b : ℕ) → IsUsedBlock sets b ↔ Contains bs b

@@ -1,4 +1,5 @@
--- The entries of a tree, depth first and in name order, and how they are listed, unpacked and copied.
+-- The entries of a tree, depth first and in name order, and how they are listed, unpacked and
+-- copied.
 use Rattle.std.specs.Prelude.{ℕ, ◌+◌, ◌/◌, ◌%◌, ◌≡◌, Bool, true, false, not, ◌&&◌, ◌==◌, nat_le, nat_lt, if◌then◌else◌, List, [], ◌∷◌, ◌++◌, length, map, Some, codes}
 use Rattle.std.specs.List.{flat_map}
 use Rattle.std.specs.Fmt.{decimal}
@@ -7,37 +8,37 @@ use Rattle.lfs_model.specs.session.TreeEdits.{directory_names}
 use Rattle.lfs_model.specs.session.Operations as ops
 use Rattle.lfs_model.specs.session.Operations.{Operation, FlagsOfOpen, path_bytes}
 
--- what a path leads to
+-- A path and the node that it leads to.
 pub record PathNode : Type 0 where
   pub path : Path
   pub node : Node
 
--- the paths of the entries of the directory at a path, in name order
+-- The paths of the entries of the directory at `path`, in name order.
 abbrev pub entry_paths : Tree → Path → List Path
 entry_paths tree path = map (λ name. path ++ name ∷ []) (directory_names (tree path))
 
--- The entries that the paths lead to, in order, each followed by the entries beneath it.
+-- The list has the entries at the given paths, in order, each followed by all entries beneath it.
 abbrev pub IsDepthFirst : Tree → List Path → List PathNode → Type 0
 IsDepthFirst tree [] [] = Unit {0}
 IsDepthFirst tree [] (e ∷ es) = ⊥
 IsDepthFirst tree (p ∷ ps) [] = ⊥
 IsDepthFirst tree (p ∷ ps) (e ∷ es) = (e.path ≡ p) × (tree p ≡ Some e.node) × IsDepthFirst tree (entry_paths tree p ++ ps) es
 
--- all entries beneath the root
+-- The list `entries` has all entries beneath the root, depth first.
 abbrev pub IsWalk : Tree → List PathNode → Type 0
 IsWalk tree entries = IsDepthFirst tree (entry_paths tree []) entries
 
 -- ---- lines
 
--- the bytes from the space to `~` are shown as themselves, but not the backslash
+-- True if the byte `b` is printed as itself: any byte from the space to `~` except the backslash.
 abbrev pub is_plain : ℕ → Bool
 is_plain b = nat_le 0x20 b && (nat_le b 0x7e && not (b == 0x5c))
 
--- a hexadecimal digit, in lower case
+-- The ASCII code of the hexadecimal digit `d`, in lower case.
 abbrev pub hex_digit : ℕ → ℕ
 hex_digit d = if nat_lt d 10 then 0x30 + d else 0x57 + d
 
--- a byte as it is shown: itself, or `\x` and two digits
+-- The printed form of the byte `b`: the byte itself, or `\x` and two hexadecimal digits.
 abbrev pub escaped_byte : ℕ → List ℕ
 escaped_byte b = if is_plain b then b ∷ [] else 0x5c ∷ 0x78 ∷ hex_digit (b / 16) ∷ hex_digit (b % 16) ∷ []
 
@@ -47,7 +48,7 @@ escaped_text = flat_map escaped_byte
 abbrev pub newline : List ℕ
 newline = 0x0a ∷ []
 
--- the part of a line before the path
+-- The part of a line before the path: the entry's type and its size in bytes.
 abbrev pub line_start : Node → List ℕ
 line_start (FileNode attributes bytes) = codes "f " ++ decimal (length bytes) ++ codes " "
 line_start (DirectoryNode attributes names) = codes "d 0 "
@@ -58,13 +59,13 @@ listing_line e = line_start e.node ++ escaped_text (path_bytes e.path) ++ newlin
 abbrev pub listing_lines : List PathNode → List ℕ
 listing_lines entries = flat_map listing_line entries
 
--- the text that lists a tree
+-- `text` is the listing of the tree, with a line for each entry.
 abbrev pub IsListing : Tree → List ℕ → Type 0
 IsListing tree text = (entries : List PathNode) × (IsWalk tree entries × (text ≡ listing_lines entries))
 
 -- ---- actions
 
--- an action of an unpacking; a path is its bytes
+-- An action that unpacks one entry of a tree. A path is given as bytes.
 pub data UnpackingAction : Type 0 where
   MakeDirectory : (path : List ℕ) → UnpackingAction
   PutFile : (path bytes : List ℕ) → UnpackingAction
@@ -76,17 +77,18 @@ node_action path (DirectoryNode attributes names) = MakeDirectory path
 abbrev pub entry_action : PathNode → UnpackingAction
 entry_action e = node_action (path_bytes e.path) e.node
 
--- the actions that unpack a tree
+-- The actions unpack the tree, with one action for each entry, depth first.
 abbrev pub Unpack : Tree → List UnpackingAction → Type 0
 Unpack tree actions = (entries : List PathNode) × (IsWalk tree entries × (actions ≡ map entry_action entries))
 
 -- ---- operations
 
--- the flags to write and to create a file
+-- The flags that open a file for writing, and create it if it doesn't exist.
 abbrev pub new_flags : FlagsOfOpen
 new_flags = record { read = false; write = true; create = true; exclusive = false; truncate = false; append = false; unknown = false }
 
--- the operations that copy a file or a directory into a session without open files: a file gets number 0
+-- The operations that copy the node to `path` in a session without open files. An opened file gets
+-- the number 0.
 abbrev pub node_copies : List ℕ → Node → List Operation
 node_copies path (FileNode attributes bytes) = ops.Open path new_flags ∷ ops.Write 0 bytes ∷ ops.Close 0 ∷ []
 node_copies path (DirectoryNode attributes names) = ops.Mkdir path ∷ []
@@ -94,7 +96,7 @@ node_copies path (DirectoryNode attributes names) = ops.Mkdir path ∷ []
 abbrev pub entry_copies : PathNode → List Operation
 entry_copies e = node_copies (path_bytes e.path) e.node
 
--- the operations that copy a tree
+-- The operations copy the tree, entry by entry, depth first.
 abbrev pub CopyTree : Tree → List Operation → Type 0
 CopyTree tree operations =
     (entries : List PathNode) × (IsWalk tree entries × (operations ≡ flat_map entry_copies entries))

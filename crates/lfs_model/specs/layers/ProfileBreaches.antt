@@ -1,4 +1,4 @@
--- Which rule of the writing profile an image breaks, and where.
+-- Which rule of the writing profile an image breaks, and in which pair or slot.
 use Rattle.std.specs.Prelude.{ℕ, ◌≡◌, ◌≢◌, ◌+◌, ◌≤◌, true, false, List, [], Option, Some, None, All, slice_get}
 use Rattle.lfs_model.specs.format.Disk.{Disk, profile_attr_max, charge_limit, profile_file_max, inline_limit, profile_name_max}
 use Rattle.lfs_model.specs.format.EntryTypes.{SuperblockFields, superblock_fields}
@@ -14,13 +14,13 @@ use Rattle.lfs_model.specs.declared.limits.Profile.{Profile}
 
 -- ---- superblocks
 
--- these fields have that limit, and the profile has another one
+-- The superblock's fields have the given limit, and the profile has another one.
 abbrev pub IsOtherLimit : Profile → SuperblockFields → OtherLimit → Type 0
 IsOtherLimit profile fields (limit.Name n) = (fields.name_max ≡ n) × (n ≢ profile_name_max profile)
 IsOtherLimit profile fields (limit.File n) = (fields.file_max ≡ n) × (n ≢ profile_file_max profile)
 IsOtherLimit profile fields (limit.Attr n) = (fields.attr_max ≡ n) × (n ≢ profile_attr_max profile)
 
--- a superblock has that limit, and the profile has another one
+-- The slot is a superblock with the limit `other`, and the profile has another one.
 pub record HasOtherLimit (profile : Profile) (other : OtherLimit) (s : Slot) : Type 0 where
   pub kind : is_superblock s ≡ true
   pub bytes : List ℕ
@@ -29,13 +29,14 @@ pub record HasOtherLimit (profile : Profile) (other : OtherLimit) (s : Slot) : T
 
 -- ---- entries
 
--- an entry has more bytes inline than the limit
+-- The slot is an entry with more inline bytes than `limit`.
 abbrev pub HasLongInline : ℕ → Slot → Type 0
 HasLongInline limit s = (is_superblock s ≡ false) × ¬ InlineBytesFit limit s.struct
 
 -- ---- pairs
 
--- a pair behind the root directory's first one has no slot, and the pair before it has a hard tail
+-- The pair at `at` has no slot, although it continues the root directory or a later one by a hard
+-- tail.
 pub record EmptyPairAt (ps : List Pair) (at : ℕ × ℕ) : Type 0 where
   pub index : ℕ
   pub before : Pair
@@ -47,12 +48,13 @@ pub record EmptyPairAt (ps : List Pair) (at : ℕ × ℕ) : Type 0 where
   pub at_is : pair.at ≡ at
   pub empty : pair.content.slots ≡ []
 
--- a pair may hold that, and each entry takes at most half of a pair
+-- The content fits in a pair, and the charge of each entry is at most `charge_limit`.
 pub record IsSmallContent (profile : Profile) (block_size page : ℕ) (c : PairContent) : Type 0 where
   pub pair : FitsInPair block_size page c
   pub entries : All (λ s. is_superblock s ≡ false → entry_charge profile block_size s.name s.attributes ≤ charge_limit block_size page) c.slots
 
--- the pair of the thread at an address has more than that
+-- The content of the pair at `at` doesn't fit in a pair, or the charge of one of its entries is
+-- more than `charge_limit`.
 pub record IsTooLarge (disk : Disk) (ps : List Pair) (at : ℕ × ℕ) : Type 0 where
   pub index : ℕ
   pub pair : Pair
@@ -60,16 +62,17 @@ pub record IsTooLarge (disk : Disk) (ps : List Pair) (at : ℕ × ℕ) : Type 0 
   pub at_is : pair.at ≡ at
   pub large : ¬ IsSmallContent disk.profile disk.block_size disk.page pair.content
 
--- ---- all of them
+-- ---- all rules
 
--- The image of these pairs breaks the rule, there.
+-- The disk, whose thread is `ps`, breaks the writing profile as the breach says.
 abbrev pub BreaksProfile : Disk → List Pair → ProfileBreach → Type 0
 BreaksProfile disk ps (breach.OtherLimits pair slot limit) = (s : Slot) × (IsSlotAt ps (address_view pair) slot s × HasOtherLimit disk.profile limit s)
 BreaksProfile disk ps (breach.LongInline pair slot) = (s : Slot) × (IsSlotAt ps (address_view pair) slot s × HasLongInline (inline_limit disk.profile disk.block_size) s)
 BreaksProfile disk ps (breach.EmptyPair pair) = EmptyPairAt ps (address_view pair)
 BreaksProfile disk ps (breach.TooLarge pair) = IsTooLarge disk ps (address_view pair)
 
--- None exactly where the image may be written; else a rule that it breaks.
+-- For `None`, the image may be written. For `Some`, it breaks the writing profile as the breach
+-- says.
 abbrev pub IsBreachIfAny : Disk → List Pair → Option ProfileBreach → Type 0
 IsBreachIfAny disk ps None = IsWritable disk ps
 IsBreachIfAny disk ps (Some b) = BreaksProfile disk ps b

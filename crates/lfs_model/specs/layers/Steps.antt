@@ -1,4 +1,4 @@
--- What the commits of an operation do to an image, one by one and together.
+-- The effects of an operation's commits on an image, one by one and together.
 use Rattle.std.specs.Prelude.{ℕ, ◌≡◌, ◌⊎◌, ◌+◌, Bool, true, cond, not, nat_eq, List, [], ◌∷◌, ◌++◌, map, Option, Some, None}
 use Rattle.std.specs.List.{AllByRecursion, flat_map}
 use Rattle.lfs_model.specs.format.Disk.{Disk, disk_block}
@@ -19,39 +19,39 @@ use Rattle.lfs_model.specs.layers.Keeping.{KeepsStructs}
 
 -- ---- lists
 
--- how often a number is in a list
+-- The number of times that `b` is in a list.
 abbrev pub number_occurrences : ℕ → List ℕ → ℕ
 number_occurrences b [] = 0
 number_occurrences b (x ∷ xs) = cond (nat_eq b x) 1 0 + number_occurrences b xs
 
--- one of the elements has the property
+-- At least one of the elements has the property `P`.
 abbrev pub AnyByRecursion : {X : Type 0} → (X → Type 0) → List X → Type 0
 AnyByRecursion P [] = ⊥
 AnyByRecursion P (x ∷ xs) = P x ⊎ AnyByRecursion P xs
 
 -- ---- pairs and files
 
--- whether a hard tail leads from the last of these pairs
+-- True if the last of the pairs has a hard tail. If there are no pairs, it is `b`.
 abbrev pub ends_joined : Bool → List Pair → Bool
 ends_joined b [] = b
 ends_joined b (p ∷ ps) = ends_joined (is_hard_tail p.content.tail) ps
 
--- pairs of the same addresses and slots
+-- Both lists have pairs with the same addresses and the same slots, in the same order.
 abbrev pub SameSlots : List Pair → List Pair → Type 0
 SameSlots [] [] = Unit {0}
 SameSlots [] (q ∷ qs) = ⊥
 SameSlots (p ∷ ps) [] = ⊥
 SameSlots (p ∷ ps) (q ∷ qs) = (q.at ≡ p.at) × (q.content.slots ≡ p.content.slots) × SameSlots ps qs
 
--- where directories begin
+-- The addresses of the directories.
 abbrev pub directory_addresses : List ThreadDirectory → List (ℕ × ℕ)
 directory_addresses ds = map (λ d. d.at) ds
 
--- the blocks of the files that slots name
+-- The blocks in the CTZ skip-lists of the slots.
 abbrev pub file_blocks : Disk → List Slot → List ℕ
 file_blocks disk slots = flat_map (λ s. struct_blocks disk s.struct) slots
 
--- the blocks of the file that a struct names are the same on both disks
+-- The blocks in the CTZ skip-list of the struct have the same bytes on both disks.
 abbrev pub SameFileBlocks : Disk → Disk → Struct → Type 0
 SameFileBlocks disk new s = AllByRecursion (λ b. disk_block new b ≡ disk_block disk b) (struct_blocks disk s)
 
@@ -62,7 +62,7 @@ pub record HasNoMove (g : Gstate) : Type 0 where
   pub id : g.id ≡ 0
   pub pair : g.pair ≡ (0, 0)
 
--- the delta that inverts the sync bit
+-- The delta that inverts the sync bit and nothing else.
 abbrev pub sync_bit_delta : Gstate
 sync_bit_delta = record zero_gstate { sync = true }
 
@@ -71,41 +71,44 @@ with_sync_inverted g = record g { sync = not g.sync }
 
 -- ---- changes of a tree
 
--- from a path to the address of the directory there
+-- The address of the directory at each path, if there is one.
 abbrev pub PathAddresses : Type 0
 PathAddresses = Path → Option (ℕ × ℕ)
 
--- where paths lead once the entry at the first path is at the second
+-- The addresses of `d` after the entry at `old` is moved to `new`, with all entries beneath it.
 abbrev pub renamed_addresses : Path → Path → PathAddresses → PathAddresses
 renamed_addresses old new d = tree_with_subtree new (λ t. d (old ++ t)) (tree_with_subtree old (λ t. None) d)
 
--- whatever tree it changes, a file at that path has the same bytes after it
+-- In every tree with a file at `q`, the file is still there after `change`, with the same bytes.
 abbrev pub KeepsFileBytes : (Tree → Tree) → Path → Type 0
 KeepsFileBytes change q = (t : Tree) (attributes : Attributes) (bytes : List ℕ) → t q ≡ Some (FileNode attributes bytes) →
     (others : Attributes) × (change t q ≡ Some (FileNode others bytes))
 
--- a file's slot is still there, with its struct
+-- If there was a slot of a file, there still is one, with the same struct.
 abbrev pub KeepsStruct : Option Slot → Option Slot → Type 0
 KeepsStruct was now = (u : Slot) → was ≡ Some u → branch_address u.struct ≡ None → (v : Slot) × ((now ≡ Some v) × (v.struct ≡ u.struct))
 
--- The new image is accepted, and shows the old one's tree after that change.
+-- The new image, with the thread `qs`, is accepted. Its tree is that of the old image after
+-- `change`, and the addresses of its directories are the old ones after `walk`.
 pub record IsChangedImage (disk : Disk) (ps : List Pair) (new : Disk) (qs : List Pair) (change : Tree → Tree) (walk : PathAddresses → PathAddresses) : Type 0 where
   pub accepted : IsAccepted new qs
   pub root : root_address qs ≡ root_address ps
   pub shows : disk_tree new qs ≡ change (disk_tree disk ps)
   pub leads : address_at_path (all_entries qs) (root_address qs) ≡ walk (address_at_path (all_entries ps) (root_address ps))
-  -- a file whose bytes are left has the same struct
+  -- A file whose bytes `change` keeps has the same struct as before.
   pub stays : (q : Path) → KeepsFileBytes change q → KeepsStruct (slot_of ps q) (slot_of qs q)
 
--- ---- what steps come to
+-- ---- the result of an operation
 
--- The step leads from the pairs ps on the disk to qs on the new one, makes that of the tree, and stays in the profile.
+-- The new image, with the thread `qs`, is the old one after `change` and `walk`, and it is in the
+-- writing profile.
 pub record IsWritableChange (disk : Disk) (ps : List Pair) (new : Disk) (qs : List Pair) (change : Tree → Tree) (walk : PathAddresses → PathAddresses) : Type 0 where
   pub follows : IsChangedImage disk ps new qs change walk
   pub writable : IsWritable new qs
 
--- The new image is accepted, may be written, and has nothing to recover. It shows the tree that the operation leaves, and its
--- slots are where they should be. Files that the operation isn't about keep their structs.
+-- The new image, with the thread `qs`, is accepted, in the writing profile, and has nothing to
+-- recover. Its tree is that of the session after `op`, and its slots are in the pairs to which `op`
+-- assigns them. Files that `op` isn't about keep their structs.
 pub record CompletesOperation (disk : Disk) (ps : List Pair) (s : Session) (op : Operation) (new : Disk) (qs : List Pair) : Type 0 where
   pub accepted : IsAccepted new qs
   pub writable : IsWritable new qs

@@ -1,4 +1,4 @@
--- Which rule an image breaks, and where.
+-- Which rule for accepted images a disk breaks, and in which pair, slot or block.
 use Rattle.std.specs.Prelude.{ℕ, ◌≡◌, ◌≢◌, ◌⊎◌, ◌<◌, ◌≤◌, ◌++◌, true, false, List, [], ◌∷◌, Option, Some, None, All, AllPairs, Contains, codes, slice_get}
 use Rattle.std.specs.declared.cmp.Ordering.TheVariants.{Less}
 use Rattle.lfs_model.specs.format.Content.{content_at, current_block}
@@ -14,27 +14,31 @@ use Rattle.lfs_model.specs.declared.violations.Violation.TheVariants as violatio
 
 -- ---- the thread, as far as it can be followed
 
--- the pairs from an address on, each tail naming the next; the last one names `next`
+-- The pairs are linked by their tails from the address `at` on, and the tail of the last one leads
+-- to `next`.
 abbrev pub LeadsByTails : Option (ℕ × ℕ) → List Pair → Option (ℕ × ℕ) → Type 0
 LeadsByTails at [] next = at ≡ next
 LeadsByTails at (p ∷ ps) next = (at ≡ Some p.at) × LeadsByTails (tail_target p.content.tail) ps next
 
--- these pairs are the thread's first ones, each with what it holds, and the thread goes on at an address
+-- The pairs `ps` are the first ones of the thread, with their contents, and the thread continues at
+-- the address `next`.
 pub record AreFirstPairs (disk : Disk) (ps : List Pair) (next : ℕ × ℕ) : Type 0 where
   pub links : LeadsByTails (Some anchor_address) ps (Some next)
   pub contents : All (λ p. content_at disk p.at ≡ Some p.content) ps
 
--- the thread names a pair at the address
+-- The thread can be followed up to the address `at`.
 abbrev pub IsNamed : Disk → ℕ × ℕ → Type 0
 IsNamed disk at = (ps : List Pair) × AreFirstPairs disk ps at
 
+-- Both addresses are below the number of blocks.
 abbrev pub IsInRange : Disk → ℕ × ℕ → Type 0
 IsInRange disk at = (at.0 < block_count disk) × (at.1 < block_count disk)
 
+-- One of the two addresses is `block`.
 abbrev pub HasBlock : ℕ × ℕ → ℕ → Type 0
 HasBlock at block = (at.0 ≡ block) ⊎ (at.1 ≡ block)
 
--- the block is of the pair, and of one before it
+-- `block` is in the pair at `at`, and in an earlier pair of the thread.
 pub record InTwoPairs (disk : Disk) (at : ℕ × ℕ) (block : ℕ) : Type 0 where
   pub before : List Pair
   pub begins : AreFirstPairs disk before at
@@ -43,7 +47,8 @@ pub record InTwoPairs (disk : Disk) (at : ℕ × ℕ) (block : ℕ) : Type 0 whe
 
 -- ---- the superblock
 
--- the slot is a superblock of the disk's version and sizes
+-- The slot is a superblock with an accepted version, and with the disk's block size and number of
+-- blocks.
 pub record IsDiskSuperblock (disk : Disk) (s : Slot) : Type 0 where
   pub kind : is_superblock s ≡ true
   pub name : s.name ≡ codes "littlefs"
@@ -51,15 +56,16 @@ pub record IsDiskSuperblock (disk : Disk) (s : Slot) : Type 0 where
   pub inline : s.struct ≡ Inline bytes
   pub struct : IsSuperblock disk bytes
 
--- the address of the first pair that has a slot
+-- The address of the first pair that has a slot.
 abbrev pub first_filled_address : List Pair → ℕ × ℕ
 first_filled_address ps = first_address (pairs_from_filled ps)
 
--- slot 0 of the first pair that has a slot
+-- `s` is slot 0 of the first pair that has a slot.
 abbrev pub HasFirstSlot : List Pair → Slot → Type 0
 HasFirstSlot ps s = slice_get (first_pair_slots (pairs_from_filled ps)) 0 ≡ Some s
 
--- a pair of the superblock's chain begins with another superblock than the first one
+-- Slot 0 of the pair at `at`, in the superblock's chain, doesn't repeat the chain's first
+-- superblock.
 pub record IsOtherSuperblock (disk : Disk) (ps : List Pair) (at : ℕ × ℕ) : Type 0 where
   pub index : ℕ
   pub pair : Pair
@@ -76,7 +82,7 @@ pub record IsOtherSuperblock (disk : Disk) (ps : List Pair) (at : ℕ × ℕ) : 
 
 -- ---- slots
 
--- the slot of that number in the pair of the thread at an address
+-- `s` is the slot with the id `id` in the pair at `at`, which is in the thread.
 pub record IsSlotAt (ps : List Pair) (at : ℕ × ℕ) (id : ℕ) (s : Slot) : Type 0 where
   pub index : ℕ
   pub pair : Pair
@@ -84,33 +90,35 @@ pub record IsSlotAt (ps : List Pair) (at : ℕ × ℕ) (id : ℕ) (s : Slot) : T
   pub at_is : pair.at ≡ at
   pub slot : slice_get pair.content.slots id ≡ Some s
 
--- a slot that isn't slot 0 of the superblock's chain, and no entry
+-- The pair at `at` has a slot with the id `id` that is neither a valid entry nor slot 0 of a pair
+-- in the superblock's chain.
 pub record NoEntryAt (ps : List Pair) (at : ℕ × ℕ) (id : ℕ) : Type 0 where
   pub slot : Slot
   pub is : IsSlotAt ps at id slot
   pub behind : (count_before_root ps < is.index) ⊎ (0 < id)
   pub refused : ¬ IsTreeEntry slot
 
--- a slot that no set move names
+-- `s` is the slot with the id `id` in the pair at `at`, and doesn't count as moved away.
 pub record IsUnmovedAt (ps : List Pair) (at : ℕ × ℕ) (id : ℕ) (s : Slot) : Type 0 where
   pub is : IsSlotAt ps at id s
   pub stays : moved_id (pairs_gstate ps) is.pair ≢ Some id
 
 -- ---- directories
 
--- a path leads to the directory that begins with the pair at an address
+-- The path leads to the directory at `to`, which begins with the pair at `at`.
 pub record IsReachedAt (ps : List Pair) (at : ℕ × ℕ) (path : Path) (to : ℕ × ℕ) : Type 0 where
   pub leads : LeadsTo ps path to
   pub same : same_pair to at ≡ true
 
--- the names of a directory don't rise
+-- The names in the directory at `at`, which a path leads to, aren't strictly ascending.
 pub record NamesFall (disk : Disk) (ps : List Pair) (at : ℕ × ℕ) : Type 0 where
   pub path : Path
   pub to : ℕ × ℕ
   pub reached : IsReachedAt ps at path to
   pub falls : ¬ AllPairs (λ a b. name_cmp disk.order a b ≡ Less) (names_at (all_entries ps) to)
 
--- an entry of a directory leads to no directory
+-- The directory at `at`, which a path leads to, has an entry whose struct has the address of a
+-- directory, but no directory begins there.
 pub record BranchIsLoose (ps : List Pair) (at : ℕ × ℕ) : Type 0 where
   pub path : Path
   pub to : ℕ × ℕ
@@ -120,7 +128,7 @@ pub record BranchIsLoose (ps : List Pair) (at : ℕ × ℕ) : Type 0 where
   pub leads : LeadsTo ps (path ++ name ∷ []) target
   pub loose : ¬ BeginsDirectory (all_directories ps) target
 
--- two paths lead to a directory
+-- Two different paths lead to the directory at `at`.
 pub record IsReachedTwice (ps : List Pair) (at : ℕ × ℕ) : Type 0 where
   pub path : Path
   pub to : ℕ × ℕ
@@ -130,7 +138,7 @@ pub record IsReachedTwice (ps : List Pair) (at : ℕ × ℕ) : Type 0 where
   pub other_reached : IsReachedAt ps at other other_to
   pub differ : path ≢ other
 
--- no path leads to a directory, and the sync bit is clear
+-- No path leads to the directory at `at`, although the sync bit is clear.
 pub record NeverReached (ps : List Pair) (at : ℕ × ℕ) : Type 0 where
   pub sync : (pairs_gstate ps).sync ≡ false
   pub index : ℕ
@@ -139,9 +147,10 @@ pub record NeverReached (ps : List Pair) (at : ℕ × ℕ) : Type 0 where
   pub at_is : directory.at ≡ at
   pub unreached : ¬ IsReachedBySome ps at
 
--- ---- the lists of files
+-- ---- the skip-lists of files
 
--- a block is in the slot's list, and it is used twice
+-- `block` is in the CTZ skip-list of the slot with the id `id` in the pair at `at`, and it is used
+-- twice.
 pub record IsUsedTwice (disk : Disk) (ps : List Pair) (at : ℕ × ℕ) (id block : ℕ) : Type 0 where
   pub slot : Slot
   pub is : IsUnmovedAt ps at id slot
@@ -152,9 +161,9 @@ pub record IsUsedTwice (disk : Disk) (ps : List Pair) (at : ℕ × ℕ) (id bloc
   pub one : slice_get (used_blocks disk ps) i ≡ Some block
   pub other : slice_get (used_blocks disk ps) j ≡ Some block
 
--- ---- all of them
+-- ---- all rules
 
--- the thread can't be followed
+-- The thread of the disk can't be followed to its end, for the reason that the violation gives.
 abbrev pub BreaksThread : Disk → Violation → Type 0
 BreaksThread disk (violation.OutOfRange pair) = IsNamed disk (address_view pair) × ¬ IsInRange disk (address_view pair)
 BreaksThread disk (violation.OneBlock pair) = IsNamed disk (address_view pair) × ((address_view pair).0 ≡ (address_view pair).1)
@@ -163,7 +172,7 @@ BreaksThread disk (violation.NoContent pair) =
     IsNamed disk (address_view pair) × IsInRange disk (address_view pair) × (content_at disk (address_view pair) ≡ None)
 BreaksThread disk _ = ⊥
 
--- the pairs of the thread break a rule
+-- The disk, whose complete thread is `ps`, breaks the rules as the violation says.
 abbrev pub PairsBreak : Disk → List Pair → Violation → Type 0
 PairsBreak disk ps violation.NoSuperblock = superblock_first (first_pair_slots (pairs_from_root ps)) ≡ false
 PairsBreak disk ps (violation.FirstEntry pair) = (first_filled_address ps ≡ address_view pair) × ¬ BeginsWith (current_block disk (address_view pair)) superblock_entry
@@ -179,6 +188,7 @@ PairsBreak disk ps (violation.List pair slot) = (s : Slot) × (IsUnmovedAt ps (a
 PairsBreak disk ps (violation.TwoOwners pair slot block) = IsUsedTwice disk ps (address_view pair) slot block
 PairsBreak disk ps _ = ⊥
 
--- The disk breaks the rule, there. Either its thread can't be followed, or these are the thread's pairs, and they break it.
+-- The disk breaks the rules as the violation says: either its thread can't be followed to the end,
+-- or the pairs of its complete thread break a rule.
 abbrev pub Breaks : Disk → Violation → Type 0
 Breaks disk v = BreaksThread disk v ⊎ ((ps : List Pair) × (IsThread (content_at disk) (block_count disk) ps × PairsBreak disk ps v))

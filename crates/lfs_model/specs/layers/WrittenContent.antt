@@ -1,4 +1,4 @@
--- The entries that write what a pair holds into an empty log.
+-- The entries that write the content of a pair to an empty log.
 use Rattle.std.specs.Prelude.{ℕ, ◌+◌, ◌*◌, ◌^◌, ◌≤◌, ◌==◌, ◌&&◌, not, if◌then◌else◌, Bool, List, [], ◌∷◌, ◌++◌, length, map, Option, Some, None, sum_by}
 use Rattle.std.specs.List.{flat_map}
 use Rattle.byteorder.specs.Endian.{little_bytes}
@@ -17,25 +17,25 @@ address_bytes pair = little_bytes 4 pair.0 ++ little_bytes 4 pair.1
 abbrev pub fields_bytes : SuperblockFields → List ℕ
 fields_bytes s = flat_map (little_bytes 4) (s.version ∷ s.block_size ∷ s.block_count ∷ s.name_max ∷ s.file_max ∷ s.attr_max ∷ [])
 
--- the first word of a move state: the sync bit, the move type, the move id and ten bits that are 0
+-- The first word of a move state: the sync bit, the move type, the move id, and ten zero bits.
 abbrev pub move_word : Gstate → ℕ
 move_word g = (if g.sync then 2 ^ 31 else 0) + g.kind * 2 ^ 20 + g.id * 2 ^ 10
 
 abbrev pub bytes_of_move_state : Gstate → List ℕ
 bytes_of_move_state g = little_bytes 4 (move_word g) ++ address_bytes g.pair
 
--- the pair that a tail names; without one, two null addresses
+-- The address of the pair that a tail points to, or two null addresses for `None`.
 abbrev pub tail_or_null : Option (ℕ × ℕ) → ℕ × ℕ
 tail_or_null None = (null_address, null_address)
 tail_or_null (Some pair) = pair
 
 -- ---- entries
 
--- the entry of that type and id with these bytes
+-- The entry with the type `type`, the id `id` and the data `bytes`.
 abbrev pub log_entry : ℕ → ℕ → List ℕ → LogEntry
 log_entry type id bytes = record { tag = make_tag type id (length bytes); bytes = bytes }
 
--- the types of attributes begin here
+-- The lowest tag type of a user attribute.
 abbrev pub first_attribute_type : ℕ
 first_attribute_type = 0x300
 
@@ -48,9 +48,9 @@ tail_entry hard pair = log_entry (tail_type hard) no_id (address_bytes (tail_or_
 abbrev pub move_entry : Gstate → LogEntry
 move_entry g = log_entry move_type no_id (bytes_of_move_state g)
 
--- ---- what a pair holds, written anew
+-- ---- the content of a pair
 
--- a name or a struct
+-- The entry of a slot's name or struct, if there is one.
 abbrev pub part_entries : ℕ → Option (ℕ × List ℕ) → List LogEntry
 part_entries id None = []
 part_entries id (Some part) = log_entry part.0 id part.1 ∷ []
@@ -61,7 +61,7 @@ attribute_entries id attributes = map (λ a. log_entry (first_attribute_type + a
 abbrev pub slot_entries : ℕ → RawSlot → List LogEntry
 slot_entries id s = part_entries id s.name ++ part_entries id s.struct ++ attribute_entries id s.attributes
 
--- the slots from an id on
+-- The entries of the slots, whose ids begin at `id`.
 abbrev pub entries_of_slots : ℕ → List RawSlot → List LogEntry
 entries_of_slots id [] = []
 entries_of_slots id (s ∷ slots) = slot_entries id s ++ entries_of_slots (id + 1) slots
@@ -76,8 +76,8 @@ is_zero g = not g.sync && (g.kind == 0 && (g.id == 0 && (g.pair.0 == 0 && g.pair
 abbrev pub move_state_entries : Gstate → List LogEntry
 move_state_entries g = if is_zero g then [] else move_entry g ∷ []
 
--- Each slot's name, struct and attributes by ascending type, then the tail where there is one, then the move state where
--- it isn't zero.
+-- The entries of each slot's name, struct and attributes (by ascending type), then of the tail if
+-- there is one, then of the move state if it isn't zero.
 abbrev pub content_entries : RawContent → List LogEntry
 content_entries c = entries_of_slots 0 c.slots ++ tail_entries c.tail ++ move_state_entries c.move
 
@@ -87,14 +87,15 @@ abbrev pub part_size : Option (ℕ × List ℕ) → ℕ
 part_size None = 0
 part_size (Some part) = 4 + length part.1
 
+-- The size of a slot: its name, struct and attributes, each with a 4-byte tag.
 abbrev pub slot_size_raw : RawSlot → ℕ
 slot_size_raw s = part_size s.name + part_size s.struct + attributes_size s.attributes
 
--- the bytes that the slots take
+-- The size of all slots in bytes.
 abbrev pub raw_slots_size : RawContent → ℕ
 raw_slots_size c = sum_by slot_size_raw c.slots
 
--- the limits of a written pair
+-- The size and the number of the slots are within the limits of a pair that is written.
 pub record RawContentFits (block_size page : ℕ) (c : RawContent) : Type 0 where
   pub size : raw_slots_size c ≤ pair_capacity block_size page
   pub count : length c.slots ≤ slots_limit

@@ -1,4 +1,4 @@
--- What a session knows after an operation that wasn't refused.
+-- The effect of an operation that wasn't refused.
 use Rattle.std.specs.Prelude.{ℕ, ◌≡◌, true, false, if◌then◌else◌, List, Some, None, is_none}
 use Rattle.lfs_model.specs.format.Thread.{Pair}
 use Rattle.lfs_model.specs.tree.View.{IsAccepted}
@@ -11,7 +11,8 @@ use Rattle.lfs_model.specs.session.TreeEdits.{file_bytes, is_directory}
 use Rattle.lfs_model.specs.session.Writers.{opened_writer}
 use Rattle.lfs_model.specs.session.Run.{SystemState}
 
--- The operation passed its checks on what the disk holds, and the reply and the session after it are its effect.
+-- The operation passed its checks against the disk, and the reply and the session after it are its
+-- effect.
 pub record IsAcceptedStep (from : SystemState) (s : Session) (op : Operation) (reply : Reply) (to : SystemState) : Type 0 where
   pub around : DiskSummary
   pub surrounds : (ps : List Pair) × (IsAccepted from.disk ps × IsSummary from.disk ps around)
@@ -19,7 +20,8 @@ pub record IsAcceptedStep (from : SystemState) (s : Session) (op : Operation) (r
   pub replied : reply ≡ (operation_effect around s op).0
   pub after : to.state ≡ Healthy (operation_effect around s op).1
 
--- An open that wasn't refused: no directory is there, the file is made where none was, and it is open under the number.
+-- The open wasn't refused: there is no directory at the path, a file was created if there was none,
+-- and the file is open under the number `fd`.
 pub record IsAcceptedOpen (s : Session) (path : List ℕ) (flags : FlagsOfOpen) (fd : ℕ) : Type 0 where
   pub no_directory : is_directory (s.tree (path_or_root path)) ≡ false
   pub made : is_none (s.tree (path_or_root path)) ≡ true → flags.create ≡ true

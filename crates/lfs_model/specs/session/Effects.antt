@@ -12,8 +12,8 @@ use Rattle.lfs_model.specs.session.Writers.{written_writer, truncated_writer, sy
 use Rattle.lfs_model.specs.session.Refusals.{path_or_root, operation_refusal}
 use Rattle.lfs_model.specs.format.Slots.{set_move_kind}
 
--- the reply to an operation that no check refuses, and the session after it
 
+-- The size of a file, or None for anything else.
 abbrev pub node_file_size : Option Node → Option ℕ
 node_file_size None = None
 node_file_size (Some (FileNode attributes bytes)) = Some (length bytes)
@@ -22,11 +22,12 @@ node_file_size (Some (DirectoryNode attributes names)) = None
 abbrev pub unchanged_session : Reply → Session → Reply × Session
 unchanged_session reply s = (reply, s)
 
+-- The node with these contents, if it is a file, otherwise the node unchanged.
 abbrev pub node_with_bytes : List ℕ → Node → Node
 node_with_bytes bytes (FileNode attributes old) = FileNode attributes bytes
 node_with_bytes bytes (DirectoryNode attributes names) = DirectoryNode attributes names
 
--- the tree after a commit of a dirty writer's contents
+-- The tree after the contents of a dirty writer are committed.
 abbrev pub tree_after_storing : Option OpenFile → Tree → Tree
 tree_after_storing None t = t
 tree_after_storing (Some (Reading r)) t = t
@@ -37,10 +38,12 @@ synced_file None = None
 synced_file (Some (Reading r)) = Some (Reading r)
 synced_file (Some (Writing w)) = Some (Writing (synced_writer w))
 
+-- The open file at another position.
 abbrev pub repositioned_file : ℕ → OpenFile → OpenFile
 repositioned_file position (Reading r) = Reading (record r { position = position })
 repositioned_file position (Writing w) = Writing (record w { position = position })
 
+-- The reply and the session after a file at path `p` is opened, and created if it doesn't exist.
 abbrev pub open_effect : Session → Path → FlagsOfOpen → Reply × Session
 open_effect s p flags = (
   ops.Opened (free_number_of s.files),
@@ -51,6 +54,7 @@ open_effect s p flags = (
   },
 )
 
+-- The reply and the session after up to `count` bytes are read from an open reader.
 abbrev pub read_effect : Session → ℕ → ℕ → Option FileReader → Reply × Session
 read_effect s fd count None = (ops.Done, s)
 read_effect s fd count (Some r) = (
@@ -63,10 +67,11 @@ read_effect s fd count (Some r) = (
     found : List ℕ
     found = take count (drop r.position (file_bytes (s.tree r.path)))
 
--- the entries of a directory, in name order
+-- The entries of the directory at `path`, in the order of names.
 abbrev pub items_at : Tree → Path → List ListedEntry
 items_at t path = map (λ name. record { name = name; size = node_file_size (t (path ++ name ∷ [])) }) (directory_names (t path))
 
+-- The reply to an operation that no check refuses, and the session after it.
 abbrev pub operation_effect : DiskSummary → Session → Operation → Reply × Session
 operation_effect around s (ops.Open path flags) = open_effect s (path_or_root path) flags
 operation_effect around s (ops.Read fd count) = read_effect s fd count (file_reader (file_numbered s.files fd))
@@ -127,13 +132,14 @@ operation_effect around s ops.AskGstate = (
 )
 operation_effect around s (ops.IsUsed block) = (ops.Yes (list_any (λ b. b == block) around.used), s)
 operation_effect around s ops.UsedCount = (ops.Count (length around.used), s)
--- A recovery shows nothing new. What a remount shows depends on the disk alone (State).
+-- A recovery doesn't change the tree. The result of a remount depends on the disk alone (State).
 operation_effect around s _ = (ops.Done, s)
 
--- the reply, and the session after it
+-- The refusal and the unchanged session `s`, or `accepted` if nothing refuses.
 abbrev pub unless_refused : Option Refusal → Session → Reply × Session → Reply × Session
 unless_refused (Some error) s accepted = (ops.Refused error, s)
 unless_refused None s accepted = accepted
 
+-- The reply to any operation, and the session after it, refused or not.
 abbrev pub operation_result : DiskSummary → Session → Operation → Reply × Session
 operation_result around s op = unless_refused (operation_refusal around s op) s (operation_effect around s op)

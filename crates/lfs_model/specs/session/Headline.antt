@@ -1,4 +1,4 @@
--- What runs ensure: a session has what its disk shows, and answers as a fresh mount does.
+-- What a run ensures: a session has the tree of its disk, and answers as a fresh mount does.
 use Rattle.std.specs.Prelude.{ℕ, ◌≡◌, Bool, true, false, if◌then◌else◌, List, [], ◌∷◌, ◌++◌, take, drop, Option, Some, None}
 use Rattle.lfs_model.specs.format.Disk.{Disk}
 use Rattle.lfs_model.specs.format.Thread.{Pair}
@@ -16,7 +16,8 @@ use Rattle.lfs_model.specs.session.State.{IsSummary, Healthy, is_remount, mounte
 use Rattle.lfs_model.specs.session.Recovery.{IsRecovered}
 use Rattle.lfs_model.specs.session.Run.{SystemState, ShowsTree, is_refusal, IsStep, AreSteps}
 
--- these operations lead from a fresh disk, just mounted, to this state
+-- The operations, with these replies, lead from a fresh disk that was just mounted to the state
+-- `at`.
 pub record LeadsFromFresh (operations : List Operation) (replies : List Reply) (at : SystemState) : Type 0 where
   pub from : SystemState
   pub fresh : IsFreshDisk from.disk
@@ -25,12 +26,14 @@ pub record LeadsFromFresh (operations : List Operation) (replies : List Reply) (
 
 -- ---- what the accepted operations define
 
--- What an operation makes of a session: nothing where the operation is refused, else its effect. A remount closes the files.
+-- The session after an operation with this reply. A refused operation changes nothing, and a
+-- remount closes all files.
 abbrev pub session_after : DiskSummary → Session → Operation → Reply → Session
 session_after around s op reply =
     if is_refusal reply then s
     else (if is_remount op then mounted_session s.tree else (operation_effect around s op).1)
 
+-- The session after several operations with these replies.
 abbrev pub session_after_all : DiskSummary → Session → List Operation → List Reply → Session
 session_after_all around s [] replies = s
 session_after_all around s (op ∷ operations) [] = s
@@ -38,22 +41,22 @@ session_after_all around s (op ∷ operations) (reply ∷ replies) = session_aft
 
 -- ---- what the disk shows
 
--- the session is healthy, and has the tree that the disk's bytes show
+-- The session is healthy, and its tree is the one that the disk shows.
 pub record HasDiskTree (at : SystemState) : Type 0 where
   pub session : Session
   pub healthy : at.state ≡ Healthy session
   pub shows : ShowsTree at.disk (Some session.tree)
 
--- the disk is accepted, in the writing profile, and nothing is left to recover
+-- The disk is accepted and in the writing profile, and nothing is left to recover.
 pub record IsRecoveredDisk (disk : Disk) : Type 0 where
   pub pairs : List Pair
   pub accepted : IsAccepted disk pairs
   pub writable : IsWritable disk pairs
   pub recovered : IsRecovered pairs
 
--- ---- what is answered
+-- ---- replies
 
--- the queries of a session that need no open file
+-- Whether the operation is a query that needs no open file.
 abbrev pub is_query : Operation → Bool
 is_query (ops.ListAll path) = true
 is_query (ops.Stat path) = true
@@ -63,7 +66,7 @@ is_query (ops.IsUsed block) = true
 is_query ops.UsedCount = true
 is_query _ = false
 
--- the reply is the one that a session just mounted from the disk's bytes gives
+-- The reply is what a session just mounted from the disk would reply.
 pub record IsFreshReply (at : SystemState) (op : Operation) (reply : Reply) : Type 0 where
   pub pairs : List Pair
   pub accepted : IsAccepted at.disk pairs
@@ -71,12 +74,13 @@ pub record IsFreshReply (at : SystemState) (op : Operation) (reply : Reply) : Ty
   pub surrounds : IsSummary at.disk pairs around
   pub is : reply ≡ (operation_result around (mounted_session (disk_tree at.disk pairs)) op).0
 
--- the bytes that a reader returns from a tree's file, from its position
+-- The reply to a read of up to `count` bytes at the position of an open reader, from the file in
+-- `tree`.
 abbrev pub read_reply : Tree → Option FileReader → ℕ → Reply
 read_reply tree None count = ops.Refused BadFile
 read_reply tree (Some r) count = ops.Bytes (take count (drop r.position (file_bytes (tree r.path))))
 
--- the reply has the bytes that the disk's tree has at the open reader's path
+-- The reply has the bytes of the disk's file at the path of the open reader.
 pub record IsReaderReply (at : SystemState) (fd count : ℕ) (reply : Reply) : Type 0 where
   pub pairs : List Pair
   pub accepted : IsAccepted at.disk pairs
@@ -86,7 +90,7 @@ pub record IsReaderReply (at : SystemState) (fd count : ℕ) (reply : Reply) : T
 
 -- ---- runs over joined lists
 
--- a run over joined lists, in two
+-- A run of the joined lists is a run of `operations`, followed by a run of `more`.
 pub record IsDividedRun (operations more : List Operation) (replies : List Reply) (a c : SystemState) : Type 0 where
   pub between : SystemState
   pub front : List Reply
@@ -97,11 +101,12 @@ pub record IsDividedRun (operations more : List Operation) (replies : List Reply
 
 -- ---- the headline
 
--- What any number of runs make of a session that had the tree of its disk. Each reply is the one that the definitions give. The
--- session has the tree that its disk shows to a fresh mount, and the open files that the accepted operations define. The session
--- answers as such a mount does of entries, attributes, used blocks and the global state. An open reader returns the bytes that
--- the disk has. An image stays in the writing profile. Where nothing was left to recover nothing is, and the global state is
--- zero.
+-- The following holds after any run from a session that had the tree of its disk. Each reply is the
+-- one defined. The session has the tree that a fresh mount of its disk would find, and the open
+-- files that the accepted operations define. It answers queries about entries, attributes, used
+-- blocks and the global state as a fresh mount would. An open reader returns the bytes on the disk.
+-- An image stays in the writing profile. If nothing was left to recover before the run, nothing is
+-- after it.
 pub record SessionMatchesDisk (from : SystemState) (operations : List Operation) (replies : List Reply) (at : SystemState) : Type 0 where
   pub answers : AreSteps from operations replies at
   pub shows : HasDiskTree at

@@ -1,5 +1,5 @@
--- Where slots are after an operation: in the pairs where they were. A pair is cut only where it must be, and dropped exactly
--- where it must be.
+-- Where the slots are after an operation: in the pairs where they were. A pair is split only if its
+-- slots don't fit, and dropped if and only if it has to be.
 use Rattle.std.specs.Prelude.{ℕ, zero, suc, ◌≡◌, ◌≢◌, ◌⊎◌, Bool, true, false, if◌then◌else◌, List, [], ◌∷◌, ◌++◌, Option, Some, None, is_none, unwrap_or, Any}
 use Rattle.std.specs.List.{flat_map}
 use Rattle.lfs_model.specs.format.Disk.{Disk}
@@ -19,6 +19,7 @@ use Rattle.lfs_model.specs.session.InDirectory.{all_slots}
 
 -- ---- which directories go
 
+-- The address of the directory of a slot, if the slot is a directory's.
 abbrev pub branch_addresses : Option Slot → List (ℕ × ℕ)
 branch_addresses None = []
 branch_addresses (Some s) = addresses (branch_address s.struct)
@@ -27,23 +28,25 @@ branch_addresses (Some s) = addresses (branch_address s.struct)
     addresses None = []
     addresses (Some at) = at ∷ []
 
--- the address of a directory that is removed, or that a rename replaces
+-- The address of a directory that the operation removes, or that a rename replaces.
 abbrev pub removed_addresses : List Pair → Operation → List (ℕ × ℕ)
 removed_addresses ps (ops.Remove path) = branch_addresses (slot_of ps (path_or_root path))
 removed_addresses ps (ops.Rename from to) = if same_path (path_or_root from) (path_or_root to) then [] else branch_addresses (slot_of ps (path_or_root to))
 removed_addresses ps _ = []
 
--- no path leads to the directory that begins there, or the operation removes it
+-- No path leads to the directory at the address `begin`, or the operation removes it.
 abbrev pub IsUnreachedOrRemoved : List Pair → Operation → ℕ × ℕ → Type 0
 IsUnreachedOrRemoved ps op begin = (IsReachedBySome ps begin → ⊥) ⊎ Any (λ at. same_pair begin at ≡ true) (removed_addresses ps op)
 
--- ---- what stands for each pair
+-- ---- what each pair becomes
 
+-- The content of the pair is within the limits of a written pair.
 abbrev pub FitsPair : Disk → Pair → Type 0
 FitsPair disk p = FitsInPair disk.block_size disk.page p.content
 
--- What a pair with the slots of d becomes. It stays alone where the slots fit; it is cut into itself and a new pair where they
--- don't. It is dropped where it has no slots and isn't the first of its directory, or where its directory is removed.
+-- A pair with the slots of `d` becomes these pairs. It stays if its slots fit, and is split into
+-- itself and a new pair if they don't. It is dropped if it has no slots and isn't the first of its
+-- directory, or if its directory is removed.
 abbrev pub PairBecomes : Disk → (first : Bool) → Type 0 → Pair → List Pair → Type 0
 PairBecomes disk first goes d [] = goes ⊎ ((first ≡ false) × (d.content.slots ≡ []))
 PairBecomes disk first goes d (q ∷ []) = (q.at ≡ d.at) × (q.content.slots ≡ d.content.slots) × FitsPair disk d × (goes → ⊥) × (first ≡ false → d.content.slots ≢ [])
@@ -51,15 +54,18 @@ PairBecomes disk first goes d (q ∷ f ∷ []) =
     (q.at ≡ d.at) × (all_slots (q ∷ f ∷ []) ≡ d.content.slots) × (FitsPair disk d → ⊥) × FitsPair disk q × FitsPair disk f × (goes → ⊥)
 PairBecomes disk first goes d (q ∷ f ∷ g ∷ ps) = ⊥
 
--- Where the directory of a pair begins. It begins where the directory of the pair before does, if that pair has a hard tail.
+-- The address of the directory of a pair: `from` if the directory began before the pair, otherwise
+-- the pair's address.
 abbrev pub directory_address : Option (ℕ × ℕ) → Pair → ℕ × ℕ
 directory_address from p = unwrap_or from p.at
 
+-- The address of the directory that the next pair continues, or None if the next pair begins a
+-- directory.
 abbrev pub continued_address : Option (ℕ × ℕ) → Pair → Option (ℕ × ℕ)
 continued_address from p = if is_hard_tail p.content.tail then Some (directory_address from p) else None
 
--- These lists of pairs are what the pairs ds become, a list for each. The first n pairs are before the root directory, and are
--- never dropped.
+-- Each of these lists is what one of the pairs becomes. The first `n` pairs come before the root
+-- directory, and are never dropped.
 abbrev pub PairsBecome : Disk → (ℕ × ℕ → Type 0) → ℕ → Option (ℕ × ℕ) → List Pair → List (List Pair) → Type 0
 PairsBecome disk goes n from [] [] = Unit {0}
 PairsBecome disk goes n from [] (now ∷ rest) = ⊥
@@ -67,12 +73,12 @@ PairsBecome disk goes n from (d ∷ ds) [] = ⊥
 PairsBecome disk goes zero from (d ∷ ds) (now ∷ rest) = PairBecomes disk (is_none from) (goes (directory_address from d)) d now × PairsBecome disk goes zero (continued_address from d) ds rest
 PairsBecome disk goes (suc n) from (d ∷ ds) (now ∷ rest) = PairBecomes disk true ⊥ d now × PairsBecome disk goes n None ds rest
 
--- The pairs ps become qs by the operation, on the new disk.
+-- The pairs `ps` become `qs` by the operation, on the disk `new`.
 pub record IsLayout (disk : Disk) (ps : List Pair) (s : Session) (op : Operation) (new : Disk) (qs : List Pair) : Type 0 where
-  -- the pairs with the slots that they are to hold
+  -- The pairs with the slots that they are to have, before any split.
   pub drafts : List Pair
   pub parts : List (List Pair)
-  -- the pair that is added, and where
+  -- The pair that is added, and the pairs before and after it.
   pub front : List Pair
   pub fresh : List Pair
   pub back : List Pair
@@ -81,8 +87,8 @@ pub record IsLayout (disk : Disk) (ps : List Pair) (s : Session) (op : Operation
   pub joined : flat_map (λ part. part) parts ≡ front ++ back
   pub is : qs ≡ front ++ (fresh ++ back)
 
--- A recovery comes first, and leaves an accepted disk with nothing to recover. The pairs ps become that disk's pairs, and these
--- become qs by the operation.
+-- A recovery comes first, and leaves an accepted disk with nothing to recover. It turns the pairs
+-- `ps` into `between`, and the operation turns these into `qs`.
 pub record IsLayoutRecovered (disk : Disk) (ps : List Pair) (s : Session) (op : Operation) (new : Disk) (qs : List Pair) : Type 0 where
   pub middle : Disk
   pub between : List Pair

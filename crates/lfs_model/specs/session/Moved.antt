@@ -1,4 +1,5 @@
--- Pairs that move because they are worn. After an operation at most one does, and none where the profile gives no cycles.
+-- Pairs that move because they are worn. After an operation at most one does, and none does if the
+-- profile has no `pair_cycles`.
 use Rattle.std.specs.Prelude.{ℕ, ◌≡◌, ◌≤◌, ◌*◌, ◌%◌, ◌==◌, ◌&&◌, ◌⊎◌, not, Bool, true, false, List, [], ◌∷◌, ◌++◌, length, take, Option, Some, None, All, Any, Contains}
 use Rattle.lfs_model.specs.format.Blocks.{Blocks}
 use Rattle.lfs_model.specs.format.Disk.{Disk, SameGeometry, block_count}
@@ -15,35 +16,35 @@ use Rattle.lfs_model.specs.session.Layout.{IsLayoutRecovered}
 
 -- ---- which pairs are worn
 
--- so many cycles are given, and the block's revision is a multiple of them
+-- Whether `cycles` isn't 0, and the revision count of the block is a multiple of it.
 abbrev pub is_worn_block : ℕ → Option (List ℕ) → Bool
 is_worn_block cycles None = false
 is_worn_block cycles (Some block) = not (cycles == 0) && block_revision block % cycles == 0
 
--- the block of the pair that holds is worn
+-- Whether the active block of the pair is worn.
 abbrev pub is_worn : Disk → Pair → Bool
 is_worn disk p = is_worn_block disk.profile.pair_cycles (current_block disk p.at)
 
--- ---- where it moves
+-- ---- how a pair moves
 
--- no pair and no file has a block of the address
+-- No pair and no file uses a block of the pair at the address.
 abbrev pub AreUnused : Disk → List Pair → ℕ × ℕ → Type 0
 AreUnused disk ps at = All (λ b. Contains (used_blocks disk ps) b → ⊥) (address_blocks at)
 
--- at least an eighth of the blocks isn't used
+-- At least an eighth of the blocks is free.
 abbrev pub EighthFree : Disk → List Pair → Type 0
 EighthFree disk ps = 8 * length (used_blocks disk ps) ≤ 7 * block_count disk
 
--- the pair with these slots, and a hard tail to that address
+-- The pair with these slots, and with a hard tail to the address.
 abbrev pub pair_joined_to : ℕ × ℕ → List Slot → Pair → Pair
 pair_joined_to to slots p = record p { content = record p.content { slots = slots; tail = Some (record { hard = true; to = to }) } }
 
--- the pair at another address, without its delta of the global state
+-- The pair at another address, with a zero delta of the global state.
 abbrev pub pair_behind : ℕ × ℕ → Pair → Pair
 pair_behind to p = record { at = to; content = record p.content { move = zero_gstate } }
 
--- A pair that a hard tail names moves whole: with its slots, its tail and its delta of the global state. The tail before names its
--- new place. The old blocks are free.
+-- A pair that a hard tail points to moves whole: its slots, its tail and its delta of the global
+-- state. The tail before it points to its new address. Its old blocks are free.
 pub record IsPairMoved (disk : Disk) (ps qs : List Pair) : Type 0 where
   pub front : List Pair
   pub before : Pair
@@ -56,7 +57,8 @@ pub record IsPairMoved (disk : Disk) (ps qs : List Pair) : Type 0 where
   pub unused : AreUnused disk ps to
   pub due : is_worn disk worn ≡ true
 
--- The first pair of a directory other than the root stays without slots. All go to a pair behind it.
+-- The first pair of a directory other than the root keeps none of its slots. They move to a new
+-- pair, linked by a hard tail.
 pub record IsPairUnloaded (disk : Disk) (ps : List Pair) (new : Disk) (qs : List Pair) : Type 0 where
   pub front : List Pair
   pub before : Pair
@@ -71,8 +73,9 @@ pub record IsPairUnloaded (disk : Disk) (ps : List Pair) (new : Disk) (qs : List
   pub room : EighthFree new qs
   pub due : is_worn disk worn ≡ true
 
--- The thread's first pair, with which the root directory begins, stays with its superblock. The root directory begins behind it,
--- with all slots and a superblock of its own.
+-- The thread's first pair, which is also the first of the root directory, keeps only its
+-- superblock. The root directory then begins at a new pair, linked by a hard tail, with all slots,
+-- including a superblock.
 pub record IsRootUnloaded (disk : Disk) (ps : List Pair) (new : Disk) (qs : List Pair) : Type 0 where
   pub worn : Pair
   pub back : List Pair
@@ -84,21 +87,22 @@ pub record IsRootUnloaded (disk : Disk) (ps : List Pair) (new : Disk) (qs : List
   pub room : EighthFree new qs
   pub due : is_worn disk worn ≡ true
 
+-- One worn pair moves, or its slots move to a new pair.
 abbrev pub IsMoved : Disk → List Pair → Disk → List Pair → Type 0
 IsMoved disk ps new qs = IsPairMoved disk ps qs ⊎ (IsPairUnloaded disk ps new qs ⊎ IsRootUnloaded disk ps new qs)
 
--- nothing moves, or one worn pair does
+-- Nothing changes, or one worn pair or its slots move.
 abbrev pub IsWearSpread : Disk → List Pair → Disk → List Pair → Type 0
 IsWearSpread disk ps new qs = ((new ≡ disk) × (qs ≡ ps)) ⊎ IsMoved disk ps new qs
 
 -- ---- after an operation
 
--- a device had these blocks before these calls, after them, or after one of them
+-- The device held `blocks` before these calls, after them, or after one of them.
 abbrev pub HadBlocks : Disk → List CallEvent → Disk → Blocks → Type 0
 HadBlocks disk calls new blocks = (blocks ≡ disk.blocks) ⊎ ((blocks ≡ new.blocks) ⊎ Any (λ e. e.after ≡ blocks) calls)
 
--- The operation comes first, and leaves an accepted disk between its calls. Its pairs are where it lays them out. Then at most one
--- of them moves.
+-- The calls of the operation at some point leave an accepted disk `done`, on which the operation is
+-- complete and its slots are laid out. After that, at most one worn pair or its slots move.
 pub record IsLayoutMoved (disk : Disk) (ps : List Pair) (s : Session) (op : Operation) (calls : List CallEvent) (new : Disk) (qs : List Pair) : Type 0 where
   pub done : Disk
   pub after : List Pair

@@ -1,4 +1,4 @@
--- What a recovery ends: a set move, the sync bit, and directories of the thread that no path leads to.
+-- What a recovery completes: a set move, the sync bit, and directories that no path leads to.
 use Rattle.std.specs.Prelude.{◌≡◌, Bool, true, false, not, List, All}
 use Rattle.lfs_model.specs.format.Slots.{zero_gstate}
 use Rattle.lfs_model.specs.format.Thread.{Pair, pairs_gstate}
@@ -8,16 +8,16 @@ use Rattle.lfs_model.specs.session.Operations as ops
 use Rattle.lfs_model.specs.session.Operations.{Operation}
 use Rattle.lfs_model.specs.session.Refusals.{path_or_root}
 
--- a path leads to every directory of the thread
+-- A path leads to every directory of the thread.
 abbrev pub AllReached : List Pair → Type 0
 AllReached ps = All (λ d. IsReachedBySome ps d.at) (all_directories ps)
 
--- nothing is left to recover
+-- Nothing is left to recover.
 pub record IsRecovered (ps : List Pair) : Type 0 where
   pub gstate : pairs_gstate ps ≡ zero_gstate
   pub reached : AllReached ps
 
--- these operations recover first, where no check refuses them
+-- Whether the operation recovers first, if no check refuses it.
 abbrev pub recovers_first : Operation → Bool
 recovers_first (ops.Open path flags) = flags.write
 recovers_first (ops.Mkdir path) = true

@@ -1,4 +1,4 @@
--- Which check refuses an operation: the first of them, in their order.
+-- The refusal of an operation: the first check that fails, in a fixed order.
 use Rattle.std.specs.Prelude.{ℕ, ◌+◌, Bool, true, false, not, ◌&&◌, ◌||◌, ◌==◌, nat_le, nat_lt, if◌then◌else◌, List, [], ◌∷◌, length, Option, Some, None, is_some, is_none, unwrap_or}
 use Rattle.std.specs.List.{list_any}
 use Rattle.lfs_model.specs.format.Disk.{profile_file_max, profile_attr_max}
@@ -14,14 +14,16 @@ abbrev pub is_root_path : Path → Bool
 is_root_path [] = true
 is_root_path (name ∷ p) = false
 
--- no entry has the path: it is none, or the root
+-- Whether the path is invalid, or the root, which is no entry.
 abbrev pub path_unusable : Option Path → Bool
 path_unusable None = true
 path_unusable (Some p) = is_root_path p
 
+-- The path that `bytes` denotes, or the root if it is invalid.
 abbrev pub path_or_root : List ℕ → Path
 path_or_root bytes = unwrap_or (parse_path bytes) []
 
+-- The refusal of an open. `given` is None if the path is invalid, and then `p` is the root.
 abbrev pub open_refusal : DiskSummary → Session → Option Path → Path → FlagsOfOpen → Option Refusal
 open_refusal around s given p flags = first_refusal (
     refuse_if (flags.write && not around.writable) ReadOnly
@@ -39,6 +41,7 @@ open_refusal around s given p flags = first_refusal (
     ∷ refuse_if (flags.truncate && overfills_disk around (opened_writer p flags (file_bytes (s.tree p)))) NoSpace
     ∷ [])
 
+-- The refusal of a rename. `given_old` and `given_new` are None if that path is invalid.
 abbrev pub rename_refusal : DiskSummary → Session → Option Path → Option Path → Path → Path → Option Refusal
 rename_refusal around s given_old given_new old new = first_refusal (
     refuse_if (not around.writable) ReadOnly
@@ -55,7 +58,7 @@ rename_refusal around s given_old given_new old new = first_refusal (
     ∷ refuse_if (lacks_room around s.files 2) NoSpace
     ∷ [])
 
--- The first check that refuses the operation, or None
+-- The refusal by the first check that fails, or None if all checks pass.
 abbrev pub operation_refusal : DiskSummary → Session → Operation → Option Refusal
 operation_refusal around s (ops.Open path flags) = open_refusal around s (parse_path path) (path_or_root path) flags
 operation_refusal around s (ops.Read fd count) = refuse_if (is_none (file_reader (file_numbered s.files fd))) BadFile

@@ -1,4 +1,4 @@
--- What an operation makes of the slots of the pairs, before any pair is cut or dropped.
+-- How an operation changes the slots of the pairs, before any pair is split or dropped.
 use Rattle.std.specs.Prelude.{ℕ, ◌≡◌, ◌⊎◌, ◌≤◌, ◌<◌, true, false, List, [], ◌∷◌, ◌++◌, length, map, Option, Some, None}
 use Rattle.lfs_model.specs.format.Disk.{Disk, inline_limit}
 use Rattle.lfs_model.specs.format.Names.{Name}
@@ -13,14 +13,15 @@ use Rattle.lfs_model.specs.session.Operations.{Operation}
 use Rattle.lfs_model.specs.session.Session.{Session, OpenFile, Reading, Writing, file_numbered}
 use Rattle.lfs_model.specs.session.Refusals.{path_or_root}
 
+-- The pair `p` with other slots.
 abbrev pub pair_with_slots : List Slot → Pair → Pair
 pair_with_slots slots p = record { at = p.at; content = record { slots = slots; tail = p.content.tail; move = p.content.move } }
 
--- the pairs without the slot that a set move names
+-- The pairs without the slot of a set move.
 abbrev pub pairs_without_moved : List Pair → List Pair
 pairs_without_moved ps = map (λ p. pair_with_slots (slots_not_moved (pairs_gstate ps) p) p) ps
 
--- in one of the pairs some slots are replaced by others
+-- In one of the pairs, the slots `news` replace the slots `olds`.
 pub record ReplacesSlots (olds news : List Slot) (old new : List Pair) : Type 0 where
   pub before : List Pair
   pub pair : Pair
@@ -31,55 +32,61 @@ pub record ReplacesSlots (olds news : List Slot) (old new : List Pair) : Type 0 
   pub held : pair.content.slots ≡ left ++ (olds ++ right)
   pub is : new ≡ before ++ pair_with_slots (left ++ (news ++ right)) pair ∷ after
 
+-- The slot that a path leads to.
 abbrev pub slot_of : List Pair → Path → Option Slot
 slot_of ps path = slot_at_path (all_entries ps) (root_slot (root_address ps)) path
 
--- the slot of a path becomes another that has P
+-- A slot replaces the one at `path`, and `P` relates the old one to the new one.
 abbrev pub ReplacesSlot : (Slot → Slot → Type 0) → List Pair → Path → List Pair → List Pair → Type 0
 ReplacesSlot P ps path old new = (u v : Slot) × ((slot_of ps path ≡ Some u) × P u v × ReplacesSlots (u ∷ []) (v ∷ []) old new)
 
--- the struct gives these bytes: inline where they are at most the limit, else as a list
+-- The struct has these bytes: inline if they are within the inline limit, otherwise in a CTZ
+-- skip-list.
 abbrev pub GivesBytes : Disk → List ℕ → Struct → Type 0
 GivesBytes disk bytes (Inline own) = (own ≡ bytes) × (length bytes ≤ inline_limit disk.profile disk.block_size)
 GivesBytes disk bytes (Ctz head size) = (size ≡ length bytes) × (struct_list_bytes disk head size ≡ bytes) × (inline_limit disk.profile disk.block_size < length bytes)
 GivesBytes disk bytes (Branch to) = ⊥
 
+-- The slot of a new, empty file.
 abbrev pub file_slot : Name → Slot
 file_slot name = record { kind = File; name = name; struct = Inline []; attributes = [] }
 
+-- The slot of a new directory, whose first pair is at the address `to`.
 abbrev pub directory_slot : Name → ℕ × ℕ → Slot
 directory_slot name to = record { kind = Directory; name = name; struct = Branch to; attributes = [] }
 
--- the slot that was there is removed, if there was one
+-- The slot is removed, if there was one.
 abbrev pub RemovesSlot : Option Slot → List Pair → List Pair → Type 0
 RemovesSlot None old new = new ≡ old
 RemovesSlot (Some u) old new = ReplacesSlots (u ∷ []) [] old new
 
+-- The slot of an empty file is added, if there was no node.
 abbrev pub AddsFile : Option Node → Name → List Pair → List Pair → Type 0
 AddsFile None name old new = ReplacesSlots [] (file_slot name ∷ []) old new
 AddsFile (Some node) name old new = new ≡ old
 
--- the slot moves with its struct and attributes, and gets another name
+-- The slot moves with its struct and attributes, gets its new name, and replaces the slot at `to`,
+-- if there was one.
 abbrev pub MovesSlot : List Pair → Path → Path → List Pair → List Pair → Type 0
 MovesSlot ps from to old new = (u : Slot) × (left cleared : List Pair)
     × ((slot_of ps from ≡ Some u) × ReplacesSlots (u ∷ []) [] old left × RemovesSlot (slot_of ps to) left cleared
     × ReplacesSlots [] (record u { name = last_name to } ∷ []) cleared new)
 
--- a directory's slot is added, and the directory's pair
+-- The slot of a directory is added. The directory has one new pair, without slots.
 abbrev pub AddsDirectory : Name → List Pair → List Pair → List Pair → Type 0
 AddsDirectory name [] old new = ⊥
 AddsDirectory name (p ∷ []) old new = (p.content.slots ≡ []) × ReplacesSlots [] (directory_slot name p.at ∷ []) old new
 AddsDirectory name (p ∷ q ∷ fresh) old new = ⊥
 
--- a dirty writer's contents are stored in its slot
+-- The contents of a dirty writer are stored in its slot.
 abbrev pub StoresWriter : Disk → List Pair → Option OpenFile → List Pair → List Pair → Type 0
 StoresWriter disk ps None old new = new ≡ old
 StoresWriter disk ps (Some (Reading r)) old new = new ≡ old
 StoresWriter disk ps (Some (Writing w)) old new = (w.dirty ≡ false × (new ≡ old))
     ⊎ (w.dirty ≡ true × ReplacesSlot (λ u v. (v ≡ record u { struct = v.struct }) × GivesBytes disk w.contents v.struct) ps w.path old new)
 
--- What the operation makes of the slots. The pairs before it are `ps`, the pair that it adds is `fresh`, and the disk after it is
--- `disk`.
+-- The operation changes the slots of the pairs from `old` to `new`. The pairs before the operation
+-- are `ps`, the pair that it adds is `fresh`, and the disk after it is `disk`.
 abbrev pub EditsSlots : Disk → List Pair → Session → Operation → List Pair → List Pair → List Pair → Type 0
 EditsSlots disk ps s (ops.Open path flags) fresh old new = (fresh ≡ []) × AddsFile (s.tree (path_or_root path)) (last_name (path_or_root path)) old new
 EditsSlots disk ps s (ops.Mkdir path) fresh old new = AddsDirectory (last_name (path_or_root path)) fresh old new

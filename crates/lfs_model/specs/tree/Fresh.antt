@@ -1,4 +1,4 @@
--- A file system after a format: its superblock, and an empty root directory.
+-- A freshly formatted file system: a superblock and an empty root directory.
 use Rattle.std.specs.Prelude.{ℕ, ◌≡◌, List, [], ◌∷◌, Some, None, codes}
 use Rattle.std.specs.List.{flat_map}
 use Rattle.byteorder.specs.Endian.{little_bytes}
@@ -11,27 +11,31 @@ use Rattle.lfs_model.specs.format.Thread.{Pair, anchor_address}
 use Rattle.lfs_model.specs.tree.Tree.{Tree, DirectoryNode}
 use Rattle.lfs_model.specs.tree.View.{BeginsWith, superblock_entry}
 
--- version 2.0, block size, block count, and the profile's limits of names, files and attributes
+-- The data of a new superblock's struct: version 2.0, the block size, the number of blocks, and the
+-- profile's limits for names, files and attributes.
 abbrev pub superblock_bytes : Profile → ℕ → ℕ → List ℕ
 superblock_bytes profile block_size blocks = flat_map (little_bytes 4) (0x00020000 ∷ block_size ∷ blocks ∷ profile_name_max profile ∷ profile_file_max profile ∷ profile_attr_max profile ∷ [])
 
+-- The slot of a new superblock.
 abbrev pub superblock_slot : Profile → ℕ → ℕ → Slot
 superblock_slot profile block_size blocks = record { kind = Superblock; name = codes "littlefs"; struct = Inline (superblock_bytes profile block_size blocks); attributes = [] }
 
+-- The content of the only pair after formatting.
 abbrev pub fresh_content : Profile → ℕ → ℕ → PairContent
 fresh_content profile block_size blocks = record { slots = superblock_slot profile block_size blocks ∷ []; tail = None; move = zero_gstate }
 
--- the only pair of the thread
+-- The only pair of the thread after formatting.
 abbrev pub fresh_pair : Disk → Pair
 fresh_pair disk = record { at = anchor_address; content = fresh_content disk.profile disk.block_size (block_count disk) }
 
--- The pair {0, 1} holds the superblock and nothing else. The other blocks may have any bytes.
+-- The disk is freshly formatted: the pair {0, 1} has the superblock and nothing else. All other
+-- blocks may have any bytes.
 pub record IsFreshDisk (disk : Disk) : Type 0 where
   pub geometry : IsValidGeometry disk.block_size disk.page (block_count disk)
   pub content : content_at disk anchor_address ≡ Some (fresh_content disk.profile disk.block_size (block_count disk))
   pub first : BeginsWith (current_block disk anchor_address) superblock_entry
 
--- a root without entries
+-- The tree with an empty root directory and nothing else.
 abbrev pub empty_tree : Tree
 empty_tree [] = Some (DirectoryNode [] [])
 empty_tree (name ∷ path) = None

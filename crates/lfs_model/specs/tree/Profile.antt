@@ -1,4 +1,4 @@
--- The writing profile: which images are written, and may be changed.
+-- The writing profile: which images may be written to.
 use Rattle.std.specs.Prelude.{ℕ, ◌≡◌, ◌≢◌, ◌≤◌, ◌&&◌, nat_le, if◌then◌else◌, Bool, true, false, List, [], ◌∷◌, length, slice_get, Option, Some, None, All}
 use Rattle.std.specs.Option.{option_and_then}
 use Rattle.lfs_model.specs.declared.limits.Profile.{Profile}
@@ -11,54 +11,62 @@ use Rattle.lfs_model.specs.tree.View.{IsAccepted, first_pair_slots}
 
 -- ---- the writing profile
 
+-- An inline struct has at most `limit` bytes. Any other struct fits.
 abbrev pub InlineBytesFit : ℕ → Struct → Type 0
 InlineBytesFit limit (Inline bytes) = length bytes ≤ limit
 InlineBytesFit limit (Ctz head size) = Unit {0}
 InlineBytesFit limit (Branch to) = Unit {0}
 
--- a superblock has the profile's limits
+-- The inline struct of the superblock `s` has the limits of the profile.
 abbrev pub HasLimits : Profile → Slot → Type 0
 HasLimits profile s = (bytes : List ℕ) × ((s.struct ≡ Inline bytes)
     × ((superblock_fields bytes).name_max ≡ profile_name_max profile) × ((superblock_fields bytes).file_max ≡ profile_file_max profile) × ((superblock_fields bytes).attr_max ≡ profile_attr_max profile))
 
+-- The charge of the entry and its inline bytes are within the limits for writing.
 pub record IsWritableEntry (profile : Profile) (block_size page : ℕ) (s : Slot) : Type 0 where
   pub charge : entry_charge profile block_size s.name s.attributes ≤ charge_limit block_size page
   pub inline : InlineBytesFit (inline_limit profile block_size) s.struct
 
+-- If the slot is a superblock, it has the limits of the profile. Otherwise, it is within the limits
+-- for writing.
 abbrev pub IsWritableSlot : Profile → ℕ → ℕ → Slot → Type 0
 IsWritableSlot profile block_size page s = (is_superblock s ≡ true → HasLimits profile s) × (is_superblock s ≡ false → IsWritableEntry profile block_size page s)
 
--- a pair that a hard tail names has slots; `after` tells whether the pair before has a hard tail
+-- Each pair that a hard tail leads to has a slot. If `after` is true, a hard tail leads to the
+-- first of the pairs.
 abbrev pub HasNoEmpties : Bool → List Pair → Type 0
 HasNoEmpties after [] = Unit {0}
 HasNoEmpties after (p ∷ ps) = (after ≡ true → p.content.slots ≢ []) × HasNoEmpties (is_hard_tail p.content.tail) ps
 
+-- The image with the thread `ps` is within the limits of the writing profile.
 pub record IsWritable (disk : Disk) (ps : List Pair) : Type 0 where
   pub pairs : All (λ p. FitsInPair disk.block_size disk.page p.content) ps
   pub slots : All (λ p. All (IsWritableSlot disk.profile disk.block_size disk.page) p.content.slots) ps
   pub no_empty_pair : HasNoEmpties false (pairs_from_root ps)
 
--- the disk is accepted, and in the writing profile
+-- The disk is accepted, and in the writing profile.
 abbrev pub IsWritableDisk : Disk → Type 0
 IsWritableDisk disk = (ps : List Pair) × (IsAccepted disk ps × IsWritable disk ps)
 
--- ---- the limits that an image has
+-- ---- the limits in an image's superblock
 
+-- The superblock fields in the bytes of an inline struct.
 abbrev pub struct_fields : Struct → Option SuperblockFields
 struct_fields (Inline bytes) = Some (superblock_fields bytes)
 struct_fields (Ctz head size) = None
 struct_fields (Branch to) = None
 
--- the superblock with which the root directory begins
+-- The fields of the superblock at the beginning of the root directory, if it has one.
 abbrev pub image_fields : List Pair → Option SuperblockFields
 image_fields ps = option_and_then (λ s. struct_fields s.struct) (slice_get (first_pair_slots (pairs_from_root ps)) 0)
 
--- no limit is 0, or above what an image may have
+-- True if no limit is 0 or greater than the limit of the format.
 abbrev pub limits_usable : SuperblockFields → Bool
 limits_usable f =
     nat_le 1 f.name_max && nat_le f.name_max name_limit && nat_le 1 f.file_max && nat_le f.file_max size_limit
     && nat_le 1 f.attr_max && nat_le f.attr_max attribute_limit
 
--- the profile with the superblock's limits, where they can be used
+-- The profile with the limits of the superblock if they are usable, otherwise the profile
+-- unchanged.
 abbrev pub profile_with_limits : SuperblockFields → Profile → Profile
 profile_with_limits f profile = if limits_usable f then record profile { name_max = f.name_max; file_max = f.file_max; attr_max = f.attr_max } else profile

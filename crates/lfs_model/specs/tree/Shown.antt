@@ -1,4 +1,4 @@
--- What the pairs of a thread show: directories, paths, the tree, the blocks that are used.
+-- The content of a thread: directories, paths, the tree, and the used blocks.
 use Rattle.std.specs.Prelude.{ℕ, ◌≡◌, true, List, [], ◌++◌, Some}
 use Rattle.std.specs.List.{flat_map}
 use Rattle.lfs_model.specs.format.Disk.{Disk}
@@ -7,37 +7,43 @@ use Rattle.lfs_model.specs.format.SkipLists.{block_count_for, blocks_to_head, li
 use Rattle.lfs_model.specs.format.Thread.{Pair, pairs_gstate, pairs_blocks, pairs_from_root, root_address, slots_not_moved, ThreadDirectory, pair_directories, directory_slots}
 use Rattle.lfs_model.specs.tree.Tree.{Path, Tree, EntryMap, address_at_path, root_subtree}
 
--- ---- what the pairs show
+-- ---- the content of the pairs
 
+-- All directories of the thread, the root directory first.
 abbrev pub all_directories : List Pair → List ThreadDirectory
 all_directories ps = pair_directories (pairs_gstate ps) (pairs_from_root ps)
 
+-- The entries of the directory at each address.
 abbrev pub all_entries : List Pair → EntryMap
 all_entries ps = directory_slots (all_directories ps)
 
--- a directory is at that path
+-- The path leads to the directory at the address `at`.
 abbrev pub LeadsTo : List Pair → Path → ℕ × ℕ → Type 0
 LeadsTo ps path at = address_at_path (all_entries ps) (root_address ps) path ≡ Some at
 
--- a path leads to the directory that begins there
+-- Some path leads to the directory that begins with the pair at `first`.
 abbrev pub IsReachedBySome : List Pair → ℕ × ℕ → Type 0
 IsReachedBySome ps first = (path : Path) × (at : ℕ × ℕ) × (LeadsTo ps path at × (same_pair first at ≡ true))
 
--- the bytes that a list of that head and size has on the disk
+-- The bytes of the file on the disk whose CTZ skip-list has this head and size.
 abbrev pub struct_list_bytes : Disk → ℕ → ℕ → List ℕ
 struct_list_bytes disk head size = list_bytes disk.blocks disk.block_size head size
 
+-- The tree of the disk, whose thread is `ps`.
 abbrev pub disk_tree : Disk → List Pair → Tree
 disk_tree disk ps = root_subtree (struct_list_bytes disk) (all_entries ps) (root_address ps)
 
+-- The blocks of a struct's CTZ skip-list, or none for any other struct.
 abbrev pub struct_blocks : Disk → Struct → List ℕ
 struct_blocks disk (Ctz head size) = blocks_to_head disk.blocks (block_count_for disk.block_size size) head
 struct_blocks disk (Inline bytes) = []
 struct_blocks disk (Branch to) = []
 
--- the slots of all pairs, without the one that a set move names
+-- The slots of all pairs, without the one that counts as moved away.
 abbrev pub all_unmoved_slots : List Pair → List Slot
 all_unmoved_slots ps = flat_map (slots_not_moved (pairs_gstate ps)) ps
 
+-- The blocks of all pairs, and those of the CTZ skip-lists of all slots but the one that counts as
+-- moved away.
 abbrev pub used_blocks : Disk → List Pair → List ℕ
 used_blocks disk ps = pairs_blocks ps ++ flat_map (λ s. struct_blocks disk s.struct) (all_unmoved_slots ps)

@@ -9,6 +9,7 @@ use Rattle.std.specs.declared.alloc.Global.{Global}
 use Rattle.lfs_model.specs.layers.Cache.{CachedBlocks}
 use Rattle.lfs_blocks.specs.contracts.cache.Cache.{the_row}
 
--- the block has the bytes that were written last; if it wasn't cached, nothing changes
+-- After the borrow, block `b` of the cache has the bytes that were written through it. If the block
+-- wasn't cached, the cache is unchanged.
 abbrev pub lends_block : MutBor CachedBlocks → ℕ → Option (MutBor (Vec ℕ Global)) → Fml
 lends_block c b r = LendsIf the_row (vec.the_row u8 global.the_row ghosts) c r (λ w. set_value (nat_eq b) c.now w.items) c.now

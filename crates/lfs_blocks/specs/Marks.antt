@@ -1,4 +1,4 @@
--- The state of each of 64 blocks, by their marks.
+-- The states of 64 blocks, by their marks.
 use Rattle.std.specs.Prelude.{ℕ, ◌==◌, if◌then◌else◌}
 use Rattle.std.specs.Int.{bit_at}
 use Rattle.lfs_model.specs.layers.BlockSets.{BlockState}
@@ -12,7 +12,7 @@ use_view state.Free = Free
 use_view state.InFlight = InFlight
 use_view state.Used = Used
 
--- the state of the block at a bit
+-- The state of the block at the bit `place`.
 abbrev pub state_at_bit : Marks → ℕ → BlockState
 state_at_bit marks place =
     if bit_at marks.used place == 1 then Used

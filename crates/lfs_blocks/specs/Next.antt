@@ -2,13 +2,15 @@
 use Rattle.std.specs.Prelude.{ℕ, ◌≤◌, ◌<◌, ◌%◌, ◌⊎◌, Option, IfNone, IfSome, length}
 use Rattle.lfs_model.specs.layers.BlockSets.{BlockStates, IsFree}
 
--- the first free block from the block `from` on, where block 0 follows the last one
+-- Block `b` is the first free block from block `from` on, wrapping around from the last block to
+-- block 0.
 pub record IsNextFree (sets : BlockStates) (from b : ℕ) : Type 0 where
   pub free : IsFree sets b
   pub ahead : from ≤ b → (other : ℕ) → from ≤ other → other < b → ¬ (IsFree sets other)
   pub around : b < from → (other : ℕ) → (from ≤ other) ⊎ (other < b) → ¬ (IsFree sets other)
 
--- A search for free blocks that begins at a number, modulo the number of blocks, finds `first`: None if no block is free.
+-- A search for free blocks begins at `number`, modulo the number of blocks, and finds `first`: None
+-- if no block is free.
 pub record BeginsAt (sets : BlockStates) (number : ℕ) (first : Option ℕ) : Type 0 where
   pub next : IfSome first (IsNextFree sets (number % length sets))
   pub none : IfNone first ((block : ℕ) → ¬ (IsFree sets block))

@@ -11,16 +11,16 @@ use std::alloc::Global;
 use std::marker::Model;
 
 /// The state of each block of a device: free, used or in flight. A block in flight is allocated,
-/// but no commit names it yet. The map serves as littlefs's lookahead buffer does, for all blocks
-/// at once (DESIGN.md of littlefs, "The block allocator").
+/// but no commit refers to it yet. The map serves the purpose of littlefs's lookahead buffer, but
+/// covers all blocks at once (DESIGN.md of littlefs, "The block allocator").
 ///
-/// In contracts the map is the list of the blocks' states, by block number.
+/// In contracts, the map is the list of the blocks' states, indexed by block number.
 #[derive(Drop)]
 pub struct BlockMap {
     marks: Vec<Marks>,
     block_count: u32,
     used_count: u32,
-    // where the next search for a free block begins
+    // The number at which the next search for a free block begins, modulo the number of blocks.
     next: u32,
 }
 
@@ -37,10 +37,10 @@ impl Model for BlockMap {
 }
 
 impl BlockMap {
-    /// Makes a map of the blocks below `block_count`, all of them free. Allocates 16 bytes for
-    /// every 64 blocks; no other call allocates memory.
+    /// Makes a map of `block_count` blocks, all of them free. Allocates 16 bytes for every 64
+    /// blocks. No other method allocates memory.
     ///
-    /// Errors: `NoMemory` if that memory isn't granted.
+    /// Errors: `NoMemory` if memory can't be allocated.
     pub fn new(alloc: Global, block_count: u32) -> Result<BlockMap, Error>
         ensures free { IfOk result (λ map. map ≡ replicate block_count Free) }
         ensures error { IfErr result (λ e. e ≡ Error.NoMemory) }
@@ -54,14 +54,14 @@ impl BlockMap {
         })
     }
 
-    /// Returns the number of blocks of the map.
+    /// Returns the number of blocks in the map.
     pub fn block_count(&self) -> u32
         ensures { result ≡ length self.now }
     {
         self.block_count
     }
 
-    /// Returns whether a block is used. A block in flight isn't. Requires a block below
+    /// Returns whether a block is used. A block in flight isn't used. Requires a block number below
     /// [`block_count`](BlockMap::block_count).
     pub fn is_used(&self, block: u32) -> bool
         requires { block < length self.now }
@@ -70,7 +70,7 @@ impl BlockMap {
         self.state(block).is_used()
     }
 
-    /// Returns whether a block is in flight. Requires a block below
+    /// Returns whether a block is in flight. Requires a block number below
     /// [`block_count`](BlockMap::block_count).
     pub fn is_in_flight(&self, block: u32) -> bool
         requires { block < length self.now }
@@ -79,7 +79,7 @@ impl BlockMap {
         self.state(block).is_in_flight()
     }
 
-    /// Returns whether a block is free. Requires a block below
+    /// Returns whether a block is free. Requires a block number below
     /// [`block_count`](BlockMap::block_count).
     pub fn is_free(&self, block: u32) -> bool
         requires { block < length self.now }
@@ -88,14 +88,15 @@ impl BlockMap {
         self.state(block) == BlockUse::Free
     }
 
-    /// Returns the number of used blocks. Blocks in flight don't count.
+    /// Returns the number of used blocks, not counting blocks in flight.
     pub fn used_count(&self) -> u32
         ensures { result ≡ used_count self.now }
     {
         self.used_count
     }
 
-    /// Marks a free block as used. Returns false, and changes nothing, if the block wasn't free.
+    /// Marks a free block as used and returns true. If the block isn't free, returns false and
+    /// changes nothing.
     pub fn mark(&mut self, block: u32) -> bool
         requires { block < length self.old }
         ensures free { IsTrue result ↔ IsFree self.old block }
@@ -109,12 +110,11 @@ impl BlockMap {
         is_free
     }
 
-    /// Allocates a free block, which is in flight until it is settled or released. Returns None
-    /// exactly if no block is free.
+    /// Allocates a free block, which is in flight until it is settled or released. Returns None if
+    /// and only if no block is free.
     ///
-    /// The search begins behind the block that was allocated last, or where
-    /// [`start_search_at`](BlockMap::start_search_at) set it, and wraps around at the end of the
-    /// device.
+    /// The search for a free block begins at [`next_start`](BlockMap::next_start) and wraps around
+    /// after the last block.
     pub fn take(&mut self) -> Option<u32>
         ensures was_free { IfSome result (IsFree self.old) }
         ensures taken { IfSome result (λ block. self.new ≡ slice_set self.old block InFlight) }
@@ -125,8 +125,8 @@ impl BlockMap {
         self.take_from(number)
     }
 
-    /// Allocates the first free block from `number` on, modulo the number of blocks. The search
-    /// wraps around at the end of the device. Returns None exactly if no block is free.
+    /// Allocates the first free block at or after `number`, modulo the number of blocks. The search
+    /// wraps around after the last block. Returns None if and only if no block is free.
     pub fn take_from(&mut self, number: u32) -> Option<u32>
         ensures next { IfSome result (IsNextFree self.old (number % length self.old)) }
         ensures taken { IfSome result (λ block. self.new ≡ slice_set self.old block InFlight) }
@@ -139,9 +139,10 @@ impl BlockMap {
         Some(block)
     }
 
-    /// Sets where the search of [`take`](BlockMap::take) begins: at the first free block from
-    /// `number` on, which it returns and doesn't allocate. No block changes its state. Returns None
-    /// exactly if no block is free; the search then begins at `number`.
+    /// Makes the next search of [`take`](BlockMap::take) begin at the first free block at or after
+    /// `number`, modulo the number of blocks. Returns the first free block without allocating it,
+    /// and changes no block's state. If no block is free, returns None, and the search begins at
+    /// `number`.
     pub fn start_search_at(&mut self, number: u32) -> Option<u32>
         ensures next { IfSome result (IsNextFree self.old (number % length self.old)) }
         ensures none { IfNone result ((block : ℕ) → ¬ (IsFree self.old block)) }
@@ -152,14 +153,15 @@ impl BlockMap {
         block
     }
 
-    /// Returns the number at which the search of [`take`](BlockMap::take) begins, modulo the number
-    /// of blocks.
+    /// Returns the number at which the next search of [`take`](BlockMap::take) begins, modulo the
+    /// number of blocks. The search begins after the block that `take` or `take_from` allocated
+    /// last, unless [`start_search_at`](BlockMap::start_search_at) has moved its start.
     pub fn next_start(&self) -> u32 {
         self.next
     }
 
-    /// Allocates this free block, which is then in flight. The search of [`take`](BlockMap::take)
-    /// still begins where it did.
+    /// Allocates the free block `block`, which is then in flight. Doesn't change where the next
+    /// search of [`take`](BlockMap::take) begins.
     pub fn take_at(&mut self, block: u32)
         requires { IsFree self.old block }
         ensures { self.new ≡ slice_set self.old block InFlight }
@@ -167,7 +169,7 @@ impl BlockMap {
         self.set_block_state(block, BlockUse::InFlight);
     }
 
-    /// Makes a block free, whether it was used, in flight or free.
+    /// Makes a block free, whatever its state is.
     pub fn release(&mut self, block: u32)
         requires { block < length self.old }
         ensures { self.new ≡ slice_set self.old block Free }
@@ -175,7 +177,7 @@ impl BlockMap {
         self.set_block_state(block, BlockUse::Free);
     }
 
-    /// Makes a block in flight used, once a commit names it.
+    /// Marks a block in flight as used. Callers settle a block once a commit refers to it.
     pub fn settle(&mut self, block: u32)
         requires { IsInFlight self.old block }
         ensures { self.new ≡ slice_set self.old block Used }
@@ -201,7 +203,8 @@ impl BlockMap {
         self.used_count += u32::from(state.is_used());
     }
 
-    // Returns the first free block from a number on, wrapping around at the end of the device.
+    // Returns the first free block at or after `number`, modulo the number of blocks. Wraps around
+    // after the last block.
     fn next_free(&self, number: u32) -> Option<u32>
         ensures next { IfSome result (IsNextFree self.now (number % length self.now)) }
         ensures not_last { IfSome result (λ block. block < u32.MAX) }
@@ -216,7 +219,7 @@ impl BlockMap {
         }
     }
 
-    // Returns the first free block from a block on, without wrapping around.
+    // Returns the first free block at or after `start`, without wrapping around.
     fn first_free_from(&self, start: u32) -> Option<u32>
         requires { start ≤ length self.now }
         ensures found { IfSome result (IsFree self.now) }

@@ -19,9 +19,9 @@ use std::num::NonZeroUsize;
 
 /// A cache of at most eight blocks of a device, each with the bytes that it had when it was read.
 ///
-/// In contracts the cache is a list of block numbers with their bytes, the most recent block first.
-/// The cache doesn't notice changes of the device: a caller that programs or erases a block first
-/// calls [`Cache::forget`], or writes the same bytes through [`Cache::lend_mut`].
+/// In contracts, the cache is a list of block numbers and their bytes, with the most recent block
+/// first. The cache doesn't notice changes to the device. Before programming or erasing a block, a
+/// caller must call [`Cache::forget`] or write the same bytes through [`Cache::lend_mut`].
 #[derive(Drop)]
 pub struct Cache {
     alloc: Global,
@@ -42,9 +42,9 @@ impl Model for Cache {
 impl Cache {
     ghost use Rattle.lfs_blocks.specs.CacheLends.{lends_block};
 
-    /// Makes an empty cache with room for eight entries.
+    /// Makes an empty cache with memory for eight entries.
     ///
-    /// Errors: `NoMemory` if that room isn't granted.
+    /// Errors: `NoMemory` if memory can't be allocated.
     pub fn new(alloc: Global) -> Result<Cache, Error>
         ensures empty { IfOk result (λ cache. cache ≡ []) }
         ensures error { IfErr result (λ e. e ≡ Error.NoMemory) }
@@ -54,12 +54,13 @@ impl Cache {
         Ok(Cache { alloc, recent })
     }
 
-    /// Makes `block` the most recent block of the cache. If it isn't cached, it is read whole, by
-    /// one read of the device; the least recent of eight blocks then leaves the cache. If it is
-    /// cached, nothing is read or allocated. Requires a block below the device's number of blocks.
+    /// Makes `block` the most recent block of the cache. A block that isn't cached is read whole,
+    /// with one read of the device. If the cache already has eight other blocks, it evicts the
+    /// least recent one. For a cached block, `fill` reads and allocates nothing. Requires a block
+    /// number below the device's number of blocks.
     ///
-    /// Errors: `Io` if the read fails, `NoMemory` if memory for the block isn't granted. After
-    /// either the cache is as before.
+    /// Errors: `Io` if the read fails. `NoMemory` if memory for the block can't be allocated. After
+    /// an error, the cache is unchanged.
     pub fn fill<D: BlockDevice>(&mut self, device: &mut D, block: u32) -> Result<(), Error>
         requires { block < (D.geometry device.old).block_count }
         ensures filled { OnOk result (self.new
@@ -77,13 +78,14 @@ impl Cache {
         Ok(())
     }
 
-    /// Fills the buffer with the bytes of a block from `offset` on. If the block is cached, the
-    /// device isn't called, and the cache stays as it is. Otherwise the block is read whole, by one
-    /// read, and becomes the most recent block of the cache. If memory for that isn't granted, only
-    /// these bytes are read, and the cache stays as it is.
+    /// Fills the buffer with the bytes of a block, starting at `offset`. If the block is cached,
+    /// `read` neither calls the device nor changes the cache. Otherwise, the whole block is read
+    /// with one read of the device and becomes the most recent block of the cache. If memory for
+    /// the block can't be allocated, only the requested bytes are read, and the cache doesn't
+    /// change.
     ///
-    /// Requires a block below the device's number of blocks, and bytes within the block. If the
-    /// block is cached, its bytes must be those that the device has.
+    /// Requires a block number below the device's number of blocks, and a range within the block.
+    /// If the block is cached, its cached bytes must equal the bytes on the device.
     ///
     /// Errors: `Io` if the read fails.
     pub fn read<D: BlockDevice>(
@@ -115,8 +117,8 @@ impl Cache {
         }
     }
 
-    /// Borrows the bytes of a cached block. Returns None if the block isn't cached. The block
-    /// doesn't become more recent.
+    /// Borrows the bytes of a cached block without making it more recent. Returns None if the block
+    /// isn't cached.
     pub fn lend(&self, block: u32) -> Option<&[u8]>
         ensures { option_copied result ≡ cached_bytes self.now block }
     {
@@ -126,8 +128,8 @@ impl Cache {
         }
     }
 
-    /// Borrows the bytes of a cached block to change them. Returns None if the block isn't cached.
-    /// The block doesn't become more recent.
+    /// Mutably borrows the bytes of a cached block without making it more recent. Returns None if
+    /// the block isn't cached.
     pub fn lend_mut(&mut self, block: u32) -> Option<&mut Vec<u8>>
         ensures* lends { sem 𝓛 (lends_block self.entry block result) }
         ensures bytes { option_map (λ v. v.items) (option_copied_mut result) ≡ cached_bytes self.old block }
@@ -135,7 +137,7 @@ impl Cache {
         self.recent.peek_mut(&block)
     }
 
-    /// Removes a block from the cache, if it is cached. Doesn't call the device or allocate memory.
+    /// Removes a block from the cache if it is cached. Doesn't call the device or allocate memory.
     pub fn forget(&mut self, block: u32)
         ensures { self.new ≡ cache_without self.old block }
     {
@@ -149,8 +151,8 @@ impl Cache {
         self.recent.clear();
     }
 
-    /// Removes the blocks that aren't used in the map from the cache. Doesn't call the device or
-    /// allocate memory.
+    /// Removes all blocks from the cache that `map` doesn't mark as used. Doesn't call the device
+    /// or allocate memory.
     pub fn forget_unused(&mut self, map: &BlockMap)
         ensures { KeepsUsed map.now self.old self.new }
     {
@@ -163,7 +165,7 @@ impl Cache {
         self.clear();
     }
 
-    // Returns a cached block that isn't used in the map, if there is one.
+    // Returns a cached block that `map` doesn't mark as used, if there is one.
     fn find_unused(&self, map: &BlockMap) -> Option<u32>
         ensures { IfNone result (AreCachedUsed map.now self.now) }
     {
@@ -175,8 +177,9 @@ impl Cache {
         None
     }
 
-    // Caches a block with these bytes as the most recent one, if memory for its entry is granted.
-    // The least recent of eight blocks then leaves the cache. Requires that the block isn't cached.
+    // Caches a block with these bytes as the most recent one, if memory for its entry can be
+    // allocated. If the cache already has eight blocks, evicts the least recent one. Requires that
+    // the block isn't cached.
     fn keep(&mut self, block: u32, bytes: Vec<u8>)
         requires { cached_bytes self.old block ≡ None }
         ensures { (self.new ≡ self.old) ⊎ (self.new ≡ cache_with self.old block bytes.items) }
@@ -187,7 +190,7 @@ impl Cache {
         }
     }
 
-    // Makes a cached block the most recent one. Returns whether the block is cached.
+    // Makes a block the most recent one if it is cached. Returns whether the block is cached.
     fn promote(&mut self, block: u32) -> bool
         ensures cached_log { result ≡ is_some (cached_bytes self.old block) }
         ensures first { OnTrue result ((other : List ℕ) → self.new ≡ cache_with self.old block (unwrap_or (cached_bytes self.old block) other)) }
@@ -197,8 +200,8 @@ impl Cache {
         self.recent.promote(&block)
     }
 
-    // Caches a block as the most recent one. The least recent of eight blocks then leaves the
-    // cache. Requires that the block isn't cached.
+    // Caches a block as the most recent one. If the cache already has eight blocks, evicts the
+    // least recent one. Requires that the block isn't cached.
     fn add_uncached_block(&mut self, block: u32, bytes: Vec<u8>) -> Result<(), Error>
         requires { cached_bytes self.old block ≡ None }
         ensures first { OnOk result (self.new ≡ cache_with self.old block bytes.items) }
@@ -211,14 +214,14 @@ impl Cache {
     }
 }
 
-// Returns whether the map has this block, and has it as used.
+// Returns whether the map includes this block and marks it as used.
 fn is_used_among(map: &BlockMap, block: u32) -> bool
     ensures { result ≡ true → IsUsedBlock map.now block }
 {
     block < map.block_count() && map.is_used(block)
 }
 
-// Fills the buffer with the bytes from an offset on.
+// Fills the buffer with the bytes that start at `offset`.
 fn copy_range(bytes: &[u8], offset: u32, buf: &mut [u8])
     requires { offset + length buf.old ≤ length bytes.now }
     ensures { buf.new ≡ slice_range bytes.now offset (offset + length buf.old) }
@@ -228,7 +231,7 @@ fn copy_range(bytes: &[u8], offset: u32, buf: &mut [u8])
     buf.copy_from_slice(&bytes[start..end]);
 }
 
-// Fills the buffer with the bytes of a block on the device, from an offset on.
+// Fills the buffer with the bytes of a block on the device, starting at `offset`.
 fn read_range<D: BlockDevice>(
     device: &mut D,
     block: u32,

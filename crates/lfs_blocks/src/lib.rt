@@ -1,6 +1,6 @@
 // SPDX-License-Identifier: BSD-3-Clause
-//! The blocks of a device: the state of each, free, used or in flight, and a cache of those read
-//! last.
+//! Keeps track of the state of each block of a device (free, in flight or used), and caches the
+//! blocks that were read last.
 #![tactic(auto)]
 
 mod block_map;

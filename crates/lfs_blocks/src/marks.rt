@@ -1,4 +1,4 @@
-//! The states of 64 blocks in two words.
+//! The states of 64 blocks, stored in two words.
 
 ghost use Rattle.std.specs.Prelude.{◌≡◌, ◌≢◌, ℕ, ◌<◌, ◌≤◌, IfNone, IfSome};
 ghost use Rattle.lfs_model.specs.layers.BlockSets.{state_in_flight, is_used};
@@ -27,8 +27,8 @@ impl BlockUse {
     }
 }
 
-/// The states of 64 consecutive blocks. Bit `k` of each word is that of block `k`, counted from the
-/// first one.
+/// The states of 64 consecutive blocks. Bit `k` of each word belongs to block `k`, counted from the
+/// first of the 64 blocks.
 #[derive(Clone, Copy)]
 pub struct Marks {
     used: u64,
@@ -36,7 +36,7 @@ pub struct Marks {
 }
 
 impl Marks {
-    /// Makes marks of 64 free blocks.
+    /// Returns the marks of 64 free blocks.
     pub fn all_free() -> Marks
         ensures { (place : ℕ) → state_at_bit result place ≡ Free }
     {
@@ -60,7 +60,7 @@ impl Marks {
         }
     }
 
-    /// Returns the marks with the block of bit `place` in this state.
+    /// Returns the marks after the block at bit `place` is set to `state`.
     pub fn with_state(self, place: u32, state: BlockUse) -> Marks
         requires { place < 64 }
         ensures here { state_at_bit result place ≡ use_view state }
@@ -82,7 +82,8 @@ impl Marks {
         }
     }
 
-    /// Returns the bit of the first free block from the bit `start` on.
+    /// Returns the bit of the first free block at or after bit `start`, or None if no such block is
+    /// free.
     pub fn first_free(self, start: u32) -> Option<u32>
         requires { start < 64 }
         ensures found { IfSome result (λ place. state_at_bit self place ≡ Free) }

@@ -12,13 +12,13 @@ use crate::read::pointer_count_at;
 use byteorder::{ByteOrder, LittleEndian};
 use lfs_device::{BlockDevice, Error};
 
-/// The full blocks of a list that is being extended.
+/// The full blocks of a CTZ skip-list that is being extended.
 #[derive(Clone, Copy)]
 pub(crate) struct FullBlocks {
     pub count: u32,
-    /// The last of them, if there is one.
+    /// The address of the last full block, if there is one.
     pub head: u32,
-    /// An index cache of the blocks that later blocks' pointers name.
+    /// An index cache of the blocks to which the pointers of later blocks refer.
     pub known: KnownBlocks,
 }
 
@@ -36,8 +36,8 @@ impl FullBlocks {
         }
     }
 
-    // Starts from the full blocks before the list's block at an index. `bytes` begins with that
-    // block's pointers, which fill the index cache. The cache must be empty.
+    // Starts with the full blocks before the list's block at `index`. `bytes` begins with the
+    // pointers of that block, which are added to the index cache. Requires that the cache is empty.
     pub(crate) fn begin_before_block(&mut self, index: u32, bytes: &[u8])
         requires none { OnlyBelowKnown 0 self.old.known }
         requires pointers { 4 * pointer_count index ≤ length bytes.now }
@@ -58,7 +58,7 @@ impl FullBlocks {
         }
     }
 
-    // Adds a full block at the end.
+    // Appends a full block.
     pub(crate) fn add(&mut self, block: u32)
         requires few { self.old.count < 2 ^ 31 }
         requires below { OnlyBelowKnown self.old.count self.old.known }
@@ -73,7 +73,7 @@ impl FullBlocks {
     }
 }
 
-// Writes a little-endian word at an offset.
+// Writes a little-endian 32-bit word at an offset.
 fn write_word(buf: &mut [u8], at: usize, word: u32)
     requires { at + 4 ≤ length buf.old }
     ensures { buf.new ≡ take at buf.old ++ (little_bytes 4 word ++ drop (at + 4) buf.old) }
@@ -81,8 +81,8 @@ fn write_word(buf: &mut [u8], at: usize, word: u32)
     LittleEndian::write_u32(&mut buf[at..], word);
 }
 
-// Writes the pointers of the next block of a list to the start of the buffer. The blocks that are
-// found by reads for that go to the index cache.
+// Writes the pointers of the list's next block to the start of the buffer. Adds the blocks that are
+// found by reads to the index cache.
 fn write_pointers<D: BlockDevice>(
     dev: &mut D,
     front: &mut FullBlocks,
@@ -108,8 +108,8 @@ fn write_pointers<D: BlockDevice>(
     Ok(())
 }
 
-// Erases a block and programs it with the buffer up to `end`, as the next block of a list. Fills in
-// its pointers at the start of the buffer.
+// Writes the pointers of the list's next block to the start of the buffer. Then erases `block` and
+// programs it with the buffer up to offset `end`.
 pub(crate) fn write_block<D: BlockDevice>(
     dev: &mut D,
     front: &mut FullBlocks,

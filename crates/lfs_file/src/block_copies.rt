@@ -1,4 +1,4 @@
-// Copies of an old list's bytes to the end of the new one.
+// Copies bytes of an old list to the end of a new list.
 
 ghost use Rattle.std.specs.Prelude.{◌≡◌, ◌≤◌, ◌<◌, ◌+◌, ◌-◌, length, max, drop, IfOk, OnOk};
 ghost use Rattle.lfs_device.specs.DeviceCalls.{ReadsOrIo, ReadsOnly, ReportsIoNoMemory};
@@ -17,14 +17,13 @@ use lfs_blocks::BlockMap;
 use lfs_device::{BlockDevice, Error};
 use std::alloc::Global;
 
-/// Appends to `list` the bytes that `base` has behind the end of `list`. If there are none, does
-/// nothing.
+/// Appends to `list` the bytes of `base` that are past the end of `list`, if there are any.
 ///
-/// Requires enough free blocks for them. The blocks of `base` must not be free in the map, nor be
-/// the one that `list` still has to write.
+/// Requires enough free blocks for the appended bytes. The blocks of `base` must not be free in the
+/// map, and must not include the block that `list` still has to write.
 ///
-/// Errors: `Io` if the device failed, `NoMemory` if memory isn't granted. After either `list` can
-/// only be dropped.
+/// Errors: `Io` if a device call fails. `NoMemory` if memory can't be allocated. After an error,
+/// `list` can only be dropped.
 pub(crate) fn append_base_rest<D: BlockDevice>(
     alloc: Global,
     dev: &mut D,
@@ -46,7 +45,8 @@ pub(crate) fn append_base_rest<D: BlockDevice>(
     Ok(())
 }
 
-// Does the same, one block at a time, through the buffer `chunk`.
+// Appends to `list` the bytes of `base` that are past the end of `list`, one block at a time,
+// through the buffer `chunk`.
 fn append_by_block<D: BlockDevice>(
     alloc: Global,
     dev: &mut D,
@@ -81,8 +81,8 @@ fn append_by_block<D: BlockDevice>(
     Ok(())
 }
 
-// Returns the blocks of a list from an index on. The list has `count` blocks, the last one at
-// `head`.
+// Returns the blocks of a list from the index `from` on. The list has `count` blocks, and its last
+// block is `head`.
 fn blocks_from_index<D: BlockDevice>(
     alloc: Global,
     dev: &mut D,
@@ -95,7 +95,7 @@ fn blocks_from_index<D: BlockDevice>(
     ensures blocks { IfOk result (λ v. v.items ≡ drop from (blocks_to_head (D.blocks dev.old) count head)) }
     ensures device { ReadsOnly D.BlockDevice dev.old dev.new }
     ensures reports { ReportsIoNoMemory D.BlockDevice dev.old dev.new result }
-    // The list is walked once, with one read for each of these blocks.
+    // The list is walked once, with at most one read for each of the returned blocks.
     ensures few { OnOk result (read_count (D.history dev.new) ≤ read_count (D.history dev.old) + (count - from)) }
 {
     let mut blocks = Vec::from_elem(alloc, 0u32, (count - from) as usize)?;
@@ -109,7 +109,8 @@ fn blocks_from_index<D: BlockDevice>(
     Ok(blocks)
 }
 
-// Reads the bytes of a block from an offset on, at most `most`, and returns how many.
+// Reads at most `most` bytes of a block from an offset on. Returns the number of bytes that were
+// read.
 fn read_from_block<D: BlockDevice>(
     dev: &mut D,
     block: u32,

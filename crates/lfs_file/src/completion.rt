@@ -1,4 +1,4 @@
-// Contents made ready for a commit, or discarded.
+// Completes contents for a commit, or releases their blocks.
 
 ghost use Rattle.std.specs.Prelude.{ℕ, IfOk};
 ghost use Rattle.lfs_model.specs.layers.BlockSets.{IsInFlight};
@@ -15,13 +15,14 @@ use lfs_blocks::BlockMap;
 use lfs_device::{BlockDevice, Error};
 use std::alloc::Global;
 
-/// Completes a draft, so that all contents are in a stored list. Other contents are returned as
-/// they are. The contents don't change.
+/// Completes a draft, which is a list that is being rewritten, so that all contents are in a stored
+/// list. Contents that aren't in a draft are returned unchanged. The bytes of the contents don't
+/// change.
 ///
 /// Requires enough free blocks for the bytes that the draft has to copy from its old list.
 ///
-/// Errors: `Io` if the device failed, `NoMemory` if memory isn't granted. After either the contents
-/// are lost.
+/// Errors: `Io` if a device call fails. `NoMemory` if memory can't be allocated. After an error,
+/// the contents are lost.
 pub fn finish_contents<D: BlockDevice>(
     alloc: Global,
     dev: &mut D,
@@ -46,8 +47,8 @@ pub fn finish_contents<D: BlockDevice>(
     }
 }
 
-/// Releases all blocks in flight. Only the open writer has blocks in flight, so nothing has to be
-/// read.
+/// Releases all blocks in flight without reading from the device. Only the open writer has blocks
+/// in flight.
 pub fn release_in_flight(map: &mut BlockMap)
     ensures none { (b : ℕ) → ¬ (IsInFlight map.new b) }
     ensures map { KeepsUsedBlocks map.old map.new }

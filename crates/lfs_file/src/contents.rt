@@ -1,4 +1,4 @@
-// The contents of an open writer, and writes to them.
+// The contents of a file that is open for writing, and writes to these contents.
 
 ghost use Rattle.std.specs.Prelude.{◌≡◌, ◌<◌, ◌+◌, length, IfOk, IfErr};
 ghost use Rattle.lfs_model.specs.format.Blocks.{Blocks};
@@ -24,23 +24,24 @@ use lfs_blocks::BlockMap;
 use lfs_device::{BlockDevice, Error, Geometry};
 use std::alloc::Global;
 
-/// The contents of an open writer, by where they are.
+/// The contents of a file that is open for writing, in one of three forms.
 #[derive(Drop)]
 pub enum WriterContents {
-    /// In memory: all bytes are in the extender's buffer, and none in a block. They are at most as
-    /// long as the limit of inline files.
+    /// All bytes are in the extender's buffer, and none are in a block. The contents are at most as
+    /// long as the limit for inline files.
     InMemory(Extender),
-    /// On the device: all bytes are in a stored list.
+    /// All bytes are in a stored list, which is entirely on the device.
     Finished(StoredList),
-    /// In a draft: the first bytes are in a new list, the bytes behind them in the old one.
+    /// The contents are in a draft: the first bytes are in a new list, and the bytes after them are
+    /// in the old list.
     InHand(PendingList),
 }
 
-/// Makes contents in memory: the bytes of an inline file, or none for a new file.
+/// Makes contents in memory from the bytes of an inline file, or from no bytes for a new file.
 ///
-/// Requires fewer bytes than a block has.
+/// Requires that `bytes` is shorter than a block.
 ///
-/// Errors: `NoMemory` if memory for a block isn't granted.
+/// Errors: `NoMemory` if memory for a block can't be allocated.
 pub fn contents_in_memory(
     alloc: Global,
     geometry: Geometry,
@@ -55,7 +56,8 @@ pub fn contents_in_memory(
     Ok(WriterContents::InMemory(list))
 }
 
-// Writes bytes to contents in memory. If they pass the inline limit, they move to a draft.
+// Writes bytes to contents in memory. If the contents become longer than the inline limit, moves
+// them to a draft.
 fn write_in_memory<D: BlockDevice>(
     alloc: Global,
     dev: &mut D,
@@ -82,7 +84,7 @@ fn write_in_memory<D: BlockDevice>(
     Ok(WriterContents::InHand(hand))
 }
 
-// Starts a draft over a stored list, with bytes at an offset.
+// Starts a draft over a stored list and writes bytes at an offset.
 fn begin_with_bytes<D: BlockDevice>(
     alloc: Global,
     dev: &mut D,
@@ -105,8 +107,8 @@ fn begin_with_bytes<D: BlockDevice>(
     Ok(hand)
 }
 
-// Writes bytes to contents in a stored list. Contents within the inline limit are loaded into
-// memory; such a list has no blocks in flight.
+// Writes bytes to contents in a stored list. Loads contents within the inline limit into memory; a
+// list that short has no blocks in flight.
 fn write_over_finished<D: BlockDevice>(
     alloc: Global,
     dev: &mut D,
@@ -158,14 +160,15 @@ fn write_to_unfinished<D: BlockDevice>(
     Ok(WriterContents::InHand(hand))
 }
 
-/// Writes at least one byte at offset `place` of the contents. If the offset is past their end,
-/// zeros fill the gap.
+/// Writes at least one byte at offset `place` of the contents. If the offset is past the end of the
+/// contents, zeros fill the gap.
 ///
-/// Contents of at most the device's inline limit are then in memory. Longer contents go to free
-/// blocks; the caller must have kept free as many as the contents' form may need.
+/// After the call, contents of at most the device's inline limit are in memory. Longer contents are
+/// written to free blocks. The caller must have reserved as many free blocks as the contents may
+/// need.
 ///
-/// Errors: `Io` if the device failed, `NoMemory` if memory for a block isn't granted. After either
-/// the contents are lost.
+/// Errors: `Io` if a device call fails. `NoMemory` if memory for a block can't be allocated. After
+/// an error, the contents are lost.
 pub fn write_contents<D: BlockDevice>(
     alloc: Global,
     dev: &mut D,

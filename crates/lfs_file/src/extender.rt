@@ -20,17 +20,18 @@ use lfs_device::{BlockDevice, Error, Geometry};
 use std::alloc::Global;
 use std::marker::Model;
 
-/// A skip list that is extended by appending bytes (DESIGN.md of littlefs, "CTZ skip-lists"). The
-/// caller passes in the blocks, and each is programmed once it is full.
+/// A CTZ skip-list to which bytes can be appended (DESIGN.md of littlefs, "CTZ skip-lists"). The
+/// caller passes in the blocks, and each block is programmed once it is full.
 ///
-/// One block of bytes is buffered. Short contents can be in the buffer alone, without a block:
-/// `replace_buffered`, `write_buffered_at` and `truncate_buffered` change such contents, and a
-/// `push` moves them into blocks.
+/// The extender buffers the bytes of one block. Short contents can be in the buffer alone, without
+/// a block. The methods `replace_buffered`, `write_buffered_at` and `truncate_buffered` change such
+/// contents, and `push` moves them into blocks.
 ///
-/// In contracts it is the list so far: its full blocks, and the bytes behind them.
+/// In contracts, the value of an extender is the list so far: its full blocks, and the bytes after
+/// them.
 #[derive(Drop)]
 pub struct Extender {
-    // Each write moves an extender through several layers, so its fields are on the heap.
+    // Each write moves the extender through several layers, so its fields are on the heap.
     state: Box<ExtenderState>,
 }
 
@@ -58,7 +59,7 @@ impl Model for Extender {
     ghost invariant = { λ e. IsExtender e.state.value };
 }
 
-// Overwrites the bytes at an offset.
+// Overwrites the bytes of `all` that start at offset `at`.
 fn overwrite_buffer_bytes(all: &mut Vec<u8>, at: usize, bytes: &[u8])
     requires { at + length bytes.now ≤ length all.old.items }
     ensures { all.new.items ≡ overwritten_at all.old.items at bytes.now }
@@ -66,7 +67,7 @@ fn overwrite_buffer_bytes(all: &mut Vec<u8>, at: usize, bytes: &[u8])
     all[at..at + bytes.len()].copy_from_slice(bytes);
 }
 
-// Fills the bytes from offset `at` to offset `end` with a byte.
+// Fills the bytes from offset `at` up to offset `end` with `byte`.
 fn fill_buffer_range(all: &mut Vec<u8>, at: usize, end: usize, byte: u8)
     requires order { at ≤ end }
     requires within { end ≤ length all.old.items }
@@ -76,7 +77,7 @@ fn fill_buffer_range(all: &mut Vec<u8>, at: usize, end: usize, byte: u8)
 }
 
 impl Extender {
-    // Makes an extender with these fields.
+    // Makes an extender from its fields.
     fn of_state(alloc: Global, state: ExtenderState) -> Result<Extender, Error>
         requires { IsExtender state }
         ensures list { IfOk result (λ list. list ≡ growing_view state) }
@@ -86,9 +87,9 @@ impl Extender {
         Ok(Extender { state })
     }
 
-    /// Makes an extender of an empty list.
+    /// Makes an extender for an empty list.
     ///
-    /// Errors: `NoMemory` if memory for a block isn't granted.
+    /// Errors: `NoMemory` if memory for a block can't be allocated.
     #[inline(never)]
     pub fn start_empty(alloc: Global, geometry: Geometry) -> Result<Extender, Error>
         ensures started { IfOk result (IsEmptyList geometry) }
@@ -106,10 +107,11 @@ impl Extender {
         Extender::of_state(alloc, state)
     }
 
-    /// Makes an extender of the first `keep` bytes of a list, with `keep` from 1 to `size`. `head`
-    /// is the list's last block and `size` its size in bytes. Requires a well-formed list.
+    /// Makes an extender for the first `keep` bytes of a list, where `keep` is from 1 to `size`.
+    /// `head` is the list's last block, and `size` is the list's size in bytes. Requires a
+    /// well-formed list.
     ///
-    /// Errors: `NoMemory` if memory for a block isn't granted, `Io` if the device failed.
+    /// Errors: `NoMemory` if memory for a block can't be allocated. `Io` if a device call fails.
     pub fn resume<D: BlockDevice>(
         alloc: Global,
         dev: &mut D,
@@ -145,10 +147,10 @@ impl Extender {
         Ok(list)
     }
 
-    /// Replaces the contents with these bytes, in memory and without a block. What the extender had
-    /// before is dropped.
+    /// Replaces the contents with `bytes`, which stay in memory without a block. Drops what the
+    /// extender contained before.
     ///
-    /// Requires fewer bytes than a block has.
+    /// Requires that `bytes` is shorter than a block.
     pub fn replace_buffered(&mut self, bytes: &[u8])
         requires { length bytes.now < self.old.geometry.block_size }
         ensures { HasBufferedBytes self.old.geometry self.new bytes.now }
@@ -161,7 +163,7 @@ impl Extender {
         state.stand = RestLocation::Held;
     }
 
-    /// Returns the contents. Requires that they are all in memory and none in a block.
+    /// Returns the contents. Requires that all contents are in memory and none are in a block.
     pub fn buffered_content(&self) -> &[u8]
         requires { IsAllBuffered self.now }
         ensures { result.now ≡ self.now.rest }
@@ -170,9 +172,9 @@ impl Extender {
         &state.buffer[..state.filled as usize]
     }
 
-    /// Writes bytes at offset `at` of the contents, over those that are there. If the offset is
-    /// past the end, zeros fill the gap. Requires that the contents are all in memory and none in a
-    /// block, and stay shorter than a block.
+    /// Overwrites the contents with `bytes` from offset `at` on. If the offset is past the end of
+    /// the contents, zeros fill the gap. Requires that all contents are in memory and none are in a
+    /// block. The contents must stay shorter than a block.
     pub fn write_buffered_at(&mut self, at: u32, bytes: &[u8])
         requires held { IsAllBuffered self.old }
         requires room { at + length bytes.now < self.old.geometry.block_size }
@@ -186,8 +188,8 @@ impl Extender {
         state.size = state.filled;
     }
 
-    /// Keeps only the first `len` bytes of the contents. Requires that the contents are all in
-    /// memory and none in a block, and have at least `len` bytes.
+    /// Truncates the contents to their first `len` bytes. Requires that all contents are in memory
+    /// and none are in a block. The contents must have at least `len` bytes.
     pub fn truncate_buffered(&mut self, len: u32)
         requires held { IsAllBuffered self.old }
         requires within { len ≤ length self.old.rest }
@@ -205,18 +207,18 @@ impl Extender {
         self.state.size
     }
 
-    /// Returns the number of full blocks, which are on the device.
+    /// Returns the number of full blocks, which are all on the device.
     pub fn full_block_count(&self) -> u32
         ensures { result ≡ self.now.full }
     {
         self.state.front.count
     }
 
-    /// Returns how many blocks a [`push`](Extender::push) of `n` bytes needs. The full blocks of a
-    /// resumed list are shared with the old list. Its partial last block, if it has one, is copied
-    /// and counts.
+    /// Returns the number of blocks that a [`push`](Extender::push) of `n` bytes needs. The full
+    /// blocks of a resumed list are shared with the old list. A resumed list's partial last block
+    /// isn't shared but copied, so the number includes a block for the copy.
     ///
-    /// Requires that `n` is at least 1, and that the list then has at most 2,147,483,647 bytes.
+    /// Requires that `n` is at least 1 and that the list's size plus `n` is at most 2,147,483,647.
     pub fn needed(&self, n: u32) -> u32
         requires some { 1 ≤ n }
         requires room { growing_size self.now + n < 2 ^ 31 }
@@ -228,17 +230,17 @@ impl Extender {
             RestLocation::Handed(_) => 1,
             _ => 0,
         };
-        // Bytes that fit the partial block need no other block.
+        // Bytes that fit in the partial block need no other block.
         if begun == 1 && n <= state.geometry.block_size - state.filled {
             return 0;
         }
         blocks_for(state.geometry.block_size, state.size + n) - (state.front.count + begun)
     }
 
-    /// Appends bytes in memory, if they fit the partial block that is buffered and don't fill it.
-    /// Returns false, and changes nothing, if they don't.
+    /// Appends bytes in memory and returns true if they fit in the buffered partial block without
+    /// filling it. Otherwise, returns false and changes nothing.
     ///
-    /// Requires that the list then has at most 2,147,483,647 bytes.
+    /// Requires that the list's size plus the number of bytes is at most 2,147,483,647.
     pub(crate) fn push_within_block(&mut self, bytes: &[u8]) -> bool
         requires { growing_size self.old + length bytes.now < 2 ^ 31 }
         ensures fits { result ≡ fits_unwritten_block self.old (length bytes.now) }
@@ -258,7 +260,8 @@ impl Extender {
         true
     }
 
-    // Returns the block for the next bytes, and how many of the blocks passed in are used then.
+    // Returns the block for the next bytes, and the number of passed-in blocks that are then in
+    // use.
     fn next_push_block(&self, blocks: &[u32], used: usize) -> (u32, usize)
         requires { unwritten_block self.now ≡ [] → used < length blocks.now }
         ensures { result ≡ block_for_push self.now.stand blocks.now used }
@@ -269,8 +272,8 @@ impl Extender {
         }
     }
 
-    // Buffers as many bytes as the current block has room for, and programs that block if it is
-    // full. Returns how many bytes that were.
+    // Buffers as many bytes as fit in the current block, and programs the block if it is full.
+    // Returns the number of bytes that were buffered.
     fn fill_current_block<D: BlockDevice>(
         &mut self,
         dev: &mut D,
@@ -304,15 +307,15 @@ impl Extender {
         Ok(n)
     }
 
-    /// Appends bytes, in the blocks that are passed in. Each block is erased and programmed once it
+    /// Appends bytes in the blocks that are passed in. Each block is erased and programmed once it
     /// is full.
     ///
     /// Requires at least one byte, and exactly as many blocks as [`needed`](Extender::needed)
-    /// returns. The blocks must differ, be below the device's number of blocks, and not be the
-    /// list's. The device must hold the list as the extender's last call left it. The list then has
-    /// at most 2,147,483,647 bytes.
+    /// returns. The block numbers must differ from each other, be below the device's number of
+    /// blocks, and not belong to the list. The device must hold the list as the extender's last
+    /// call left it. The extended list must have at most 2,147,483,647 bytes.
     ///
-    /// Errors: `Io` if the device failed. The extender can then only be dropped.
+    /// Errors: `Io` if a device call fails. After an error, the extender can only be dropped.
     pub fn push<D: BlockDevice>(
         &mut self,
         dev: &mut D,
@@ -321,7 +324,7 @@ impl Extender {
     ) -> Result<(), Error>
         requires { CanPushBytes D.BlockDevice dev.old self.old bytes.now blocks.now }
         ensures pushed { OnOk result (HasPushedBytes (D.blocks dev.old) self.old bytes.now blocks.now (D.blocks dev.new) self.new) }
-        // A block that fills is erased once and programmed once.
+        // A block that becomes full is erased once and programmed once.
         ensures writes { OnOk result (WritesEachOnce self.old.full self.new.full (D.history dev.old) (D.history dev.new)) }
         ensures few { OnOk result (FillsFew self.old self.new (D.history dev.old) (D.history dev.new)) }
         ensures device { ChangesTheseBlocks D.BlockDevice (unwritten_block self.old ++ blocks.now) dev.old dev.new }
@@ -337,7 +340,7 @@ impl Extender {
         Ok(())
     }
 
-    // Pads the current block to whole pages, and programs it.
+    // Pads the current block to whole pages and programs it.
     fn write_last_block<D: BlockDevice>(&mut self, dev: &mut D, block: u32) -> Result<(), Error>
         requires { CanWriteLastBlock D.BlockDevice dev.old self.old block }
         ensures block { OnOk result (HasAppendedBlock (D.blocks dev.old) (D.blocks dev.new) self.old.full self.old.head block (length self.old.rest) self.old.rest) }
@@ -354,14 +357,14 @@ impl Extender {
         Ok(())
     }
 
-    /// Ends the list: programs its partial block, if there is one. Returns the list's last block
-    /// and its size in bytes. If nothing was pushed since [`resume`](Extender::resume), the last
-    /// block is one of the old list.
+    /// Ends the list and programs its partial last block if there is one. Returns the address of
+    /// the list's last block, and the list's size in bytes. If nothing was pushed since
+    /// [`resume`](Extender::resume), the last block belongs to the old list.
     ///
-    /// Requires at least one byte, and not contents in memory without a block. The device must hold
-    /// the list as the extender's last call left it.
+    /// Requires that the list has at least one byte and isn't in the buffer alone. The device must
+    /// hold the list as the extender's last call left it.
     ///
-    /// Errors: `Io` if the device failed.
+    /// Errors: `Io` if a device call fails.
     pub fn finish<D: BlockDevice>(mut self, dev: &mut D) -> Result<(u32, u32), Error>
         requires { CanFinishList D.BlockDevice dev.old self }
         ensures finished { IfOk result (λ r. ListHoldsBytes (D.blocks dev.new) self.geometry.block_size r.0 r.1 (growing_bytes (D.blocks dev.old) self) (growing_blocks (D.blocks dev.old) self)) }

@@ -1,4 +1,4 @@
-// Extensions of a list, in free blocks of the map.
+// Extends a list with free blocks of the map.
 
 ghost use Rattle.std.specs.Prelude.{◌<◌, ◌+◌, ◌++◌, length, OnOk};
 ghost use Rattle.lfs_device.specs.DeviceCalls.{ReportsIoNoMemory};
@@ -16,11 +16,11 @@ use std::alloc::Global;
 
 /// Appends bytes to a list, in blocks that the call allocates from the map.
 ///
-/// Requires at least one byte, as many free blocks as the bytes need, and a map in which the list's
-/// blocks aren't free.
+/// Requires at least one byte, and as many free blocks as the bytes need. The blocks of the list
+/// must not be free in the map.
 ///
-/// Errors: `Io` if the device failed, `NoMemory` if memory isn't granted. After either the list can
-/// only be dropped.
+/// Errors: `Io` if a device call fails. `NoMemory` if memory can't be allocated. After an error,
+/// the list can only be dropped.
 pub(crate) fn extend_list<D: BlockDevice>(
     alloc: Global,
     dev: &mut D,
@@ -31,7 +31,7 @@ pub(crate) fn extend_list<D: BlockDevice>(
     requires { CanExtendList map.old (D.blocks dev.old) (D.geometry dev.old) list.old (length bytes.now) }
     ensures extended { OnOk result (IsExtended map.old (D.blocks dev.old) list.old
         (growing_bytes (D.blocks dev.old) list.old ++ bytes.now) (growing_size list.old + length bytes.now) map.new (D.blocks dev.new) list.new) }
-    // No block that was used or in flight changes, except the list's partial one.
+    // No block that was used or in flight changes, except the list's partial block.
     ensures map { ChangesOnlyFree map.old map.new }
     ensures device { KeepsTakenBlocks D.BlockDevice map.old (unwritten_block list.old) dev.old dev.new }
     ensures reports { ReportsIoNoMemory D.BlockDevice dev.old dev.new result }

@@ -9,12 +9,13 @@ use crate::read::find_block_at;
 use crate::{blocks_for, place};
 use lfs_device::{BlockDevice, Error};
 
-/// Returns the last block of the list of a file's first `keep` bytes, from 1 to `size`. The file's
-/// list has its last block at `head` and holds `size` bytes. Both lists share their blocks, so
-/// nothing is written. Reads only pointers, and allocates nothing.
+/// Returns the last block of the list that consists of a file's first `keep` bytes, where `keep` is
+/// from 1 to `size`. The last block of the file's list is `head`, and the list has `size` bytes.
+/// The two lists share their blocks, so nothing is written. Reads only pointers, and allocates no
+/// memory.
 ///
-/// Errors: `Corrupt` if a pointer on the walk leads out of the device, which a well-formed list
-/// never does. `Io` if the device failed.
+/// Errors: `Corrupt` if a pointer on the walk refers to a block outside the device, which never
+/// happens in a well-formed list. `Io` if a device call fails.
 pub fn head_of_front<D: BlockDevice>(
     dev: &mut D,
     head: u32,
@@ -29,7 +30,8 @@ pub fn head_of_front<D: BlockDevice>(
     ensures in_range { IfOk result (λ h. h < (D.geometry dev.old).block_count) }
     ensures corrupt { IsErrOf result Error.Corrupt → ¬ IsSkipList (D.blocks dev.old) (D.geometry dev.old).block_size head size }
     ensures reading { ReadsOrCorrupt D.BlockDevice dev.old dev.new result }
-    // The walk to that block costs at most twice the logarithm of the list's number of blocks.
+    // The walk costs at most twice as many reads as the binary logarithm of the list's number of
+    // blocks, rounded up.
     ensures few { (m : ℕ) → block_count_for (D.geometry dev.old).block_size size ≤ 2 ^ m → OnOk result (read_count (D.history dev.new) ≤ read_count (D.history dev.old) + 2 * m) }
 {
     let block_size = dev.geometry().block_size;

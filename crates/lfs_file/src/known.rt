@@ -1,4 +1,4 @@
-// The index cache of a list: blocks of it that reads have found.
+// A cache of the blocks of a list that reads have found, by index.
 
 ghost use Rattle.std.specs.Prelude.{◌≡◌, ◌≢◌, ◌≤◌, ◌<◌, ◌+◌, ◌-◌, ◌*◌, ℕ, List, length, min, take, drop, OnOk, IfOk, IfSome, IsErrOf, slice_index, slice_range};
 ghost use Rattle.lfs_model.specs.format.Blocks.{block_bytes};
@@ -14,20 +14,21 @@ use crate::read::{pointer_count_at, read_block_before, read_block_pointer, read_
 use crate::{blocks_for, place};
 use lfs_device::{BlockDevice, Error};
 
-/// An index cache of a list: the blocks that reads have found, each with its index. These are the
-/// blocks on the walk to the byte where the last read ended. A read that continues there follows
-/// few pointers, or none.
+/// An index cache of a CTZ skip-list: the blocks that reads have found, each with its index. The
+/// cached blocks are on the walk to the byte at which the last read ended. A read that continues at
+/// that byte follows few pointers, or none.
 ///
-/// The caller sets `end` after a read, so that it knows whether the next read continues it.
+/// After a read, the caller sets `end` in order to recognize a later read that continues at this
+/// position.
 ///
-/// The block at an index is in the row that is the number of trailing zeros of the index. A row
-/// without a block has the index 2^32 - 1.
+/// The block at an index is in the row whose number is the number of trailing zeros of the index. A
+/// row without a block has the index 2^32 - 1.
 #[derive(Clone, Copy)]
 pub struct KnownBlocks {
     pub indices: [u32; 32],
     pub blocks: [u32; 32],
-    /// The position where the last read ended, in bytes from the file's start. It is 2^32 - 1
-    /// before the first read.
+    /// The position at which the last read ended, in bytes from the start of the file. The position
+    /// is 2^32 - 1 before the first read.
     pub end: u32,
 }
 
@@ -51,7 +52,7 @@ impl KnownBlocks {
         }
     }
 
-    // Adds the block at an index.
+    // Adds the block at an index to the cache.
     pub(crate) fn note(&mut self, index: u32, block: u32)
         ensures blocks { (all : List ℕ) → AreKnownBlocks all self.old → block ≡ slice_index all index → AreKnownBlocks all self.new }
         ensures known { IsKnownIndex self.new index }
@@ -63,7 +64,8 @@ impl KnownBlocks {
         self.blocks[row] = block;
     }
 
-    // Returns the nearest block from an index on, with its own index: a cached block, or the head.
+    // Returns the nearest block at or after an index, with the block's own index. The returned
+    // block is a cached block or the head.
     fn nearest_known_block(&self, head: u32, last: u32, index: u32) -> (u32, u32)
         requires { index ≤ last }
         ensures low { index ≤ result.0 }
@@ -86,7 +88,7 @@ impl KnownBlocks {
         (at, block)
     }
 
-    // Returns the block at an index of a list whose head is at the index `last`, and caches the
+    // Returns the block at `index` of a list whose head is at the index `last`, and caches the
     // blocks on the walk. Each step follows the longest pointer that doesn't overshoot.
     pub(crate) fn find_block<D: BlockDevice>(
         &mut self,
@@ -116,8 +118,8 @@ impl KnownBlocks {
         Ok(block)
     }
 
-    // Returns the block at an index, which pointer `k` of `block` names. If it isn't cached, it is
-    // read from there and cached.
+    // Returns the block at `index`, to which pointer `k` of `block` refers. If the block isn't
+    // cached, reads the pointer and caches the block.
     pub(crate) fn block_at_pointer<D: BlockDevice>(
         &mut self,
         dev: &mut D,
@@ -141,8 +143,8 @@ impl KnownBlocks {
         Ok(found)
     }
 
-    // Returns the block before `block`, which is at an index of at least 1. If it isn't cached, it
-    // is read from `block`.
+    // Returns the block before `block`, which is at `index` in the list. Requires that `index` is
+    // at least 1. If the block before isn't cached, reads its address from `block`.
     fn block_before<D: BlockDevice>(
         &self,
         dev: &mut D,
@@ -167,9 +169,10 @@ impl KnownBlocks {
         Ok(self.blocks[row])
     }
 
-    /// Returns the range of a block that holds a file's bytes from position `pos` on, as many as
-    /// `room` and the file's `size` allow. Returns None if they aren't all in one block, or if that
-    /// block isn't cached. The cache must be of the file's list. Doesn't call the device.
+    /// Returns the range of a cached block that contains a file's bytes from position `pos` on. The
+    /// range is as long as `room` and the file's `size` allow. Returns None if there are no bytes
+    /// to read, if the bytes aren't all in one block, or if their block isn't cached. The cache
+    /// must belong to the file's list. Doesn't call the device.
     pub fn find_known_part<D: BlockDevice>(
         &self,
         dev: &D,
@@ -199,16 +202,16 @@ impl KnownBlocks {
     }
 
     /// Reads a file's bytes from position `pos` on into the buffer, as many as the buffer and the
-    /// file's `size` allow. Returns how many. The file's list has its last block at `head`, and the
-    /// cache must be of that list.
+    /// file's `size` allow. Returns the number of bytes that were read. The last block of the
+    /// file's list is `head`, and the cache must belong to that list.
     ///
-    /// The walk starts at the nearest cached block and follows the longest pointers that don't
-    /// overshoot to the last block of the read (DESIGN.md of littlefs, "CTZ skip-lists"). Each
-    /// block before it costs one pointer, if it isn't cached.
+    /// The walk to the last block of the read starts at the nearest cached block and follows the
+    /// longest pointers that don't overshoot (DESIGN.md of littlefs, "CTZ skip-lists"). For each
+    /// earlier block of the read, one pointer is read unless the block is cached.
     ///
-    /// Errors: `Corrupt` if a pointer leads out of the device, which a well-formed list never does;
-    /// a list that isn't well formed may also return any bytes. `Io` if the device failed. After an
-    /// error the buffer may hold any bytes.
+    /// Errors: `Corrupt` if a pointer refers to a block outside the device, which never happens in
+    /// a well-formed list. `Io` if a device call fails. After an error, the buffer may contain any
+    /// bytes. If the list isn't well formed, the call may also return Ok with any bytes.
     pub fn read_at<D: BlockDevice>(
         &mut self,
         dev: &mut D,

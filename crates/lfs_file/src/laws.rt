@@ -1,6 +1,6 @@
-// Laws of the forms of contents, for the session above: each form fits the session's writer, and
-// the blocks that the session reserves are enough. Another law states the map after a list is
-// settled.
+// Laws of the forms of contents, for the session that uses this crate. Each form fits the session's
+// writer, and the blocks that the session reserves are enough. Another law states the map after a
+// list is settled.
 
 ghost use Rattle.std.specs.Prelude.{◌≡◌, ◌≤◌, ◌<◌, ◌+◌, ◌-◌, ℕ, false, max, Contains, List, ◌∷◌, length};
 ghost use Rattle.lfs_model.specs.layers.BlockSets.{AreUsed, BlockStates};
@@ -15,7 +15,8 @@ ghost use Rattle.lfs_file.specs.Contents.{FormFitsLimit, NeedsTruncateRoom, fini
 ghost use Rattle.lfs_file.specs.Form.{ContentsForm, InMemory, Finished, IsWriterForm, form_in_flight, form_size, synced_form, truncated_form, written_form};
 ghost use Rattle.lfs_file.specs.SettledMaps.{SettlesList};
 
-/// Each call of a writer leaves the contents in a form that fits the session's writer.
+/// Proves that, after each call of a writer, the form of the contents fits the state of the
+/// session's writer.
 pub fn lemma_forms_fit()
     ensures opened_inline { (profile : Profile) (block_size : ℕ) (path : Path) (flags : FlagsOfOpen) (bytes : List ℕ) → length (opened_writer path flags bytes).contents ≤ inline_limit profile block_size
         → IsWriterForm profile block_size (InMemory (length (opened_writer path flags bytes).contents)) (opened_writer path flags bytes) }
@@ -27,7 +28,7 @@ pub fn lemma_forms_fit()
     ensures synced { (profile : Profile) (block_size : ℕ) (form : ContentsForm) (w : FileWriter) → IsWriterForm profile block_size form w → IsWriterForm profile block_size (synced_form form) (synced_writer w) }
 {}
 
-/// The blocks that the session reserves for a writer are enough for each call.
+/// Proves that a session reserves enough blocks for each call of a writer.
 pub fn lemma_reserve_suffices()
     ensures covers { (profile : Profile) (block_size : ℕ) (form : ContentsForm) (w : FileWriter) → IsWriterForm profile block_size form w → form_in_flight block_size form ≤ reserved_for_writer profile block_size w - 2 }
     ensures large { (profile : Profile) (block_size : ℕ) (form : ContentsForm) (w : FileWriter) → IsWriterForm profile block_size form w → FormFitsLimit (inline_limit profile block_size) form }
@@ -38,9 +39,9 @@ pub fn lemma_reserve_suffices()
     ensures end { (profile : Profile) (block_size : ℕ) (form : ContentsForm) (w : FileWriter) (used all : ℕ) → IsWriterForm profile block_size form w → used + reserved_for_writer profile block_size w ≤ all → used + finish_room block_size form ≤ all }
 {}
 
-/// A map in which a list was settled has exactly the used blocks of the image that names the list,
-/// if it had those of the old image before. The blocks of the old list alone are free, and the new
-/// ones are used.
+/// Proves that settling a list turns a map of the old image's used blocks into a map of the new
+/// image's used blocks. The blocks that are only in the old list become free, and the blocks of the
+/// new list become used.
 pub fn lemma_settled_map()
     ensures { (sets later : BlockStates) (owned used before now gone come : List ℕ) → AreUsed sets owned → ((b : ℕ) → number_occurrences b owned ≤ 1) → ((b : ℕ) → number_occurrences b owned + number_occurrences b come ≡ number_occurrences b used + number_occurrences b gone)
         → ((b : ℕ) → number_occurrences b now + number_occurrences b gone ≡ number_occurrences b come + number_occurrences b before) → ((b : ℕ) → Contains now b → Contains used b) → SettlesList sets later before now → AreUsed later used }

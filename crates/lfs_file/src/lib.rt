@@ -1,10 +1,10 @@
 // SPDX-License-Identifier: BSD-3-Clause
-//! The bytes of files: CTZ skip lists on a device, and the contents of a file that is open for
-//! writing.
+//! Reads, walks and extends the CTZ skip-lists of files, and keeps the contents of a file that is
+//! open for writing.
 //!
-//! Short contents are in memory. Longer ones are in a stored list, or in a draft: a new list with
-//! the first bytes, over the old list with the others. At most one block of contents is buffered,
-//! in an extender.
+//! Short contents are in memory. Longer contents are in a stored list, which is entirely on the
+//! device, or in a draft. A draft consists of a new list with the first bytes and the old list with
+//! the others. At most one block of contents is buffered, in an extender.
 #![tactic(auto)]
 
 mod block;

@@ -1,4 +1,4 @@
-// Cuts of stored lists.
+// Truncates stored lists.
 
 ghost use Rattle.std.specs.Prelude.{◌≤◌, take, IfOk};
 ghost use Rattle.lfs_device.specs.DeviceCalls.{ReadsOrIo};
@@ -12,10 +12,11 @@ use crate::{blocks_for, head_of_front};
 use lfs_blocks::BlockMap;
 use lfs_device::{BlockDevice, Error};
 
-/// Cuts a stored list to its first `keep` bytes, from 1 to its size. Both lists share their blocks.
-/// Blocks behind the cut are no longer in flight. Allocates and writes nothing.
+/// Truncates a stored list to its first `keep` bytes, where `keep` is from 1 to the list's size.
+/// The old and the new list share their blocks. Releases the in-flight blocks past the cut.
+/// Allocates no memory and writes nothing.
 ///
-/// Errors: `Io` if the device failed.
+/// Errors: `Io` if a device call fails.
 pub(crate) fn shorten_stored_list<D: BlockDevice>(
     dev: &mut D,
     map: &mut BlockMap,

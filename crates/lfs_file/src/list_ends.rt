@@ -1,4 +1,4 @@
-// The completion of drafts.
+// Completes drafts.
 
 ghost use Rattle.std.specs.Prelude.{◌≡◌, ◌≤◌, ◌+◌, if◌then◌else◌, [], drop, length, true, OnOk, IfOk};
 ghost use Rattle.lfs_model.specs.layers.BlockSets.{used_count};
@@ -21,7 +21,8 @@ use lfs_blocks::BlockMap;
 use lfs_device::{BlockDevice, Error};
 use std::alloc::Global;
 
-// Releases the blocks of an old list from an index on, if any may be in flight.
+// Releases the in-flight blocks of an old list from the index `shared` on, if the list may have
+// any.
 pub(crate) fn release_base_from<D: BlockDevice>(
     dev: &mut D,
     map: &mut BlockMap,
@@ -44,12 +45,13 @@ pub(crate) fn release_base_from<D: BlockDevice>(
     Ok(())
 }
 
-/// Completes a draft: copies the remaining bytes of its old list, writes its last block, and
-/// releases the blocks of the old list alone that are in flight. The contents don't change.
+/// Completes a draft. Copies the remaining bytes of the old list, writes the last block, and
+/// releases the in-flight blocks that are only in the old list. The bytes of the contents don't
+/// change.
 ///
 /// Requires enough free blocks for the bytes that are copied.
 ///
-/// Errors: `NoMemory` if memory isn't granted, `Io` if the device failed.
+/// Errors: `NoMemory` if memory can't be allocated. `Io` if a device call fails.
 pub(crate) fn end_unfinished_list<D: BlockDevice>(
     alloc: Global,
     dev: &mut D,

@@ -1,4 +1,4 @@
-// Drafts, started over stored lists.
+// Starts drafts over stored lists.
 
 ghost use Rattle.std.specs.Prelude.{◌≡◌, ◌≤◌, IfOk};
 ghost use Rattle.lfs_device.specs.DeviceCalls.{ReadsOnly, ReportsIoNoMemory};
@@ -13,12 +13,12 @@ use crate::writes::PendingList;
 use lfs_device::{BlockDevice, Error};
 use std::alloc::Global;
 
-/// Starts a draft over a stored list, with the list's first `keep` bytes as its own. The contents
-/// don't change.
+/// Starts a draft over a stored list. The draft's new list has the first `keep` bytes of the stored
+/// list. The bytes of the contents don't change.
 ///
-/// Requires that the list has at least `keep` bytes.
+/// Requires that the stored list has at least `keep` bytes.
 ///
-/// Errors: `NoMemory` if memory for a block isn't granted, `Io` if the device failed.
+/// Errors: `NoMemory` if memory for a block can't be allocated. `Io` if a device call fails.
 pub(crate) fn begin_over_finished<D: BlockDevice>(
     alloc: Global,
     dev: &mut D,

@@ -1,4 +1,4 @@
-// Contents in memory.
+// Contents that are in memory.
 
 ghost use Rattle.std.specs.Prelude.{◌≡◌, ◌≤◌, ◌<◌, ◌+◌, false, length, take, IfOk};
 ghost use Rattle.lfs_model.specs.format.Blocks.{Blocks};
@@ -20,12 +20,11 @@ use lfs_blocks::BlockMap;
 use lfs_device::{BlockDevice, Error};
 use std::alloc::Global;
 
-/// Loads the first `keep` bytes of a stored list into the buffer of a new extender, for contents in
-/// memory.
+/// Loads the first `keep` bytes of a stored list into the buffer of a new extender.
 ///
-/// Requires that the list has at least `keep` bytes, and that a block has more.
+/// Requires that the list has at least `keep` bytes, and that `keep` is less than the block size.
 ///
-/// Errors: `NoMemory` if memory for a block isn't granted, `Io` if the device failed.
+/// Errors: `NoMemory` if memory for a block can't be allocated. `Io` if a device call fails.
 pub fn load_first_bytes<D: BlockDevice>(
     alloc: Global,
     dev: &mut D,
@@ -51,7 +50,7 @@ pub fn load_first_bytes<D: BlockDevice>(
     Ok(list)
 }
 
-/// Turns contents in memory into a draft over no old list.
+/// Turns contents in memory into a draft without an old list.
 pub(crate) fn list_without_base(list: Extender) -> PendingList
     ensures begun { (map : BlockStates) (disk : Blocks) (now : Geometry) → IsInMemory map disk now list → IsUnfinishedTo map disk now result (length (buffered_bytes list)) (buffered_bytes list) }
     ensures base { (result.base.size ≡ 0) × (result.base.in_flight ≡ false) }
@@ -68,12 +67,13 @@ pub(crate) fn list_without_base(list: Extender) -> PendingList
     }
 }
 
-/// Writes at least one byte at an offset of contents in memory, which then end with these bytes.
-/// Returns a draft of all contents, over no old list.
+/// Writes at least one byte at an offset of contents in memory. Returns all contents as a draft
+/// without an old list.
 ///
-/// Requires enough free blocks for the contents.
+/// Requires that the written bytes end at or after the end of the contents. Requires enough free
+/// blocks for the contents.
 ///
-/// Errors: `NoMemory` if memory isn't granted, `Io` if the device failed.
+/// Errors: `NoMemory` if memory can't be allocated. `Io` if a device call fails.
 pub(crate) fn begin_from_memory<D: BlockDevice>(
     alloc: Global,
     dev: &mut D,

@@ -1,4 +1,4 @@
-// The map once a commit names a list.
+// Updates the map once a commit refers to a list.
 
 ghost use Rattle.std.specs.Prelude.{◌≡◌, ◌≤◌, ◌<◌, ◌+◌, ◌-◌, ◌*◌, ◌∷◌, ◌++◌, ℕ, [], drop, length, OnOk};
 ghost use Rattle.lfs_model.specs.layers.BlockSets.{Used};
@@ -16,7 +16,7 @@ use crate::{blocks_for, head_before_block};
 use lfs_blocks::BlockMap;
 use lfs_device::{BlockDevice, Error};
 
-// Makes a block used, whatever its state.
+// Marks a block as used, whatever its state is.
 fn make_block_used(map: &mut BlockMap, block: u32)
     requires { block < length map.old }
     ensures { SetsState Used map.old map.new (block ∷ []) }
@@ -28,7 +28,7 @@ fn make_block_used(map: &mut BlockMap, block: u32)
     map.mark(block);
 }
 
-// Makes a block used or free, whatever its state.
+// Marks a block as used or free, whatever its state is.
 fn set_used(map: &mut BlockMap, block: u32, used: bool)
     requires { block < length map.old }
     ensures { SetsState (used_or_free used) map.old map.new (block ∷ []) }
@@ -40,7 +40,8 @@ fn set_used(map: &mut BlockMap, block: u32, used: bool)
     map.release(block);
 }
 
-// Makes the blocks of a list from an index on used or free, the last one first.
+// Marks the blocks of a list from the index `from` on as used or free, starting with the last
+// block.
 fn set_list_from<D: BlockDevice>(
     dev: &mut D,
     map: &mut BlockMap,
@@ -66,15 +67,15 @@ fn set_list_from<D: BlockDevice>(
     Ok(())
 }
 
-/// Settles a stored list in the map, once a commit names it: its blocks become used, and those of
-/// the file's list `before` alone become free. Blocks that both lists have must be used before the
-/// call.
+/// Settles a stored list in the map once a commit refers to the list. The blocks of `stored` become
+/// used, and the blocks that are only in the file's old list `before` become free. Blocks that are
+/// in both lists must be used before the call.
 ///
-/// A list of no bytes has no block. The blocks that the lists share at their beginnings aren't
-/// read, and each other one is read at most twice.
+/// A list of no bytes has no blocks. The blocks that the lists share at their beginnings aren't
+/// read, and each other block is read at most twice.
 ///
-/// Errors: `Io` if the device failed. The states of these blocks are then unspecified, so the
-/// caller reads the image again.
+/// Errors: `Io` if a device call fails. After an error, the states of both lists' blocks are
+/// unspecified, so the caller must read the image again.
 pub fn settle_list<D: BlockDevice>(
     dev: &mut D,
     map: &mut BlockMap,

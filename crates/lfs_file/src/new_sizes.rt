@@ -1,4 +1,4 @@
-// Changes of the contents' size.
+// Changes the size of contents.
 
 ghost use Rattle.std.specs.Prelude.{◌≡◌, ◌≤◌, ◌<◌, ◌+◌, ◌^◌, length, take, true, false, IfOk};
 ghost use Rattle.lfs_model.specs.layers.BlockSets.{used_count};
@@ -29,7 +29,7 @@ use lfs_blocks::BlockMap;
 use lfs_device::{BlockDevice, Error};
 use std::alloc::Global;
 
-// Pads contents in memory with zeros up to a size, in a draft over no old list.
+// Pads contents in memory with zeros to `size` bytes, in a draft without an old list.
 fn fill_memory_contents<D: BlockDevice>(
     alloc: Global,
     dev: &mut D,
@@ -49,7 +49,7 @@ fn fill_memory_contents<D: BlockDevice>(
     Ok(hand)
 }
 
-// Cuts or zero-pads contents in memory to a size.
+// Truncates contents in memory, or pads them with zeros, to `size` bytes.
 fn truncate_in_memory<D: BlockDevice>(
     alloc: Global,
     dev: &mut D,
@@ -73,8 +73,8 @@ fn truncate_in_memory<D: BlockDevice>(
     Ok(WriterContents::InMemory(list))
 }
 
-// Cuts a stored list to its first bytes, loaded into memory and zero-padded to a size. Blocks in
-// flight are released.
+// Loads the first bytes of a stored list into memory and pads them with zeros to `size` bytes if
+// necessary. Releases all blocks in flight.
 fn shorten_to_memory<D: BlockDevice>(
     alloc: Global,
     dev: &mut D,
@@ -95,7 +95,7 @@ fn shorten_to_memory<D: BlockDevice>(
     Ok(list)
 }
 
-// Pads a stored list with zeros up to a size, in a draft over it.
+// Pads a stored list with zeros to `size` bytes, in a draft over the list.
 fn fill_finished_list<D: BlockDevice>(
     alloc: Global,
     dev: &mut D,
@@ -116,7 +116,7 @@ fn fill_finished_list<D: BlockDevice>(
     Ok(hand)
 }
 
-// Cuts or zero-pads a stored list to a size.
+// Truncates a stored list, or pads it with zeros, to `size` bytes.
 fn truncate_finished_list<D: BlockDevice>(
     alloc: Global,
     dev: &mut D,
@@ -145,7 +145,7 @@ fn truncate_finished_list<D: BlockDevice>(
     Ok(WriterContents::Finished(cut))
 }
 
-// Pads a draft with zeros up to a size.
+// Pads a draft with zeros to `size` bytes.
 fn lengthen_unfinished_list<D: BlockDevice>(
     alloc: Global,
     dev: &mut D,
@@ -168,7 +168,7 @@ fn lengthen_unfinished_list<D: BlockDevice>(
     Ok(hand)
 }
 
-// Completes a draft, and cuts the stored list.
+// Completes a draft, and truncates the stored list to `size` bytes.
 fn shorten_unfinished_list<D: BlockDevice>(
     alloc: Global,
     dev: &mut D,
@@ -188,7 +188,7 @@ fn shorten_unfinished_list<D: BlockDevice>(
     Ok(cut)
 }
 
-// Cuts or zero-pads a draft to a size.
+// Truncates a draft, or pads it with zeros, to `size` bytes.
 fn truncate_unfinished_list<D: BlockDevice>(
     alloc: Global,
     dev: &mut D,
@@ -214,13 +214,14 @@ fn truncate_unfinished_list<D: BlockDevice>(
     Ok(cut)
 }
 
-/// Sets the size of the contents, in bytes: cuts them, or pads them with zeros.
+/// Truncates the contents, or pads them with zeros, to `size` bytes. Does nothing if the contents
+/// already have this size.
 ///
-/// Contents of at most the device's inline limit are then in memory. If the size changes, the
-/// caller must have kept free as many blocks as the contents' form may need.
+/// If the size changes, contents of at most the device's inline limit are in memory after the call.
+/// The caller must have reserved as many free blocks as the contents may need.
 ///
-/// Errors: `Io` if the device failed, `NoMemory` if memory for a block isn't granted. After either
-/// the contents are lost.
+/// Errors: `Io` if a device call fails. `NoMemory` if memory for a block can't be allocated. After
+/// an error, the contents are lost.
 pub fn truncate_contents<D: BlockDevice>(
     alloc: Global,
     dev: &mut D,

@@ -1,4 +1,4 @@
-// Drafts that continue at another offset.
+// Continues drafts at another offset.
 
 ghost use Rattle.std.specs.Prelude.{◌≡◌, ◌≢◌, ◌≤◌, ◌<◌, ◌+◌, ◌^◌, length, min, IfOk};
 ghost use Rattle.lfs_model.specs.layers.BlockSets.{used_count};
@@ -18,13 +18,14 @@ use lfs_blocks::BlockMap;
 use lfs_device::{BlockDevice, Error};
 use std::alloc::Global;
 
-/// Returns a draft whose new list ends at an offset within the contents. If this one doesn't, it is
-/// completed, and another draft is started over it. The contents don't change.
+/// Returns a draft whose new list ends at offset `place`, which must be within the contents. If the
+/// new list of `hand` ends elsewhere, completes `hand` and starts another draft over the result.
+/// The bytes of the contents don't change.
 ///
-/// If the draft has to be completed, requires enough free blocks for the remaining bytes of its old
-/// list.
+/// Requires enough free blocks for the remaining bytes of the old list, if `hand` has to be
+/// completed.
 ///
-/// Errors: `NoMemory` if memory isn't granted, `Io` if the device failed.
+/// Errors: `NoMemory` if memory can't be allocated. `Io` if a device call fails.
 pub(crate) fn restart_list_at<D: BlockDevice>(
     alloc: Global,
     dev: &mut D,
@@ -48,13 +49,13 @@ pub(crate) fn restart_list_at<D: BlockDevice>(
     Ok(hand)
 }
 
-/// Writes at least one byte at offset `place` of a draft. If the offset is past the contents' end,
-/// zeros fill the gap.
+/// Writes at least one byte at offset `place` of a draft. If the offset is past the end of the
+/// contents, zeros fill the gap.
 ///
-/// Requires enough free blocks for the draft, and for a second one if the write doesn't continue
-/// this one.
+/// Requires enough free blocks for the draft, and for a second draft if the bytes don't continue
+/// the new list.
 ///
-/// Errors: `NoMemory` if memory isn't granted, `Io` if the device failed.
+/// Errors: `NoMemory` if memory can't be allocated. `Io` if a device call fails.
 pub(crate) fn write_at_position<D: BlockDevice>(
     alloc: Global,
     dev: &mut D,

@@ -1,4 +1,4 @@
-/// A range of bytes within one block of a list: `len` bytes from `offset` in the block on.
+/// A range of `len` bytes within one block of a list, starting at `offset` in the block.
 #[derive(Clone, Copy)]
 pub struct BlockPart {
     pub block: u32,

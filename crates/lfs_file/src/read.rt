@@ -10,7 +10,7 @@ use crate::known::KnownBlocks;
 use byteorder::{ByteOrder, LittleEndian};
 use lfs_device::{BlockDevice, Error};
 
-// Returns pointer `k` of a block. `Corrupt` if the device has no such block.
+// Returns pointer `k` of a block, or `Corrupt` if the device has no such block.
 pub(crate) fn read_block_pointer<D: BlockDevice>(
     dev: &mut D,
     block: u32,
@@ -48,7 +48,8 @@ pub(crate) fn find_block_at<D: BlockDevice>(
     KnownBlocks::new().find_block(dev, head, last, index)
 }
 
-// Returns the block that pointer 0 of a block names. `Corrupt` if the device has no such block.
+// Returns the block to which pointer 0 of a block refers, or `Corrupt` if the device has no such
+// block.
 pub(crate) fn read_block_before<D: BlockDevice>(dev: &mut D, block: u32) -> Result<u32, Error>
     requires { block < (D.geometry dev.old).block_count }
     ensures word { IfOk result (λ word. word ≡ word_at (block_bytes (D.blocks dev.old) block) 0) }
@@ -64,10 +65,11 @@ pub(crate) fn read_block_before<D: BlockDevice>(dev: &mut D, block: u32) -> Resu
     Ok(word)
 }
 
-/// Returns the block before `block` in a list: the one that its pointer 0 names. `count` is how
-/// many blocks come before it; if it is 0, returns 0 without a read.
+/// Returns the block before `block` in a list, to which pointer 0 of `block` refers. `count` is the
+/// number of blocks before `block`. If `count` is 0, returns 0 without a read.
 ///
-/// Errors: `Corrupt` if the pointer leads out of the device, `Io` if the device failed.
+/// Errors: `Corrupt` if the pointer refers to a block outside the device. `Io` if a device call
+/// fails.
 pub fn head_before_block<D: BlockDevice>(dev: &mut D, block: u32, count: u32) -> Result<u32, Error>
     requires { block < (D.geometry dev.old).block_count }
     ensures word { IfOk result (λ word. 0 < count → word ≡ word_at (block_bytes (D.blocks dev.old) block) 0) }
@@ -83,7 +85,7 @@ pub fn head_before_block<D: BlockDevice>(dev: &mut D, block: u32, count: u32) ->
     Ok(head)
 }
 
-// Returns how many pointers the list's block at an index begins with.
+// Returns the number of pointers with which the list's block at an index begins.
 pub(crate) fn pointer_count_at(index: u32) -> u32
     ensures { result ≡ pointer_count index }
 {
@@ -94,7 +96,7 @@ pub(crate) fn pointer_count_at(index: u32) -> u32
     }
 }
 
-// Reads `len` bytes of a block into the buffer, from `start` on.
+// Reads `len` bytes of a block, starting at offset `off`, into the buffer at `start`.
 pub(crate) fn read_into_range<D: BlockDevice>(
     dev: &mut D,
     block: u32,
@@ -115,14 +117,16 @@ pub(crate) fn read_into_range<D: BlockDevice>(
 }
 
 /// Reads a file's bytes from position `pos` on into the buffer, as many as the buffer and the
-/// file's `size` allow. Returns how many. The file's list has its last block at `head`.
+/// file's `size` allow. Returns the number of bytes that were read. The last block of the file's
+/// list is `head`.
 ///
-/// The walk follows the longest pointers that don't overshoot to the last block of the read
-/// (DESIGN.md of littlefs, "CTZ skip-lists"). Each block before it costs one pointer.
+/// The walk to the last block of the read follows the longest pointers that don't overshoot
+/// (DESIGN.md of littlefs, "CTZ skip-lists"). For each earlier block of the read, one pointer is
+/// read.
 ///
-/// Errors: `Corrupt` if a pointer leads out of the device, which a well-formed list never does; a
-/// list that isn't well formed may also return any bytes. `Io` if the device failed. After an error
-/// the buffer may hold any bytes.
+/// Errors: `Corrupt` if a pointer refers to a block outside the device, which never happens in a
+/// well-formed list. `Io` if a device call fails. After an error, the buffer may contain any bytes.
+/// If the list isn't well formed, the call may also return Ok with any bytes.
 pub fn read_at<D: BlockDevice>(
     dev: &mut D,
     head: u32,
@@ -135,8 +139,8 @@ pub fn read_at<D: BlockDevice>(
         IfOk result (λ n. take n buf.new ≡ slice_range (list_bytes (D.blocks dev.old) (D.geometry dev.old).block_size head size) pos (pos + n)) }
     ensures corrupt { IsErrOf result Error.Corrupt → ¬ IsSkipList (D.blocks dev.old) (D.geometry dev.old).block_size head size }
     ensures reading { ReadsOrCorrupt D.BlockDevice dev.old dev.new result }
-    // The walk to the last block costs at most twice the logarithm of the list's number of blocks.
-    // Then each block costs two reads.
+    // The walk costs at most twice as many reads as the binary logarithm of the list's number of
+    // blocks, rounded up. After the walk, each block costs at most two reads.
     ensures few { (m first last off end : ℕ) → block_count_for (D.geometry dev.old).block_size size ≤ 2 ^ m
         → IsBytePlace (D.geometry dev.old).block_size pos first off
         → IsBytePlace (D.geometry dev.old).block_size (pos + min (length buf.old) (size - pos) - 1) last end

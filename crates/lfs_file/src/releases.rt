@@ -1,4 +1,4 @@
-// Releases of blocks in flight.
+// Releases blocks in flight.
 
 ghost use Rattle.std.specs.Prelude.{◌≡◌, ◌≤◌, ◌<◌, ◌∷◌, [], length, drop, OnOk};
 ghost use Rattle.lfs_model.specs.format.SkipLists.{AreListBlocks, blocks_to_head};
@@ -20,10 +20,10 @@ pub(crate) fn release_block(map: &mut BlockMap, block: u32)
     }
 }
 
-/// Releases the blocks of a list from an index on that are in flight, the last one first. Used
-/// blocks stay used. The list has `count` blocks, the last one at `head`.
+/// Releases the in-flight blocks of a list from the index `from` on, starting with the last block.
+/// Used blocks stay used. The list has `count` blocks, and its last block is `head`.
 ///
-/// Errors: `Io` if the device failed.
+/// Errors: `Io` if a device call fails.
 pub(crate) fn release_list_from<D: BlockDevice>(
     dev: &mut D,
     map: &mut BlockMap,

@@ -1,12 +1,14 @@
-/// The partial last block of a list: the bytes that don't fill a block, by where they are.
+/// The location of a list's partial last block, which contains the bytes that don't fill a block.
 #[derive(Clone, Copy)]
 pub enum RestLocation {
-    /// There is none: the list ends with a full block.
+    /// The list has no partial block.
     Closed,
-    /// On the device, in this block of another list. It is copied once more bytes are appended.
+    /// The partial block is on the device, in the given block of another list. The partial block is
+    /// copied when more bytes are appended.
     Shared(u32),
-    /// In memory. It will be programmed to this block, which was passed in.
+    /// The partial block is in memory, and will be programmed to the given block, which the caller
+    /// passed in.
     Handed(u32),
-    /// In memory, without a block. The list has no other bytes.
+    /// The partial block is in memory, without a block on the device. The list has no other bytes.
     Held,
 }

@@ -1,4 +1,4 @@
-// The blocks that two lists share.
+// Counts the blocks that two lists share.
 
 ghost use Rattle.std.specs.Prelude.{◌≡◌, ◌≤◌, ◌<◌, ◌+◌, ◌-◌, min, slice_index, IfOk};
 ghost use Rattle.lfs_model.specs.session.History.{read_count};
@@ -10,7 +10,7 @@ ghost use Rattle.lfs_file.specs.SharedBlocks.{IsSharedCount, unshared_count};
 use crate::head_before_block;
 use lfs_device::{BlockDevice, Error};
 
-// Returns the last one of a list's first `index` blocks.
+// Returns the last of a list's first `index` blocks.
 fn list_block_before<D: BlockDevice>(
     dev: &mut D,
     head: u32,
@@ -31,12 +31,13 @@ fn list_block_before<D: BlockDevice>(
     Ok(block)
 }
 
-/// Returns how many blocks two lists share at their beginnings. `count` and `other_count` are the
-/// lists' numbers of blocks, `head` and `other` their last blocks.
+/// Returns the number of blocks that two lists share at their beginnings. `count` and `other_count`
+/// are the lists' numbers of blocks, and `head` and `other` are their last blocks.
 ///
-/// Costs one read for each block that the lists don't share, and none if one of them has no block.
+/// Costs one read for each block that the lists don't share, and no read if one of the lists has no
+/// blocks.
 ///
-/// Errors: `Io` if the device failed.
+/// Errors: `Io` if a device call fails.
 pub(crate) fn shared_block_count<D: BlockDevice>(
     dev: &mut D,
     head: u32,

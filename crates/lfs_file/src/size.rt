@@ -1,8 +1,8 @@
 ghost use Rattle.std.specs.Prelude.{◌≡◌, ◌≤◌};
 ghost use Rattle.lfs_model.specs.format.SkipLists.{IsBytePlace, block_count_for};
 
-/// Returns the number of blocks of a list that holds `size` bytes; 0 for no bytes. Requires a block
-/// size of at least 1,024 bytes.
+/// Returns the number of blocks in a list of `size` bytes, which is 0 if `size` is 0. Requires a
+/// block size of at least 1,024 bytes.
 pub fn blocks_for(block_size: u32, size: u32) -> u32
     requires { 1024 ≤ block_size }
     ensures { result ≡ block_count_for block_size size }
@@ -14,10 +14,10 @@ pub fn blocks_for(block_size: u32, size: u32) -> u32
     last + 1
 }
 
-/// Returns where a list has the file's byte `pos`: the index of its block, counted from the file's
-/// first block, and the offset in that block, counted from the block's start. Requires a block size
-/// of at least 1,024 bytes. The formula is that of DESIGN.md of littlefs ("CTZ skip-lists").
-// The code is long, so callers share it.
+/// Returns the index of the block that contains a file's byte `pos`, and the byte's offset in that
+/// block. The first block of the file has the index 0. Requires a block size of at least 1,024
+/// bytes. The formula is from DESIGN.md of littlefs ("CTZ skip-lists").
+// The function is long, so it isn't inlined into each caller.
 #[inline(never)]
 pub fn place(block_size: u32, pos: u32) -> (u32, u32)
     requires { 1024 ≤ block_size }
@@ -29,7 +29,7 @@ pub fn place(block_size: u32, pos: u32) -> (u32, u32)
     if guess == 0 {
         return (0, pos);
     }
-    // So the guess is right or one too great.
+    // The guess is therefore right or one too large.
     let index = if pos % mean < 4 * ((guess - 1).count_ones() + 2) {
         guess - 1
     } else {

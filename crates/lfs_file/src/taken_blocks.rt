@@ -1,4 +1,4 @@
-// Blocks allocated from the map.
+// Allocates blocks from the map.
 
 ghost use Rattle.std.specs.Prelude.{◌≡◌, ◌≤◌, ◌+◌, ℕ, length, IfOk, IfErr};
 ghost use Rattle.lfs_model.specs.layers.BlockSets.{in_flight_count, used_count};
@@ -8,7 +8,7 @@ use lfs_blocks::BlockMap;
 use lfs_device::Error;
 use std::alloc::Global;
 
-// Allocates `count` free blocks. Requires that as many are free.
+// Allocates `count` free blocks. Requires that at least `count` blocks are free.
 pub(crate) fn take_blocks(alloc: Global, map: &mut BlockMap, count: u32) -> Result<Vec<u32>, Error>
     requires { used_count map.old + in_flight_count map.old + count ≤ length map.old }
     ensures taken { IfOk result (λ v. TakesFreeBlocks map.old map.new v.items) }

@@ -12,7 +12,7 @@ use crate::blocks_for;
 use crate::way::{WalkedBlocks, copy_pointers, find_first_block, word_of_slice};
 use lfs_device::{BlockDevice, Error};
 
-// Returns whether `block` is the one that all later blocks' pointers to its index name.
+// Returns whether all pointers of later blocks to this index refer to `block`.
 fn named_by_later(words: &[u8], block: u32, index: u32, last: u32) -> bool
     requires order { index ≤ last }
     requires room { length words.now ≡ 128 }
@@ -31,9 +31,9 @@ fn named_by_later(words: &[u8], block: u32, index: u32, last: u32) -> bool
     true
 }
 
-// Returns the block that pointer 0 of `block` names, and copies the pointers of `block` to `words`.
-// Costs one read, or none if the block was on the walk. `Corrupt` if the block isn't on the device,
-// or isn't the one that the pointers to its index name.
+// Returns the block to which pointer 0 of `block` refers, and copies the pointers of `block` to
+// `words`. Costs one read, or none if the block was on the walk. Returns `Corrupt` if the block
+// isn't on the device, or if a pointer to its index refers to another block.
 fn check_block<D: BlockDevice>(
     dev: &mut D,
     block: u32,
@@ -56,17 +56,18 @@ fn check_block<D: BlockDevice>(
     Ok(word_of_slice(words, 0))
 }
 
-/// Visits each block of a file's list once, the last one first, and checks the list. The list has
-/// its last block at `head` and holds `size` bytes.
+/// Visits each block of a file's list once, starting with the last block, and checks the list. The
+/// last block of the list is `head`, and the list has `size` bytes.
 ///
-/// Returns Ok only if the list is well formed (DESIGN.md of littlefs, "CTZ skip-lists"): it holds 1
-/// to 2,147,483,647 bytes, its blocks are on the device and all different, and each pointer names
-/// the block that the rule says.
+/// Returns Ok only if the list is well formed (DESIGN.md of littlefs, "CTZ skip-lists"). A
+/// well-formed list has 1 to 2,147,483,647 bytes, and all of its blocks are on the device and
+/// differ from each other. Each pointer of a well-formed list refers to the block that the format
+/// requires.
 ///
-/// Costs fewer reads than the list has blocks. Allocates nothing, but needs some 4 KiB of stack.
+/// Costs fewer reads than the list has blocks. Allocates no memory, but needs about 4 KiB of stack.
 ///
-/// Errors: `Corrupt` only if the list isn't well formed; some blocks may have been visited by then.
-/// `Io` if the device failed.
+/// Errors: `Corrupt` if the list isn't well formed, in which case some blocks may have been
+/// visited. `Io` if a device call fails.
 pub fn walk<D: BlockDevice, F: FnMut(u32)>(
     dev: &mut D,
     head: u32,
@@ -89,7 +90,8 @@ pub fn walk<D: BlockDevice, F: FnMut(u32)>(
     if last >= geometry.block_count {
         return Err(Error::Corrupt);
     }
-    // If any block occurred twice, the first one would: equal blocks have equal blocks before them.
+    // If any block occurred twice, the first one would, because equal blocks have equal
+    // predecessors.
     let mut way = WalkedBlocks::new();
     let first = find_first_block(dev, head, last, &mut way)?;
     let mut words = [0; 128];

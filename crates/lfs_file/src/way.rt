@@ -1,4 +1,4 @@
-// The walk from a list's last block back to its first.
+// The walk from the last block of a list back to the first block.
 
 ghost use Rattle.std.specs.Prelude.{◌≡◌, ◌≤◌, ◌<◌, ◌+◌, ◌*◌, ◌↔◌, length, OnOk, IfOk, IfErr, IsErrOf, IsTrue, slice_index};
 ghost use Rattle.lfs_device.specs.DeviceCalls.{ReadsOnly, ReportsFaults};
@@ -13,12 +13,12 @@ use crate::read::{pointer_count_at, read_into_range};
 use byteorder::{ByteOrder, LittleEndian};
 use lfs_device::{BlockDevice, Error};
 
-// The blocks on the walk with their pointers, each in the row that is the number of trailing zeros
-// of its index. No two blocks on the walk have the same row.
+// The blocks on the walk, with their pointers. Each block is in the row whose number is the number
+// of trailing zeros of the block's index. No two blocks on the walk have the same row.
 #[derive(Drop)]
 pub(crate) struct WalkedBlocks {
     pub blocks: [u32; 32],
-    // Each block has 32 words.
+    // Each row has 32 words of 4 bytes.
     pub words: [u8; 4096],
 }
 
@@ -32,7 +32,7 @@ impl WalkedBlocks {
     }
 }
 
-// Returns the little-endian word at an offset.
+// Returns the little-endian 32-bit word at an offset.
 pub(crate) fn word_of_slice(words: &[u8], at: usize) -> u32
     requires { at + 4 ≤ length words.now }
     ensures { result ≡ word_at words.now at }
@@ -40,7 +40,7 @@ pub(crate) fn word_of_slice(words: &[u8], at: usize) -> u32
     LittleEndian::read_u32(&words[at..at + 4])
 }
 
-// Returns whether the block at this index is on the walk.
+// Returns whether the block at `index` is on the walk.
 fn is_index_visited(index: u32, last: u32) -> bool
     requires some { 0 < index }
     requires order { index ≤ last }
@@ -49,8 +49,8 @@ fn is_index_visited(index: u32, last: u32) -> bool
     last - index < 1 << index.trailing_zeros()
 }
 
-// Returns the first block of a list, and notes the blocks on the walk to it. Each of them is read
-// once.
+// Returns the first block of a list, and records the blocks on the walk to it. Reads each of these
+// blocks once.
 pub(crate) fn find_first_block<D: BlockDevice>(
     dev: &mut D,
     head: u32,

@@ -1,4 +1,4 @@
-// Drafts, and writes to them.
+// Drafts, and writes to drafts.
 
 ghost use Rattle.std.specs.Prelude.{◌≡◌, ◌<◌, ◌+◌, ◌++◌, ◌^◌, ◌&&◌, ◌==◌, length, OnOk};
 ghost use Rattle.std.specs.Bool.{OnFalse, OnTrue};
@@ -19,9 +19,9 @@ use lfs_blocks::BlockMap;
 use lfs_device::{BlockDevice, Error};
 use std::alloc::Global;
 
-/// A draft: a list being rewritten. `list` is the new list, with the first bytes of the contents;
-/// `base` is the old list, which has the bytes behind them. Both share their first `shared` blocks.
-/// A `base` of no bytes stands for none.
+/// A draft, which is a list that is being rewritten. `list` is the new list, which has the first
+/// bytes of the contents, and `base` is the old list, which has the bytes after them. The two lists
+/// share their first `shared` blocks. If `base` has no bytes, there is no old list.
 #[derive(Drop)]
 pub struct PendingList {
     pub list: Extender,
@@ -29,10 +29,10 @@ pub struct PendingList {
     pub shared: u32,
 }
 
-/// Writes bytes at offset `place` in memory alone, if the draft's new list ends there and its
-/// partial block isn't full with them. Returns false, and changes nothing, if it can't.
+/// Writes bytes at offset `place` in memory and returns true if the draft's new list ends there and
+/// the bytes don't fill its partial block. Otherwise, returns false and changes nothing.
 ///
-/// Requires that the bytes end before 2,147,483,648.
+/// Requires that the bytes end before offset 2,147,483,648.
 pub(crate) fn buffer_within_block(hand: &mut PendingList, place: u32, bytes: &[u8]) -> bool
     requires { place + length bytes.now < 2 ^ 31 }
     ensures fits { result ≡ ((growing_size hand.old.list == place) && fits_unwritten_block hand.old.list (length bytes.now)) }
@@ -46,8 +46,8 @@ pub(crate) fn buffer_within_block(hand: &mut PendingList, place: u32, bytes: &[u
 ///
 /// Requires enough free blocks for the bytes.
 ///
-/// Errors: `Io` if the device failed, `NoMemory` if memory isn't granted. After either the draft
-/// can only be dropped.
+/// Errors: `Io` if a device call fails. `NoMemory` if memory can't be allocated. After an error,
+/// the draft can only be dropped.
 pub(crate) fn append_to_unfinished<D: BlockDevice>(
     alloc: Global,
     dev: &mut D,
@@ -68,12 +68,12 @@ pub(crate) fn append_to_unfinished<D: BlockDevice>(
 }
 
 /// Writes at least one byte at offset `place`, at the end of the draft's new list. If the offset is
-/// past the contents' end, zeros fill the gap.
+/// past the end of the contents, zeros fill the gap.
 ///
 /// Requires enough free blocks for the bytes.
 ///
-/// Errors: `Io` if the device failed, `NoMemory` if memory isn't granted. After either the draft
-/// can only be dropped.
+/// Errors: `Io` if a device call fails. `NoMemory` if memory can't be allocated. After an error,
+/// the draft can only be dropped.
 pub(crate) fn fill_and_write<D: BlockDevice>(
     alloc: Global,
     dev: &mut D,

@@ -1,4 +1,4 @@
-// Gaps, filled with zeros.
+// Fills gaps with zeros.
 
 ghost use Rattle.std.specs.Prelude.{◌<◌, ◌+◌, replicate, OnOk};
 ghost use Rattle.lfs_model.specs.session.Writers.{written_contents};
@@ -19,8 +19,8 @@ use std::alloc::Global;
 ///
 /// Requires enough free blocks for the zeros.
 ///
-/// Errors: `Io` if the device failed, `NoMemory` if memory isn't granted. After either the draft
-/// can only be dropped.
+/// Errors: `Io` if a device call fails. `NoMemory` if memory can't be allocated. After an error,
+/// the draft can only be dropped.
 pub(crate) fn write_zeros<D: BlockDevice>(
     alloc: Global,
     dev: &mut D,

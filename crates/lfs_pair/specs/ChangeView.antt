@@ -7,7 +7,7 @@ use Rattle.lfs_tag.specs.FieldsView.{move_view}
 use Rattle.lfs_pair.specs.declared.change.Change.{Change}
 use Rattle.lfs_pair.specs.declared.change.Change.TheVariants as changes
 
--- one change
+-- One change as the definitions see it.
 abbrev pub change_view : Change → model.ContentChange
 change_view (changes.Create id kind name) = model.Create id kind name.now
 change_view (changes.Delete id) = model.Delete id
@@ -17,6 +17,6 @@ change_view (changes.NoAttr id attr) = model.RemoveAttribute id attr
 change_view (changes.Tail hard pair) = model.PutTail hard (option_map address_view pair)
 change_view (changes.Move state) = model.PutMove (move_view state)
 
--- several changes
+-- Several changes as the definitions see them.
 abbrev pub changes_view : List Change → List model.ContentChange
 changes_view changes = map change_view changes

@@ -1,4 +1,4 @@
--- The cost of fetching a pair's header, and its errors.
+-- The cost of fetching a pair's header, and the errors of the fetch.
 use Rattle.std.specs.Prelude.{◌≡◌, ◌≤◌, ◌⊎◌, ◌+◌, ℕ, List, Result, Err, None, IfErr, OnOk}
 use Rattle.lfs_device.specs.declared.device.BlockDevice.{Ghosts}
 use Rattle.lfs_device.specs.declared.error.Error.{Error}
@@ -13,29 +13,30 @@ use Rattle.lfs_pair.specs.declared.block_logs.ActiveBlockCandidate.{ActiveBlockC
 use Rattle.lfs_pair.specs.declared.pair.Pair.{Pair}
 use Rattle.lfs_pair.specs.Pair.{fetch_reads}
 
--- what was read of a block is the end, the last tag and the revision of its log
+-- The candidate has the end, the last tag and the revision count of the block's log.
 pub record CandidateDescribesLog (block : List ℕ) (head : ActiveBlockCandidate) : Type 0 where
   pub end : head.end ≡ (chain_of block).end
   pub last : head.last ≡ (chain_of block).last
   pub revision : head.revision ≡ block_revision block
 
--- no header is made: the block's log is malformed, or memory isn't granted
+-- The header can't be made: the block's log is malformed, or memory runs out.
 pub record HeaderFails (block : List ℕ) (result : Result Pair Error) : Type 0 where
   pub corrupt : result ≡ Err Corrupt → content_after empty_raw_content (block_entries block) ≡ None
   pub errors : IfErr result (λ e. (e ≡ Corrupt) ⊎ (e ≡ NoMemory))
 
--- two reads if both succeed, otherwise at most two
+-- There are two reads if both succeed, otherwise at most two.
 pub record ReadsTwice {X : Type 0} (before after : List CallEvent) (result : Result X Error) : Type 0 where
   pub reads : read_count after ≤ read_count before + 2
   pub both : OnOk result (read_count after ≡ read_count before + 2)
 
--- A fetch fails: at `Corrupt` no content is at the address, and `Io` comes with a fault of the device.
+-- The fetch fails. With `Corrupt`, there is no content at the address. The error is `Io` if and
+-- only if the device had a fault.
 pub record FetchFails {D : Type 0} (g : Ghosts D) (at : ℕ × ℕ) (old new : D) (result : Result Pair Error) : Type 0 where
   pub corrupt : result ≡ Err Corrupt → raw_content (disk_of_blocks (g.geometry old) (g.blocks old)) at ≡ None
   pub errors : IfErr result (λ e. (e ≡ Corrupt) ⊎ ((e ≡ NoMemory) ⊎ (e ≡ Io)))
   pub faults : ReportsFaults g old new result
 
--- the number of reads: exact at Ok, and at most four
+-- The number of reads is exactly that of `fetch_reads` if the result is Ok, and at most four.
 pub record FetchReads (disk : Disk) (at : ℕ × ℕ) (before after : List CallEvent) (result : Result Pair Error) : Type 0 where
   pub reads : OnOk result (read_count after ≡ read_count before + fetch_reads disk at)
   pub few : read_count after ≤ read_count before + 4

@@ -16,46 +16,48 @@ use Rattle.lfs_pair.specs.Writing.{HasOneCommit}
 use Rattle.lfs_pair.specs.HalfCut.{AreSplittable, IsFittingSplit}
 use Rattle.lfs_model.specs.format.Thread.{addresses_blocks}
 
--- two pairs have no block in common
+-- The two pairs have no block in common.
 pub record AreApart (at fresh : ℕ × ℕ) : Type 0 where
   pub first_first : at.0 ≢ fresh.0
   pub first_second : at.0 ≢ fresh.1
   pub second_first : at.1 ≢ fresh.0
   pub second_second : at.1 ≢ fresh.1
 
--- The conditions of a split: those of a commit, two blocks of the disk that aren't the pair's, and a content that can be cut into
--- two parts that each fit a pair.
+-- A split is possible: a commit is, the fresh pair has two blocks of the disk that aren't the old
+-- pair's, and the content can be divided into two parts that each fit in a pair.
 pub record CanSplitPair (disk : Disk) (history : List CallEvent) (pair : Pair) (fresh : ℕ × ℕ) (changes : List ContentChange) : Type 0 where
   pub commit : CanCommit disk history pair changes
   pub fresh_is : IsPairAddress disk fresh
   pub apart : AreApart (header_address pair) fresh
   pub cut : AreSplittable disk.block_size disk.page commit.new.slots
 
--- The conditions of a split of a pair whose active block has these bytes.
+-- The split is possible, and the active block has these bytes.
 pub record CanSplitWithBlock (disk : Disk) (history : List CallEvent) (pair : Pair) (fresh : ℕ × ℕ) (changes : List ContentChange) (block : List ℕ) : Type 0 where
   pub can : CanSplitPair disk history pair fresh changes
   pub holds : block ≡ block_bytes disk.blocks pair.active
 
--- the old pair's new content: the first slots, a hard tail to the fresh pair, and the delta of the global state
+-- The content of the old pair after a split: the first slots, a hard tail to the fresh pair, and
+-- the delta of the global state.
 abbrev pub split_front : RawContent → ℕ → ℕ × ℕ → RawContent
 split_front c cut fresh = record { slots = take cut c.slots; tail = Some (record { hard = true; to = fresh }); move = c.move }
 
--- the fresh pair's content: the other slots, and the old tail
+-- The content of the fresh pair after a split: the other slots, and the old tail.
 abbrev pub split_back : RawContent → ℕ → RawContent
 split_back c cut = record { slots = drop cut c.slots; tail = c.tail; move = zero_gstate }
 
--- if the whole doesn't fit one pair, both parts have slots; so the first slot stays in the old pair
+-- If the whole content doesn't fit in one pair, both parts have slots. So the first slot stays in
+-- the old pair.
 abbrev pub BothHaveSlots : ℕ → ℕ → RawContent → ℕ → Type 0
 BothHaveSlots block_size page whole cut = (RawContentFits block_size page whole → ⊥) → (0 < cut) × (cut < length whole.slots)
 
--- these are the two parts into which a content is cut
+-- These are the two parts into which a split divides a content.
 pub record IsContentCut (block_size page : ℕ) (whole : RawContent) (fresh : ℕ × ℕ) (front back : RawContent) : Type 0 where
   pub cut : ℕ
   pub is_cut : IsFittingSplit block_size page whole.slots cut
   pub front_is : front ≡ split_front whole cut fresh
   pub back_is : back ≡ split_back whole cut
 
--- A split that is done: each pair has its part of the changed content, and each part fits.
+-- The split succeeded: each pair has its part of the changed content, and each part fits.
 pub record SplitsPair (old : Disk) (before : List CallEvent) (changes : List ContentChange) (was : Pair) (fresh : ℕ × ℕ) (disk : Disk) (history : List CallEvent) (pair fresh_pair : Pair) : Type 0 where
   pub new : RawContent
   pub made : changed_pair_content old (header_address was) changes ≡ Some new
@@ -66,15 +68,15 @@ pub record SplitsPair (old : Disk) (before : List CallEvent) (changes : List Con
   pub front : HasWrittenContent disk history (header_address was) pair (split_front new cut fresh)
   pub back : HasWrittenContent disk history fresh fresh_pair (split_back new cut)
   pub first : KeepsFirstEntry old (header_address was) (Some (split_front new cut fresh)) disk
-  -- The old pair's part is written into the block that wasn't active, with the next revision. The block that was active stays as
-  -- it was.
+  -- The old pair's part is in the block that wasn't active, with the next revision count. The block
+  -- that was active is unchanged.
   pub moved : pair.active ≢ was.active
   pub kept : disk_block disk was.active ≡ disk_block old was.active
   pub front_anew : HasOneCommit ((was.revision + 1) % 2 ^ 32) (split_front new cut fresh) (disk_block disk pair.active)
   pub back_fresh : HasFreshContent 1 (split_back new cut) disk fresh fresh_pair
   pub clears : ErasedOneMore 2 before history
 
--- each pair on the disk has its part
+-- Each pair on the disk has its part.
 pub record PairsHaveParts (old : Disk) (at fresh : ℕ × ℕ) (changes : List ContentChange) (disk : Disk) : Type 0 where
   pub new : RawContent
   pub made : changed_pair_content old at changes ≡ Some new
@@ -85,15 +87,15 @@ pub record PairsHaveParts (old : Disk) (at fresh : ℕ × ℕ) (changes : List C
   pub front : HasNewContent old at (split_front new cut fresh) disk
   pub back : raw_content disk fresh ≡ Some (split_back new cut)
 
--- only the blocks of the two pairs change
+-- Only the blocks of the two pairs change.
 abbrev pub KeepsOutsideBoth : ℕ × ℕ → ℕ × ℕ → Blocks → Blocks → Type 0
 KeepsOutsideBoth at fresh old new = SameExceptBlocks (addresses_blocks at fresh) old new
 
--- bytes of other blocks that were unprogrammed still are
+-- The unprogrammed bytes of all other blocks stay unprogrammed.
 abbrev pub OutsideBothStaysUnprogrammed : ℕ × ℕ → ℕ × ℕ → List CallEvent → List CallEvent → Type 0
 OutsideBothStaysUnprogrammed at fresh old new = StayUnprogrammed (addresses_blocks at fresh) old new
 
--- A stop in a split leaves the old pair with its old content, or both pairs with their parts.
+-- A power loss in a split leaves the old pair with its old content, or both pairs with their parts.
 pub record LossLeavesSplit (old : Disk) (at fresh : ℕ × ℕ) (changes : List ContentChange) (left : Blocks) : Type 0 where
   pub others : KeepsOutsideBoth at fresh old.blocks left
   pub content : HasOldContent old at (record old { blocks = left }) ⊎ PairsHaveParts old at fresh changes (record old { blocks = left })

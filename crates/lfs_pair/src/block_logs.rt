@@ -6,18 +6,18 @@ ghost use Rattle.lfs_model.specs.format.Content.{has_commit};
 
 use lfs_tag::{Log, Tag};
 
-// What is read of a block to decide whether it is its pair's active one.
+// What is read from a block to decide whether it is the active block of its pair.
 #[derive(Clone, Copy, Drop)]
 pub(crate) struct ActiveBlockCandidate {
     pub has_commit: bool,
     pub revision: u32,
-    // The offset of the log's end, in bytes, and the log's last tag.
+    // The offset in bytes at which the log ends, and the tag that the next tag is XORed with.
     pub end: usize,
     pub last: Tag,
 }
 
 impl ActiveBlockCandidate {
-    // Reads the log of a block with these bytes.
+    // Reads the log of a block whose bytes are `bytes`.
     pub(crate) fn of(bytes: &[u8]) -> ActiveBlockCandidate
         ensures has_commit { result.has_commit ≡ has_commit bytes.now }
         ensures revision { result.revision ≡ block_revision bytes.now }

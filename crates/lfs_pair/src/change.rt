@@ -16,20 +16,21 @@ use lfs_tag::kinds::{ATTRIBUTE, CREATE, DELETE};
 use lfs_tag::{Content, ContentError, Entry, MoveState, NULL_ADDRESS, Tag, Tail};
 use std::alloc::Global;
 
-/// A change to the content of a pair. Changes are applied in order, so an id counts the slots as
-/// they are after the changes before it.
+/// A change to the content of a pair. Changes are applied in order, so an id refers to the slots
+/// that result from the preceding changes.
 #[derive(Clone, Copy, Drop)]
 pub enum Change<'a> {
-    /// Inserts a slot at the id, from 0 to the number of slots. `kind` is the type of its name.
+    /// Inserts a slot with a name at the id, which is at most the number of slots. `kind` is the
+    /// type of the name.
     Create { id: u16, kind: u16, name: &'a [u8] },
-    /// Removes the slot at the id. Each greater id decreases by one.
+    /// Removes the slot at the id, after which each greater id decreases by one.
     Delete { id: u16 },
-    /// Sets the struct of the slot at the id. `kind` is the struct's type.
+    /// Sets the struct of the slot at the id. `kind` is the type of the struct.
     Struct { id: u16, kind: u16, bytes: &'a [u8] },
-    /// Sets an attribute of the slot at the id, in place of one of the same type. Its value has 0
-    /// to 1,022 bytes.
+    /// Sets an attribute of the slot at the id and replaces one of the same type. The attribute's
+    /// value has at most 1,022 bytes.
     Attr { id: u16, attr: u8, bytes: &'a [u8] },
-    /// Removes the attribute of that type from the slot at the id, if it has one.
+    /// Removes the attribute of type `attr` from the slot at the id, if the slot has one.
     NoAttr { id: u16, attr: u8 },
     /// Sets the pair's tail, or removes it if `pair` is None.
     Tail { hard: bool, pair: Option<[u32; 2]> },
@@ -55,7 +56,7 @@ fn apply_entry_fields<'a>(
     Ok(())
 }
 
-// Applies an entry that removes an attribute to the content.
+// Applies to the content an entry that removes an attribute.
 fn apply_attribute_removal(
     alloc: Global,
     content: &mut Content<'_>,
@@ -70,7 +71,7 @@ fn apply_attribute_removal(
     Ok(())
 }
 
-// Returns the tail that a change sets. An address of two null addresses is no tail.
+// Returns the tail that a change sets, or None if the change has no pair or two null addresses.
 fn tail_unless_null(hard: bool, pair: Option<[u32; 2]>) -> Option<Tail>
     ensures { option_map tail_view result ≡ tail_with_pair hard (tail_or_null (option_map address_view pair)) }
 {
@@ -86,7 +87,7 @@ fn tail_unless_null(hard: bool, pair: Option<[u32; 2]>) -> Option<Tail>
     }
 }
 
-// Applies one change to the content. Errors are those of [`apply_all_changes`].
+// Applies one change to the content. Returns the same errors as [`apply_all_changes`].
 pub(crate) fn apply_change<'a>(
     alloc: Global,
     content: &mut Content<'a>,
@@ -128,14 +129,15 @@ pub(crate) fn apply_change<'a>(
     }
 }
 
-/// Applies changes to a content, in order. Requires that a tag can store each change: an id below
-/// 0x3ff, the type of a name or a struct, at most 1,022 bytes.
+/// Applies changes to the content of a pair, in order. Each change must be storable: an id must be
+/// below 0x3ff, a type must be that of a name or a struct, and data must have at most 1,022 bytes.
+/// A move state must have a type below 2,048 and an id below 1,024.
 ///
-/// Errors: `NoMemory` if memory isn't granted. `Malformed` only if the format doesn't allow a
-/// change at its point; such changes never return Ok (SPEC.md of littlefs, "Metadata types"). Not
-/// allowed are a create with an id above the number of slots, a delete, struct or attribute for an
-/// id that doesn't exist, a struct or attribute for a slot without a name, and a type or length
-/// that the format doesn't have. After an error the content is unspecified.
+/// Errors: `NoMemory` if memory can't be allocated. `Malformed` if the format doesn't allow one of
+/// the changes (SPEC.md of littlefs, "Metadata types"). The format allows neither a create with an
+/// id above the number of slots, nor a delete, struct or attribute for an id that doesn't exist.
+/// The format allows neither a struct or attribute for a slot without a name, nor an undefined type
+/// or length. After an error, the content is unspecified.
 pub fn apply_all_changes<'a>(
     alloc: Global,
     content: &mut Content<'a>,

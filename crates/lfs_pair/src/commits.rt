@@ -1,4 +1,4 @@
-// Commits of changes to a pair.
+// Commits changes to a pair, by an append or a compaction.
 
 ghost use Rattle.std.specs.Prelude.{◌≡◌, ◌+◌, ◌≤◌, true, false, IfErr, IfNone, IfOk, IfSome, OnErr, OnOk, Some, length};
 ghost use Rattle.lfs_device.specs.DeviceDisk.{disk_of_blocks};
@@ -28,37 +28,38 @@ use std::alloc::Global;
 /// The outcome of a commit.
 #[derive(Clone, Copy, Debug, PartialEq, Eq, Drop)]
 pub enum Outcome {
-    /// The pair has the changed content.
+    /// The changes are committed to the pair.
     Done,
-    /// The changed content doesn't fit the pair. Nothing was written.
+    /// The changed content doesn't fit in a pair, so nothing was written.
     Full,
 }
 
 /// Commits changes to a pair (DESIGN.md of littlefs, "Metadata pairs"). The commit is atomic: a
-/// loss of power during the call leaves the pair with all of the changes or with none.
+/// power loss during the call leaves the pair with all of the changes or with none of them.
 ///
-/// The changes are appended to the log of the active block if the padded commit fits behind it and
-/// the bytes there are unprogrammed. Otherwise the pair is compacted: the other block is erased and
-/// gets the changed content. After a [`fetch`](crate::fetch) it isn't known what is behind the log,
-/// so the first commit asks the device whether these bytes are blank. The call costs at most one
-/// read.
+/// The changes are appended to the active block's log if the padded commit fits there and the bytes
+/// after the log are unprogrammed (erased, and not programmed since). Otherwise, the pair is
+/// compacted: the other block is erased, and the changed content is written to it. After a
+/// [`fetch`](crate::fetch), the first commit asks the device whether the bytes after the log are
+/// blank. The call reads from the device at most once.
 ///
-/// `block` must be the bytes of the active block. At Ok it is the bytes that this block then has on
-/// the device.
+/// `block` must contain the bytes of the active block. If the call returns Ok, `block` contains the
+/// bytes that the previously active block has on the device.
 ///
-/// Returns [`Outcome::Full`] exactly if the changed content doesn't fit a pair ([`content_fits`]).
-/// Then nothing is written, and the pair is unchanged.
+/// Returns [`Outcome::Full`] if and only if the changed content doesn't fit in a pair
+/// ([`content_fits`]). A call that returns `Full` writes nothing and leaves the pair unchanged.
 ///
-/// Errors: `NoMemory` if memory for the slots and for a block isn't granted; then nothing is
-/// written. `Io` if a call of the device failed; the device may then hold something else. After
-/// either `pair` is unchanged and `block` is unspecified, so the caller fetches the pair again.
+/// Errors: `NoMemory` if memory for the slots and for a block can't be allocated; in this case,
+/// nothing is written. `Io` if a device call fails; in this case, the pair's blocks may have
+/// changed. After an error, `pair` is unchanged and `block` is unspecified, so the caller must
+/// fetch the pair again.
 ///
-/// The promise about a loss of power rests on the device. An erase must leave a block without a
-/// log, or with a log of the revision that it had. A program that is cut short must leave the log
-/// from before it or the one from after it; at offset 0 it may leave no log.
+/// The atomicity of a commit depends on two properties of the device. An erase must leave a block
+/// without a log, or with a log that has the block's old revision count. An interrupted program
+/// must leave the block's old log or its new one; at offset 0, it may also leave no log.
 ///
-/// Requires that the device has the pair as `pair` says, that the format allows the changes, and
-/// that each slot has a name afterwards.
+/// Requires that `pair` describes the pair on the device, that the format allows the changes, and
+/// that each slot has a name after the changes.
 pub fn commit<D: BlockDevice>(
     alloc: Global,
     dev: &mut D,
@@ -87,14 +88,15 @@ pub fn commit<D: BlockDevice>(
         *pair = header.with_end(written);
         return Ok(Outcome::Done);
     }
-    // The append borrowed the block that the content borrows from, so the content is made again.
+    // The append borrowed the block that the content borrows from, so the content is computed
+    // again.
     let content = changed_content(alloc, pair, block, changes)?;
     compact(dev, pair, &content, &mut buf)?;
     Ok(Outcome::Done)
 }
 
-// Returns whether the bytes behind a pair's log are unprogrammed. Asks the device if nothing was
-// written to the pair since it was fetched.
+// Returns whether the bytes after a pair's log are unprogrammed. Asks the device if the pair hasn't
+// been written since it was fetched.
 fn is_end_blank<D: BlockDevice>(dev: &mut D, pair: &Pair) -> Result<bool, Error>
     requires address { IsPairAddress (disk_of_blocks (D.geometry dev.old) (D.blocks dev.old)) (header_address pair.now) }
     requires pair { (held : RawContent) × IsTrueHeader (disk_of_blocks (D.geometry dev.old) (D.blocks dev.old)) (D.history dev.old) pair.now held }
@@ -116,9 +118,9 @@ fn is_end_blank<D: BlockDevice>(dev: &mut D, pair: &Pair) -> Result<bool, Error>
     Ok(is_blank)
 }
 
-// Appends the changes to the log of the active block, if they fit and the bytes there are
-// unprogrammed. `block` is that block's bytes, before and after the call. Returns the new end of
-// the log, or None if the changes weren't appended.
+// Appends the changes to the log of the active block if they fit and the bytes after the log are
+// unprogrammed. `block` contains the bytes of the active block, before and after the call. Returns
+// the new end of the log, or None if the changes weren't appended.
 fn append_changes<D: BlockDevice>(
     dev: &mut D,
     pair: &Pair,
@@ -151,7 +153,7 @@ fn append_changes<D: BlockDevice>(
     Ok(Some(written))
 }
 
-// Writes the content into the pair's other block, which becomes the active one.
+// Writes the content to the pair's inactive block, which then becomes the active one.
 pub(crate) fn compact<D: BlockDevice>(
     dev: &mut D,
     pair: &mut Pair,

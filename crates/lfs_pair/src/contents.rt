@@ -26,7 +26,7 @@ fn empty_content<'a>(alloc: Global) -> Content<'a>
     }
 }
 
-// Returns the content after these changes to an empty log.
+// Returns the content that results from applying changes to an empty log.
 pub(crate) fn content_from_empty<'a>(
     alloc: Global,
     changes: &[Change<'a>],
@@ -44,8 +44,8 @@ pub(crate) fn content_from_empty<'a>(
     }
 }
 
-// Returns the content of a pair after these changes. `block` is the bytes of its active block,
-// whose checksums aren't computed again.
+// Returns the content that results from applying changes to a pair. `block` contains the bytes of
+// the active block, whose checksums aren't verified again.
 pub(crate) fn changed_content<'a, 'b: 'a>(
     alloc: Global,
     pair: &Pair,

@@ -1,4 +1,4 @@
-// Copies of pairs to two other blocks.
+// Copies a pair to two other blocks.
 
 ghost use Rattle.std.specs.Prelude.{◌≡◌, IfErr, IfOk};
 ghost use Rattle.lfs_device.specs.DeviceCalls.{ReportsFaults};
@@ -17,18 +17,20 @@ use lfs_device::{BlockDevice, Error, read_block};
 use std::alloc::Global;
 
 /// Copies a pair, with changes, to the two blocks `fresh`, and returns the header of the new pair.
-/// Without changes the new pair has the same slots, tail and delta of the global state. Its
-/// revision is the one after `pair`'s. Both blocks are erased, whatever bytes they have, and the
-/// first becomes active, as in [`Pair::fresh`]. The call costs at most three reads.
+/// Without changes, the new pair has the same slots, tail and delta of the global state. The new
+/// revision count is that of `pair` plus one, modulo 2^32. Both blocks of `fresh` are erased,
+/// whatever bytes they contain, and the first one becomes active, as in [`Pair::fresh`]. The call
+/// reads from the device at most three times.
 ///
-/// No other block changes. A loss of power during the call may leave any bytes in these two.
+/// The call changes only the blocks of `fresh`, and a power loss during the call may leave any
+/// bytes in them.
 ///
-/// Errors: `NoMemory` if memory for two blocks and the slots isn't granted; then nothing is
-/// written. `Io` if a call of the device failed.
+/// Errors: `NoMemory` if memory for two blocks and the slots can't be allocated; in this case,
+/// nothing is written. `Io` if a device call fails.
 ///
-/// Requires what [`commit`](crate::commit) does, that the changed content
-/// [`fits`](crate::content_fits) a pair, and that the two blocks differ and are below the device's
-/// number of blocks.
+/// Requires everything that [`commit`](crate::commit) requires of `pair` and `changes`. The changed
+/// content must [`fit`](crate::content_fits) in a pair. The block numbers in `fresh` must differ
+/// and be below the device's number of blocks.
 pub fn copy<D: BlockDevice>(
     alloc: Global,
     dev: &mut D,

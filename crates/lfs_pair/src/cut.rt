@@ -1,4 +1,4 @@
-// The cut of a full pair's slots into two parts.
+// Divides a full pair's slots into two parts.
 
 ghost use Rattle.std.specs.Prelude.{map};
 ghost use Rattle.lfs_tag.specs.ContentView.{slot_view};
@@ -8,9 +8,10 @@ use crate::size::{fits_pair, slot_size, slots_size};
 use lfs_device::Geometry;
 use lfs_tag::Slot;
 
-// Returns how many slots stay in the first part. The cut is the last one with at most half of the
-// bytes before it, so that both parts have room for later commits. If no such cut leaves parts that
-// fit, it is the first one that does.
+// Returns the number of slots that stay in the first part. Of all cuts into two parts that each fit
+// in a pair, this is the last one with at most half of the bytes in the first part. Both parts then
+// have free space for later commits. If there is no such cut, this is the first cut into parts that
+// fit.
 pub(crate) fn middle_cut(slots: &[Slot<'_>], geometry: Geometry) -> usize
     requires { AreSplittable geometry.block_size geometry.page (map slot_view slots.now) }
     ensures { IsHalfCut geometry.block_size geometry.page (map slot_view slots.now) result }

@@ -1,4 +1,4 @@
-// The entries of changes and contents, pushed into a commit.
+// Pushes the entries of changes and contents into a commit.
 
 ghost use Rattle.std.specs.Prelude.{◌≡◌, ◌≢◌, ◌+◌, ◌/◌, ◌<◌, ◌≤◌, ◌^◌, true, [], ◌∷◌, length, map};
 ghost use Rattle.std.specs.List.{list_all};
@@ -38,7 +38,7 @@ fn push_attribute_removal(builder: &mut CommitBuilder<'_>, id: u16, attr: u8)
     builder.push(Tag::new(ATTRIBUTE + u16::from(attr), id, Tag::REMOVED), &[]);
 }
 
-// Pushes a tail. Without a pair it names two null addresses.
+// Pushes a tail, with two null addresses if `pair` is None.
 fn push_tail(builder: &mut CommitBuilder<'_>, hard: bool, pair: Option<[u32; 2]>)
     ensures { builder.new ≡ commit_with_entries (tail_entry hard (option_map address_view pair) ∷ []) builder.old }
 {
@@ -102,7 +102,7 @@ fn push_part(builder: &mut CommitBuilder<'_>, id: u16, part: &Option<NameOrStruc
     }
 }
 
-// Pushes attributes.
+// Pushes the attributes of a slot.
 fn push_attributes(builder: &mut CommitBuilder<'_>, id: u16, attributes: &[Attribute<'_>])
     requires id { id < 2 ^ 10 }
     requires attributes { AttributesInOrder 0 (map attribute_view attributes.now) }
@@ -129,7 +129,7 @@ fn push_slot(builder: &mut CommitBuilder<'_>, id: u16, slot: &Slot<'_>)
     push_attributes(builder, id, &slot.attributes);
 }
 
-// Pushes slots, from id 0 on.
+// Pushes the slots in order, starting at id 0.
 fn push_slots(builder: &mut CommitBuilder<'_>, slots: &[Slot<'_>])
     requires few { length slots.now < 0x3ff }
     requires parts { AreWellFormed (map slot_view slots.now) }
@@ -161,9 +161,9 @@ fn push_optional_move(builder: &mut CommitBuilder<'_>, state: &MoveState)
     }
 }
 
-// Pushes the entries that write a content into an empty log: each slot's name, struct and
-// attributes by ascending type, then the tail if there is one, then the move state unless it is
-// zero.
+// Pushes the entries that write the content into an empty log. These are each slot's name, struct
+// and attributes in ascending order of type, then the tail if there is one, and then the move state
+// unless it is zero.
 pub(crate) fn push_content(builder: &mut CommitBuilder<'_>, content: &Content<'_>)
     requires logged { IsWellFormed (content_view content.now) }
     requires few { length (content_view content.now).slots < 0x3ff }

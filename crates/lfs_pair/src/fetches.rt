@@ -1,4 +1,4 @@
-// The header of a pair, read from the device.
+// Reads the header of a pair from the device.
 
 ghost use Rattle.std.specs.Prelude.{◌≡◌, ◌+◌, ◌<◌, true, IfOk, IfErr};
 ghost use Rattle.lfs_model.specs.format.Blocks.{block_bytes};
@@ -18,8 +18,8 @@ use lfs_device::{BlockDevice, Error, read_block};
 use lfs_tag::{Log, Summary, is_later_than};
 use std::alloc::Global;
 
-// Makes the header of a pair. `bytes` is its active block, and `head` what was read of that block's
-// log.
+// Makes the header of a pair. `bytes` contains the bytes of the active block, and `head` is what
+// was read from that block's log.
 fn fetched_header(
     alloc: Global,
     blocks: [u32; 2],
@@ -50,7 +50,7 @@ fn fetched_header(
     })
 }
 
-// Reads the revision of a block.
+// Reads the revision count of a block.
 fn read_revision<D: BlockDevice>(dev: &mut D, block: u32) -> Result<u32, Error>
     requires { block < (D.geometry dev.old).block_count }
     ensures revision { IfOk result (λ revision. revision ≡ block_revision (block_bytes (D.blocks dev.old) block)) }
@@ -64,8 +64,8 @@ fn read_revision<D: BlockDevice>(dev: &mut D, block: u32) -> Result<u32, Error>
     Ok(LittleEndian::read_u32(&bytes))
 }
 
-// Returns a pair's two blocks, the one with the later revision first. If neither is later, they
-// keep their order.
+// Returns the two blocks of a pair, with the later revision count first. If neither revision count
+// is later, the blocks keep their order.
 fn later_revision_first<D: BlockDevice>(dev: &mut D, blocks: [u32; 2]) -> Result<[u32; 2], Error>
     requires first { (address_view blocks).0 < (D.geometry dev.old).block_count }
     requires second { (address_view blocks).1 < (D.geometry dev.old).block_count }
@@ -84,17 +84,17 @@ fn later_revision_first<D: BlockDevice>(dev: &mut D, blocks: [u32; 2]) -> Result
     }
 }
 
-/// Returns the header of the metadata pair at two blocks (SPEC.md of littlefs, "Metadata pairs"):
-/// which block is active, where its log ends, and the log's content without its slots. Reads both
-/// revisions, then the block with the later one, and the other block only if that one has no
-/// commit: three or four reads. Allocates memory for the blocks that it reads and two bytes for
-/// each slot. Writes nothing.
+/// Returns the header of the metadata pair in two blocks (SPEC.md of littlefs, "Metadata pairs").
+/// The header says which block is active, where its log ends, and what the log contains apart from
+/// the slots. `fetch` reads both revision counts and then the block with the later one. If the
+/// block with the later revision count has no commit, the other block is read as well. A successful
+/// call costs three or four reads. Allocates memory for the blocks that are read, and two bytes for
+/// each slot. Writes nothing to the device.
 ///
-/// Errors: `Corrupt` only if neither block has a commit, or if the log of the active block is
-/// malformed; such a pair never returns Ok. `Io` if a read failed. `NoMemory` if memory for the
-/// blocks and the slots isn't granted.
+/// Errors: `Corrupt` if neither block has a commit, or if the log of the active block is malformed.
+/// `Io` if a read fails. `NoMemory` if memory for the blocks and the slots can't be allocated.
 ///
-/// Requires that the two blocks differ and are below the device's number of blocks.
+/// Requires two different block numbers below the device's number of blocks.
 pub fn fetch<D: BlockDevice>(alloc: Global, dev: &mut D, blocks: [u32; 2]) -> Result<Pair, Error>
     requires { AreTwoBlocks (D.geometry dev.old).block_count (address_view blocks) }
     ensures ok { IfOk result (λ pair. FetchFinds (disk_of_blocks (D.geometry dev.old) (D.blocks dev.old)) (D.history dev.new) (address_view blocks) pair) }

@@ -1,4 +1,4 @@
-// New pairs, made of two blocks.
+// Makes new pairs from two blocks.
 
 ghost use Rattle.std.specs.Prelude.{◌≡◌, ◌<◌, false, length, IfErr, IfOk, OnOk};
 ghost use Rattle.lfs_device.specs.DeviceDisk.{disk_of_blocks};
@@ -21,14 +21,15 @@ use lfs_device::{BlockDevice, Error};
 use lfs_tag::{Content, Log};
 use std::alloc::Global;
 
-// The revision of a new pair's log.
+// The revision count of a new pair.
 pub(crate) const FIRST_REVISION: u32 = 1;
 
-// A page of zeros, of the longest size.
+// The zeros for a page of the maximum size.
 const ZEROS: [u8; 512] = [0; 512];
 
-// Erases a block and makes sure that it has no log. An erase may leave any bytes, even the old log;
-// if it does, the first page is programmed with zeros. The buffer is as long as a block.
+// Erases a block and makes sure that it has no log. An erase may leave any bytes, even the old log.
+// If the block still has a log, its first page is programmed with zeros. `buf` must be as long as a
+// block.
 fn erase_cleanly<D: BlockDevice>(dev: &mut D, block: u32, buf: &mut [u8]) -> Result<(), Error>
     requires in_device { block < (D.geometry dev.old).block_count }
     requires buf { length buf.old ≡ (D.geometry dev.old).block_size }
@@ -46,7 +47,8 @@ fn erase_cleanly<D: BlockDevice>(dev: &mut D, block: u32, buf: &mut [u8]) -> Res
     Ok(())
 }
 
-// Makes a pair of two blocks. The first block is active, with this content and this revision.
+// Makes a pair from two blocks. The first block becomes active, with this content and this revision
+// count.
 pub(crate) fn write_fresh_pair<D: BlockDevice>(
     dev: &mut D,
     blocks: [u32; 2],
@@ -69,18 +71,19 @@ pub(crate) fn write_fresh_pair<D: BlockDevice>(
 }
 
 impl Pair {
-    /// Makes a new pair of two blocks, whatever bytes they have, and commits changes to it. Both
-    /// blocks are erased. The first becomes active, with revision 1. An erase may leave any bytes,
-    /// even an old log. So if the second block still has a log after its erase, its first page is
-    /// programmed with zeros before the first block is written. The call costs at most two reads.
+    /// Makes a new pair from two blocks, whatever bytes they contain, and commits changes to it.
+    /// Both blocks are erased, and the first one becomes active, with revision count 1. An erase
+    /// may leave any bytes, even an old log. Therefore, if the second block still has a log after
+    /// its erase, its first page is programmed with zeros before the first block is written. The
+    /// call reads from the device at most twice.
     ///
-    /// Errors: `NoMemory` if memory for a block and the slots isn't granted; then the device isn't
-    /// called. `Io` if a call of the device failed. After `Io`, and after a loss of power during
-    /// the call, the two blocks may have any bytes. No other block changes.
+    /// Errors: `NoMemory` if memory for a block and the slots can't be allocated; in this case, the
+    /// device isn't called. `Io` if a device call fails. After `Io`, or after a power loss during
+    /// the call, the two blocks may contain any bytes. No other block changes.
     ///
-    /// Requires that the two blocks differ and are below the device's number of blocks, that the
-    /// format allows the changes in an empty log, that each slot has a name afterwards, and that
-    /// the content [`fits`](crate::content_fits) a pair.
+    /// Requires two different block numbers below the device's number of blocks. The format must
+    /// allow the changes in an empty log, and each slot must have a name after the changes. The
+    /// content must [`fit`](crate::content_fits) in a pair.
     pub fn fresh<D: BlockDevice>(
         alloc: Global,
         dev: &mut D,

@@ -1,6 +1,6 @@
 // SPDX-License-Identifier: BSD-3-Clause
-//! Metadata pairs: fetched from two blocks, made of two blocks, committed to, compacted, split and
-//! copied.
+//! Fetches metadata pairs, makes new ones, commits changes to them, and compacts, splits and copies
+//! them.
 #![tactic(auto)]
 
 mod block_logs;

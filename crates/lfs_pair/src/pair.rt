@@ -21,43 +21,45 @@ pub(crate) fn are_slots_complete(slots: &[Slot<'_>]) -> bool
     true
 }
 
-/// Returns whether two addresses name the same pair. The two blocks of an address may be in either
-/// order.
+/// Returns whether two addresses refer to the same pair. The two blocks of an address may be in
+/// either order.
 pub fn is_same_pair(a: [u32; 2], b: [u32; 2]) -> bool
     ensures { result ≡ same_pair (address_view a) (address_view b) }
 {
     a[0] == b[0] && a[1] == b[1] || a[0] == b[1] && a[1] == b[0]
 }
 
-/// The header of a metadata pair, which is kept in memory without the pair's slots. It is enough to
-/// append a commit to the active block (SPEC.md of littlefs, "Metadata pairs").
+/// The header of a metadata pair, which is kept in memory without the pair's slots. A slot is the
+/// name, the struct and the attributes of one id. The header contains all that is needed to append
+/// a commit to the active block (SPEC.md of littlefs, "Metadata pairs").
 #[derive(Clone, Copy, Debug, PartialEq, Eq, Drop)]
 pub struct Pair {
-    /// The pair's two blocks, in the order of the tail that names them.
+    /// The addresses of the pair's two blocks, in the order in which the caller passed them.
     pub blocks: [u32; 2],
-    /// The active block: the one of the two whose log counts.
+    /// The active block, whose log determines the pair's content.
     pub active: u32,
-    /// The offset in the active block where its last commit ends, in bytes.
+    /// The offset in bytes at which the last commit ends in the active block.
     pub end: usize,
-    /// The last tag of the active block's log. The next tag is stored as its XOR with this one.
+    /// The tag that the next tag in the active block's log is XORed with.
     pub last: Tag,
-    /// The revision of the active block.
+    /// The revision count of the active block.
     pub revision: u32,
-    /// The number of slots of the pair.
+    /// The number of slots in the pair.
     pub slot_count: usize,
-    /// The pair's tail, which names the next pair of the thread. None in the thread's last pair.
+    /// The pair's tail, which refers to the next pair in the linked list of all pairs. The last
+    /// pair in the list has no tail.
     pub tail: Option<Tail>,
     /// The pair's delta of the global state.
     pub move_state: MoveState,
     /// Whether each slot of the pair has a name and a struct.
     pub is_complete: bool,
-    /// Whether nothing was written since the pair was fetched. Then it isn't known which bytes
-    /// behind the log are unprogrammed.
+    /// Whether the pair hasn't been written since it was fetched. After a fetch, it isn't known
+    /// which bytes after the log are unprogrammed (erased, and not programmed since).
     pub is_fetched: bool,
 }
 
 impl Pair {
-    /// Returns the block that isn't active.
+    /// Returns the address of the pair's inactive block.
     pub fn inactive_block(&self) -> u32
         ensures { result ≡ header_inactive_block self.now }
     {
@@ -68,7 +70,7 @@ impl Pair {
         }
     }
 
-    // Returns the header with the slot count, tail and delta of this content.
+    // Returns the header with the slot count, tail and delta of `content`.
     pub(crate) fn with_content(&self, content: &Content<'_>) -> Pair
         ensures { IsHeaderWith (content_view content.now) self.now result }
     {
@@ -81,7 +83,7 @@ impl Pair {
         }
     }
 
-    // Returns the header with the end of a commit that was just written to the active block.
+    // Returns the header after a commit was written to the active block.
     pub(crate) fn with_end(self, written: WrittenCommit) -> Pair
         ensures { (c : RawContent) → IsContentHeader c self → IsWrittenHeader (header_address self) self.active self.revision written.end written.last c result }
     {
@@ -93,7 +95,7 @@ impl Pair {
         }
     }
 
-    // Makes the header of a pair whose active block was just written.
+    // Makes the header of a pair whose active block has just been written.
     pub(crate) fn written(
         blocks: [u32; 2],
         active: u32,

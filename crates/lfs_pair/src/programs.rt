@@ -1,4 +1,4 @@
-// Commits, programmed into a block of the device.
+// Programs commits into blocks of the device.
 
 ghost use Rattle.std.specs.Prelude.{◌≡◌, ◌<◌, ◌≤◌, ◌+◌, length, IfOk, OnOk};
 ghost use Rattle.lfs_device.specs.DeviceDisk.{disk_of_blocks};
@@ -18,13 +18,14 @@ use lfs_tag::{CommitBuilder, Content, Tag};
 // The end of a commit that was written.
 #[derive(Clone, Copy, Drop)]
 pub(crate) struct WrittenCommit {
-    // The commit's end, in bytes from the block's start.
+    // The block offset in bytes at which the commit ends.
     pub end: usize,
-    // The commit's last tag. The next tag is stored as its XOR with this one.
+    // The tag that the next commit's first tag is XORed with.
     pub last: Tag,
 }
 
-// Reads the four bytes of a block at an offset. Returns None if the block has fewer.
+// Reads the four bytes of a block at an offset. Returns None if the block has fewer than four bytes
+// there.
 fn read_four_bytes<D: BlockDevice>(
     dev: &mut D,
     block: u32,
@@ -45,8 +46,8 @@ fn read_four_bytes<D: BlockDevice>(
     Ok(Some(next))
 }
 
-// Appends a commit to a block at an offset, from which on the block is unprogrammed. `bytes` is the
-// block's bytes, before and after the call.
+// Appends a commit to a block at offset `at`. Requires that the block is unprogrammed from there
+// on. `bytes` contains the block's bytes, before and after the call.
 pub(crate) fn append_commit<D: BlockDevice>(
     dev: &mut D,
     block: u32,
@@ -74,7 +75,7 @@ pub(crate) fn append_commit<D: BlockDevice>(
     })
 }
 
-// Overwrites the bytes at an offset.
+// Overwrites the bytes of `all` that start at offset `at`.
 fn overwrite_bytes(all: &mut [u8], at: usize, bytes: &[u8])
     requires { at + length bytes.now ≤ length all.old }
     ensures { all.new ≡ overwritten_at all.old at bytes.now }
@@ -82,7 +83,7 @@ fn overwrite_bytes(all: &mut [u8], at: usize, bytes: &[u8])
     all[at..at + bytes.len()].copy_from_slice(bytes);
 }
 
-// Returns the four bytes at an offset, or None if there are fewer.
+// Returns the four bytes at an offset, or None if there are fewer than four.
 fn four_bytes(bytes: &[u8], at: u32) -> Option<[u8; 4]>
     requires { at ≤ length bytes.now }
     ensures { result ≡ four_bytes_at bytes.now at }
@@ -93,7 +94,7 @@ fn four_bytes(bytes: &[u8], at: u32) -> Option<[u8; 4]>
     }
 }
 
-// Programs the first commit of a block, which is unprogrammed.
+// Programs the first commit of a block. Requires that the whole block is unprogrammed.
 fn program_first_commit<D: BlockDevice>(
     dev: &mut D,
     block: u32,
@@ -118,8 +119,8 @@ fn program_first_commit<D: BlockDevice>(
     })
 }
 
-// Erases a block and writes a content into it, as its first commit. The buffer is as long as a
-// block.
+// Erases a block and writes a content into it as the block's first commit. `buf` must be as long as
+// a block.
 pub(crate) fn write_block_anew<D: BlockDevice>(
     dev: &mut D,
     block: u32,

@@ -10,8 +10,8 @@ ghost use Rattle.lfs_tag.specs.ContentView.{part_view, attribute_view, slot_view
 use lfs_device::Geometry;
 use lfs_tag::{Attribute, Content, NameOrStruct, Slot};
 
-// Returns the size of a name or a struct with its tag, in bytes, at most `u64::MAX`. It is 0 for
-// None.
+// Returns the size in bytes of a name or a struct with its tag, or 0 for None. The size saturates
+// at `u64::MAX`.
 fn optional_part_size(part: &Option<NameOrStruct<'_>>) -> u64
     ensures { result ≡ min (part_size (option_map part_view part.now)) (2 ^ 64 - 1) }
 {
@@ -21,7 +21,7 @@ fn optional_part_size(part: &Option<NameOrStruct<'_>>) -> u64
     }
 }
 
-/// Returns the size of the attributes with their tags, in bytes, at most `u64::MAX`.
+/// Returns the size in bytes of the attributes with their tags. The size saturates at `u64::MAX`.
 pub fn attributes_size(attributes: &[Attribute<'_>]) -> u64
     ensures { result ≡ min (attributes_size (map attribute_view attributes.now)) (2 ^ 64 - 1) }
 {
@@ -34,7 +34,7 @@ pub fn attributes_size(attributes: &[Attribute<'_>]) -> u64
     total
 }
 
-// Returns the size of a slot with its tags, in bytes, at most `u64::MAX`.
+// Returns the size in bytes of a slot with its tags. The size saturates at `u64::MAX`.
 pub(crate) fn slot_size(slot: &Slot<'_>) -> u64
     ensures { result ≡ min (slot_size_raw (slot_view slot.now)) (2 ^ 64 - 1) }
 {
@@ -43,7 +43,7 @@ pub(crate) fn slot_size(slot: &Slot<'_>) -> u64
         .saturating_add(attributes_size(&slot.attributes))
 }
 
-// Returns the size of all slots with their tags, in bytes, at most `u64::MAX`.
+// Returns the size in bytes of all slots with their tags. The size saturates at `u64::MAX`.
 pub(crate) fn slots_size(slots: &[Slot<'_>]) -> u64
     ensures { result ≡ min (sum_by slot_size_raw (map slot_view slots.now)) (2 ^ 64 - 1) }
 {
@@ -54,15 +54,15 @@ pub(crate) fn slots_size(slots: &[Slot<'_>]) -> u64
     total
 }
 
-// Returns whether `count` slots of `size` bytes fit a pair.
+// Returns whether `count` slots of `size` bytes in total fit in a pair.
 pub(crate) fn fits_pair(count: usize, size: u64, geometry: Geometry) -> bool
     ensures { IsTrue result ↔ ((count ≤ slots_limit) × (size ≤ pair_capacity geometry.block_size geometry.page)) }
 {
     count <= geometry.slot_limit() && size <= u64::from(geometry.pair_capacity())
 }
 
-/// Returns whether a content fits a pair: it has at most [`Geometry::slot_limit`] slots, of at most
-/// [`Geometry::pair_capacity`] bytes.
+/// Returns whether the content fits in a pair. The content fits in a pair if it has at most
+/// [`Geometry::slot_limit`] slots with at most [`Geometry::pair_capacity`] bytes in total.
 pub fn content_fits(content: &Content<'_>, geometry: Geometry) -> bool
     ensures { IsTrue result ↔ RawContentFits geometry.block_size geometry.page (content_view content.now) }
 {

@@ -1,4 +1,4 @@
-// Splits of a full pair in two.
+// Splits a full pair in two.
 
 ghost use Rattle.std.specs.Prelude.{◌≡◌, ◌+◌, IfErr, IfOk};
 ghost use Rattle.lfs_device.specs.DeviceDisk.{disk_of_blocks};
@@ -26,22 +26,23 @@ use lfs_tag::{Content, MoveState, Tail};
 use std::alloc::Global;
 
 /// Commits changes to a pair and splits it in two (DESIGN.md of littlefs, "The directory tree").
-/// The later slots and the old tail go to a new pair in the two blocks `fresh`. The old pair keeps
-/// the first slots and its delta of the global state, and its new tail is a hard one to the new
-/// pair. Returns the header of the new pair.
+/// The later slots and the old tail move to a new pair in the two blocks `fresh`. The old pair
+/// keeps the first slots and its delta of the global state, and gets a hard tail that refers to the
+/// new pair. Returns the header of the new pair.
 ///
-/// `block` must be the bytes of the active block. The call costs at most three reads.
+/// `block` must contain the bytes of the active block. The call reads from the device at most three
+/// times.
 ///
-/// The new pair is written first. So a loss of power during the call leaves the old pair with its
-/// old content, or both pairs with theirs. This rests on the device as [`commit`](crate::commit)
-/// says.
+/// The call writes the new pair first. A power loss during the call therefore leaves the old pair
+/// with its old content, or both pairs with their new contents. The guarantee for a power loss
+/// depends on the properties of the device that [`commit`](crate::commit) describes.
 ///
-/// Errors are those of [`commit`](crate::commit). After an error `pair` is unchanged, but the
-/// device may hold something else, so the caller fetches the pair again.
+/// Errors: the same as those of [`commit`](crate::commit). After an error, `pair` is unchanged but
+/// the device may have changed, so the caller must fetch the pair again.
 ///
-/// Requires what [`commit`](crate::commit) does, and that the slots can be cut into two parts that
-/// each [`fit`](crate::content_fits) a pair. The two blocks of `fresh` must differ, be below the
-/// device's number of blocks, and not belong to the old pair.
+/// Requires everything that [`commit`](crate::commit) requires. The slots must be divisible into
+/// two parts that each [`fit`](crate::content_fits) in a pair. The two block numbers in `fresh`
+/// must differ, be below the device's number of blocks, and not belong to the old pair.
 pub fn split<D: BlockDevice>(
     alloc: Global,
     dev: &mut D,
@@ -69,8 +70,8 @@ pub fn split<D: BlockDevice>(
     Ok(fresh_pair)
 }
 
-// Splits off the slots behind the cut, and returns them with the content's tail. The content's new
-// tail is a hard one to the fresh pair.
+// Splits off the slots after the cut, and returns them with the content's tail. The content gets a
+// hard tail that refers to the pair `fresh`.
 fn split_off_back<'a>(
     content: &mut Content<'a>,
     fresh: [u32; 2],

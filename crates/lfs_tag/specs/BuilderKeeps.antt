@@ -1,4 +1,4 @@
--- A commit's bytes before its checksum, and how the fields of a builder describe them.
+-- The bytes of a commit before its checksum, and how the fields of a builder describe them.
 use Rattle.std.specs.Prelude.{◌≡◌, ◌<◌, ◌≤◌, ℕ, ◌^◌, ◌-◌, true, false, List, [], ◌∷◌, ◌++◌, length, take, min, bit_xor, Option, Some, None, IfSome}
 use Rattle.byteorder.specs.Endian.{little_bytes}
 use Rattle.lfs_model.specs.format.Tag.{IsValidTag, tag_data_size, tag_before_next}
@@ -7,31 +7,34 @@ use Rattle.lfs_model.specs.layers.Commit.{encoded_entries}
 use Rattle.lfs_model.specs.format.Geometry.{is_page}
 use Rattle.lfs_tag.specs.Builder.{PartialCommit, checksum_start}
 
--- the last of these tags, as it is carried to the next one
+-- The tag that the tag after these entries is XORed with.
 abbrev pub carried_tag : ℕ → List LogEntry → ℕ
 carried_tag before [] = before
 carried_tag before (e ∷ es) = carried_tag (tag_before_next e.tag) es
 
+-- The bytes of the revision count, if there is one.
 abbrev pub revision_bytes : Option ℕ → List ℕ
 revision_bytes None = []
 revision_bytes (Some revision) = little_bytes 4 revision
 
--- all bytes before the checksum
+-- All bytes of the commit before its checksum's tag.
 abbrev pub checksummed_bytes : PartialCommit → List ℕ
 checksummed_bytes b = revision_bytes b.revision ++ encoded_entries b.previous b.entries
 
--- an entry that isn't a checksum, and is read back as the same entry
+-- The entry isn't a checksum, and reading it back returns the same entry.
 pub record IsStorableEntry (before : ℕ) (e : LogEntry) : Type 0 where
   pub valid : IsValidTag e.tag
   pub other : is_checksum_entry e ≡ false
   pub size : length e.bytes ≡ tag_data_size e.tag
   pub fits : bit_xor e.tag before < 2 ^ 32
 
+-- All of these entries can be stored and read back.
 abbrev pub AreStorableEntries : ℕ → List LogEntry → Type 0
 AreStorableEntries before [] = Unit {0}
 AreStorableEntries before (e ∷ es) = IsStorableEntry before e × AreStorableEntries (tag_before_next e.tag) es
 
--- The fields of a builder: the commit's length, whether or not it fits the buffer, its last tag, and the bytes if they fit.
+-- The fields of a builder describe the commit: its length, even if that exceeds the buffer, its
+-- last tag, and its bytes if they fit.
 pub record BuildsCommit (page len last : ℕ) (buf : List ℕ) (b : PartialCommit) : Type 0 where
   pub page_is : page ≡ b.page
   pub power : is_page b.page ≡ true

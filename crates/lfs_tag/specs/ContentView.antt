@@ -34,7 +34,8 @@ content_view c = record {
   move = move_view c.move_state;
 }
 
--- the list index of the first attribute of this type or a greater one, or the number of attributes
+-- The list index of the first attribute with this type or a greater one, or the number of
+-- attributes if there is none.
 abbrev pub index_for_attribute : ℕ → Attributes → ℕ
 index_for_attribute type [] = 0
 index_for_attribute type (a ∷ others) = if nat_le type a.0 then 0 else suc (index_for_attribute type others)

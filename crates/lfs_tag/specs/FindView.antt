@@ -8,12 +8,12 @@ use Rattle.lfs_tag.specs.declared.lookup.Lookup.TheVariants.{Found, Place}
 use Rattle.lfs_tag.specs.declared.lookup.NameComparison.{NameComparison}
 use Rattle.lfs_tag.specs.Find.{first_wanted_slot}
 
--- the name has this id, or is absent and belongs at this id
+-- The slot `id` has the name, or no slot has it, and it belongs at `id`.
 abbrev pub IsNameLookup : NameOrder → List ℕ → Option ℕ → List RawSlot → Lookup → Type 0
 IsNameLookup order name skip slots (Found id) = IsNameId name skip slots id
 IsNameLookup order name skip slots (Place id) = IsInsertionId order name skip slots id
 
--- the result, computed from the slots' comparisons
+-- The result of a search, computed from the comparisons of the slots.
 abbrev pub lookup_of_comparisons : Option ℕ → List NameComparison → Lookup
 lookup_of_comparisons skip ranks =
     if nat_lt (first_wanted_slot true skip 0 ranks) (length ranks)

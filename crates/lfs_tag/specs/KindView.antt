@@ -11,7 +11,7 @@ name_kind_view variant.File = slots.File
 name_kind_view variant.Directory = slots.Directory
 name_kind_view variant.Superblock = slots.Superblock
 
--- whether a name is a superblock's
+-- Whether the name is a superblock's.
 abbrev pub is_superblock_name : Option (ℕ × List ℕ) → Bool
 is_superblock_name None = false
 is_superblock_name (Some name) = is_superblock_kind (kind_of_type name.0)

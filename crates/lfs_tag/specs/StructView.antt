@@ -12,10 +12,11 @@ struct_view (variant.Inline bytes) = slots.Inline bytes.now
 struct_view (variant.Ctz head size) = slots.Ctz head size
 struct_view (variant.Branch to) = slots.Branch (address_view to)
 
--- whether a type and bytes are a struct's: a file's bytes, or 8 bytes that name a skip list or a pair
+-- Whether a type and bytes form a struct: a file's bytes, or 8 bytes that refer to a CTZ skip-list
+-- or a metadata pair.
 abbrev pub is_struct_part : ℕ × List ℕ → Bool
 is_struct_part part = part.0 == inline_type || ((part.0 == ctz_type || part.0 == directory_type) && length part.1 == 8)
 
--- the decoded struct, if they are one
+-- The decoded struct, if the type and the bytes form one.
 abbrev pub part_struct : ℕ × List ℕ → Option slots.Struct
 part_struct part = if is_struct_part part then Some (decoded_struct part.0 part.1) else None

@@ -1,4 +1,4 @@
-// Commits that are built in a buffer.
+// A builder that encodes a commit in a buffer.
 
 ghost use Rattle.std.specs.Prelude.{◌≡◌, ℕ, IfSome, slice_index, ◌≢◌, ◌+◌, ◌-◌, ◌≤◌, ◌<◌, ◌^◌, ◌++◌, [], ◌↔◌, length, take, min, true, replicate, IsOk, IfOk, IfErr};
 ghost use Rattle.byteorder.specs.Endian.{big_bytes, little_bytes};
@@ -19,16 +19,17 @@ use byteorder::{BigEndian, ByteOrder, LittleEndian};
 use lfs_device::Error;
 use std::marker::Model;
 
-/// A commit being built in a caller's buffer: its entries, then the checksum, then padding up to a
-/// page (SPEC.md of littlefs, "Metadata pairs" and "0x5xx LFS_TYPE_CRC").
+/// A builder that encodes a commit in a caller's buffer (SPEC.md of littlefs, "Metadata pairs" and
+/// "0x5xx LFS_TYPE_CRC"). A commit consists of its entries, a checksum, and padding up to the end
+/// of a page. A page is the unit in which blocks are programmed (littlefs's `prog_size`).
 ///
-/// The buffer starts at the block's offset where the commit will be programmed: the end of its log,
-/// or offset 0 for a block's first commit. The buffer may be longer than the commit.
+/// The first byte of the buffer is to be programmed at the end of the block's log, or at offset 0
+/// for the block's first commit. The buffer may be longer than the commit.
 #[derive(Drop)]
 pub struct CommitBuilder<'a> {
     page: usize,
     buf: &'a mut [u8],
-    // The length of the commit so far, in bytes. It keeps growing after the buffer is full.
+    // The length of the commit so far in bytes, even if the commit doesn't fit in the buffer.
     len: usize,
     last: Tag,
     pushed: PushedCommitProof,
@@ -46,7 +47,8 @@ impl<'a> Model for CommitBuilder<'a> {
     ghost invariant = { IsBuilder };
 }
 
-// Writes a block's revision if the buffer has room for it. Returns its size, 4 bytes.
+// Writes a block's revision count if the buffer has at least 4 bytes. Returns 4, the size of a
+// revision count.
 fn write_revision(buf: &mut [u8], revision: u32) -> usize
     ensures value { result ≡ 4 }
     ensures len { length buf.new ≡ length buf.old }
@@ -58,7 +60,7 @@ fn write_revision(buf: &mut [u8], revision: u32) -> usize
     4
 }
 
-// Writes a stored tag and its data at an offset.
+// Writes an encoded tag and its data at an offset.
 fn store_entry(buf: &mut [u8], at: usize, stored: u32, bytes: &[u8])
     requires { at + 4 + length bytes.now ≤ length buf.old }
     ensures { buf.new ≡ overwritten_at buf.old at (big_bytes 4 stored ++ bytes.now) }
@@ -68,8 +70,8 @@ fn store_entry(buf: &mut [u8], at: usize, stored: u32, bytes: &[u8])
     buf[start..start + bytes.len()].copy_from_slice(bytes);
 }
 
-// Writes a stored tag and its data at an offset, if they fit the buffer. Returns the offset of
-// their end, whether or not they fit.
+// Writes an encoded tag and its data at an offset if they fit in the buffer. Returns the offset
+// after the data, whether or not they fit.
 fn write_entry(buf: &mut [u8], at: usize, stored: u32, bytes: &[u8]) -> usize
     ensures end { result ≡ min (at + 4 + length bytes.now) (2 ^ 64 - 1) }
     ensures exact { result ≤ length buf.old → result ≡ at + 4 + length bytes.now }
@@ -84,8 +86,8 @@ fn write_entry(buf: &mut [u8], at: usize, stored: u32, bytes: &[u8]) -> usize
     end
 }
 
-// Writes the stored tag of the checksum, the checksum of all bytes before it, and the padding up to
-// offset `end`.
+// Writes the encoded tag of the checksum, the checksum of all bytes up to the end of that tag, and
+// the padding up to offset `end`.
 fn write_checksum(buf: &mut [u8], at: usize, stored: u32, end: usize)
     requires room { at + 8 ≤ end }
     requires within { end ≤ length buf.old }
@@ -100,7 +102,7 @@ fn write_checksum(buf: &mut [u8], at: usize, stored: u32, end: usize)
     buf[at + 8..end].fill(0xff);
 }
 
-// Returns the tag of a checksum entry of `size` bytes, padding included.
+// Returns the tag of a checksum entry with `size` bytes of data, padding included.
 fn checksum_tag(next: Option<[u8; 4]>, size: usize) -> Tag
     requires { size < 2 ^ 10 }
     ensures tag { result ≡ make_tag (checksum_type next) no_id size }
@@ -115,11 +117,12 @@ fn checksum_tag(next: Option<[u8; 4]>, size: usize) -> Tag
 }
 
 impl<'a> CommitBuilder<'a> {
-    /// Starts an empty commit for a device with this page size: a power of two from 8 to 512 bytes.
+    /// Starts an empty commit for a device with pages of `page` bytes. Requires that `page` is a
+    /// power of two from 8 to 512.
     ///
-    /// For a block's first commit, `revision` is written before the entries, and `previous` is
-    /// 0xffffffff. For an append, `revision` is None, and `previous` is the last tag of the block's
-    /// log, which the first entry's tag is stored with.
+    /// For a block's first commit, `revision` is the revision count to write before the entries,
+    /// and `previous` has all bits set. To append a commit, pass None as `revision` and the log's
+    /// last tag as `previous`. The commit's first tag is stored as its XOR with `previous`.
     pub fn new(
         page: u32,
         buf: &'a mut [u8],
@@ -151,9 +154,9 @@ impl<'a> CommitBuilder<'a> {
         }
     }
 
-    /// Adds an entry. The tag must be valid and not a checksum's. `bytes` must be as long as the
-    /// tag's length says; the length 0x3ff stands for no bytes. An entry that doesn't fit the
-    /// buffer is only counted, and [`finish`](CommitBuilder::finish) then fails.
+    /// Adds an entry. Requires a valid tag that isn't a checksum's. The length of `bytes` must
+    /// equal the tag's [`size`](Tag::size). If an entry doesn't fit in the buffer,
+    /// [`finish`](CommitBuilder::finish) fails.
     pub fn push(&mut self, tag: Tag, bytes: &[u8])
         requires valid { IsValidTag tag }
         requires other { tag_class tag ≢ 5 }
@@ -169,7 +172,8 @@ impl<'a> CommitBuilder<'a> {
         self.last = tag;
     }
 
-    // Returns the buffer offset of the padded commit's end, at most `usize::MAX`.
+    // Returns the buffer offset of the padded commit's end, or `usize::MAX` if the offset is
+    // larger.
     fn padded_end(&self) -> usize
         ensures { result ≡ min (padded_commit_end self.now) (2 ^ 64 - 1) }
     {
@@ -179,17 +183,17 @@ impl<'a> CommitBuilder<'a> {
             .unwrap_or(usize::MAX)
     }
 
-    /// Returns the buffer offset of the padded commit's end. The offset may be past the buffer's
-    /// end. It is at most `u32::MAX`.
+    /// Returns the buffer offset of the padded commit's end, or `u32::MAX` if the offset is larger.
+    /// The offset may be past the end of the buffer.
     pub fn end_on_page(&self) -> u32
         ensures { result ≡ min (padded_commit_end self.now) (2 ^ 32 - 1) }
     {
         u32::try_from(self.padded_end()).unwrap_or(u32::MAX)
     }
 
-    /// Returns the tag that the next commit in the block continues from, as its `previous`. `next`
-    /// is the argument that [`finish`](CommitBuilder::finish) will get. The commit must fit the
-    /// buffer.
+    /// Returns the tag to pass as `previous` to [`new`](CommitBuilder::new) when the next commit is
+    /// appended to the block. `next` is the argument that will be passed to
+    /// [`finish`](CommitBuilder::finish). Requires that the padded commit fits in the buffer.
     pub fn last_commit_tag(&self, next: Option<[u8; 4]>) -> Tag
         requires { padded_commit_end self.now ≤ self.now.room }
         ensures { result ≡ tag_before_next (checksum_entry_tag self.now next) }
@@ -198,12 +202,12 @@ impl<'a> CommitBuilder<'a> {
         checksum_tag(next, size).as_previous_tag()
     }
 
-    /// Ends the commit and returns its pages, which the caller programs into the block. `next` is
-    /// the four bytes that follow them in the block, or None if the block has fewer. An erase may
-    /// leave any bytes there, so the checksum's type is chosen to make `next` decode as an invalid
-    /// tag. The padding is 0xff.
+    /// Ends the commit and returns its bytes, which fill whole pages and which the caller programs
+    /// into the block. The padding consists of 0xff bytes. `next` is the four bytes that follow the
+    /// commit in the block, or None if fewer than four follow. The type of the checksum is chosen
+    /// so that `next` decodes as an invalid tag, because an erase may leave any bytes there.
     ///
-    /// Errors: `TooBig` exactly if the padded commit doesn't fit the buffer.
+    /// Errors: `TooBig` if and only if the padded commit doesn't fit in the buffer.
     pub fn finish(self, next: Option<[u8; 4]>) -> Result<&'a [u8], Error>
         ensures fits { IsOk result ↔ (padded_commit_end self.entry ≤ self.entry.room) }
         ensures error { IfErr result (λ e. e ≡ Error.TooBig) }

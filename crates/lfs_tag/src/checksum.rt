@@ -1,20 +1,20 @@
-// The checksum of bytes.
+// The CRC-32 of commits.
 
 ghost use Rattle.std.specs.Prelude.{◌≡◌, ℕ, ◌^◌, ◌<◌};
 ghost use Rattle.lfs_model.specs.format.Crc.{crc_of, IsCrcFrom};
 
 use crate::crc_table::{crc_after_bits, crc_after_eight};
 
-/// Continues a CRC-32 over more bytes: returns the checksum of all bytes so far, if `start` is that
-/// of the bytes before these. The polynomial is 0x04c11db7, lowest bit first, and nothing is
-/// inverted at the end. A commit's checksum starts at 0xffff_ffff (SPEC.md of littlefs, "0x5xx
-/// LFS_TYPE_CRC").
+/// Continues a CRC-32 over more bytes. Returns the checksum of all bytes so far, if `start` is the
+/// checksum of the bytes that precede `bytes`. The polynomial is 0x04c11db7 in bit-reflected form,
+/// and the result isn't inverted. The checksum of a commit starts at 0xffff_ffff (SPEC.md of
+/// littlefs, "0x5xx LFS_TYPE_CRC").
 pub fn crc(start: u32, bytes: &[u8]) -> u32
-    // The result is the computed form, which callers continue from part to part.
+    // The result is the computed checksum, so callers can continue it over further bytes.
     ensures value { result ≡ crc_of start bytes.now }
     // The result is the remainder of the polynomial division.
     ensures remainder { IsCrcFrom start bytes.now result }
-    // No other number is that remainder.
+    // No other 32-bit number is that remainder.
     ensures only { (other : ℕ) → other < 2 ^ 32 → IsCrcFrom start bytes.now other → other ≡ result }
 {
     let mut sum = start;
@@ -26,7 +26,7 @@ pub fn crc(start: u32, bytes: &[u8]) -> u32
     crc_after_bytes(sum, rest)
 }
 
-// Continues the checksum byte by byte, for the last bytes, which aren't a full eight.
+// Continues the checksum byte by byte, for the last bytes, of which there are fewer than eight.
 fn crc_after_bytes(start: u32, bytes: &[u8]) -> u32
     ensures { result ≡ crc_of start bytes.now }
 {

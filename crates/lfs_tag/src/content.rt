@@ -1,4 +1,4 @@
-// The content of a log, made by applying its entries in order.
+// The content of a log, which is the result of applying its entries in order.
 
 ghost use Rattle.std.specs.Prelude.{◌≡◌, ℕ, ◌+◌, ◌≤◌, ◌<◌, ◌++◌, [], ◌∷◌, length, map, OnOk, IfOk, IsTrue, remove, insert, vec_len, is_some, filter, not, ◌==◌, Some, None};
 ghost use Rattle.std.specs.Option.{option_map};
@@ -22,38 +22,40 @@ use crate::tag::Tag;
 use lfs_device::Error;
 use std::alloc::{AllocError, Global};
 
-/// A name or a struct: its type, and its bytes in the block.
+/// The type of a name or a struct, and its bytes, which are borrowed from the block.
 #[derive(Clone, Copy, Drop)]
 pub struct NameOrStruct<'a> {
     pub kind: u16,
     pub bytes: &'a [u8],
 }
 
-/// A user attribute: its own type, and its bytes in the block.
+/// The 8-bit type of a user attribute, and its bytes, which are borrowed from the block.
 #[derive(Clone, Copy, Drop)]
 pub struct Attribute<'a> {
     pub kind: u8,
     pub bytes: &'a [u8],
 }
 
-/// A slot: what a log says of one id. In a foreign image a slot may lack its name or its struct.
+/// A slot: the name, the struct and the user attributes that a log holds for one id. A slot may
+/// lack a name or a struct if other software wrote the image.
 #[derive(Drop)]
 pub struct Slot<'a> {
     pub name: Option<NameOrStruct<'a>>,
     pub structure: Option<NameOrStruct<'a>>,
-    /// The attributes, in ascending order of their types. Each type occurs once.
+    /// The attributes in ascending order of their types. Each type occurs at most once.
     pub attributes: Vec<Attribute<'a>>,
 }
 
-/// A pair's tail, which names the next pair of the thread. A hard tail continues the same
-/// directory, a soft tail leads to another one (SPEC.md of littlefs, "0x6xx LFS_TYPE_TAIL").
+/// A pair's tail, which is the address of the next pair in the linked list of all metadata pairs. A
+/// hard tail continues the same directory, and a soft tail leads to another one (SPEC.md of
+/// littlefs, "0x6xx LFS_TYPE_TAIL").
 #[derive(Clone, Copy, Debug, PartialEq, Eq, Drop)]
 pub struct Tail {
     pub hard: bool,
     pub pair: [u32; 2],
 }
 
-/// Returns whether the directory continues in the next pair: the tail exists and is hard.
+/// Returns whether there is a hard tail, which means that the directory continues in the next pair.
 pub fn has_hard_tail(tail: Option<Tail>) -> bool
     ensures { result ≡ is_hard_tail (option_map tail_view tail) }
 {
@@ -63,8 +65,8 @@ pub fn has_hard_tail(tail: Option<Tail>) -> bool
     }
 }
 
-/// The content of a log: its slots by id, its last tail and its last move state. A tail that names
-/// two null addresses counts as None.
+/// The content of a log: its slots in order of their ids, its last tail and its last move state. A
+/// tail that consists of two null addresses counts as None.
 #[derive(Drop)]
 pub struct Content<'a> {
     pub slots: Vec<Slot<'a>>,
@@ -72,13 +74,13 @@ pub struct Content<'a> {
     pub move_state: MoveState,
 }
 
-/// The reason why the content of a log couldn't be read.
+/// The reason why the content of a log can't be read.
 #[derive(Clone, Copy, Debug, PartialEq, Eq, Drop)]
 pub enum ContentError {
-    /// An entry's type isn't one of the format's, its length doesn't match its type, or its id
-    /// isn't allowed at that point of the log.
+    /// An entry has a type that the format doesn't define, a length that doesn't match its type, or
+    /// an id that isn't allowed at that point of the log.
     Malformed,
-    /// Memory wasn't granted.
+    /// Memory can't be allocated.
     NoMemory,
 }
 
@@ -92,7 +94,7 @@ impl From<AllocError> for ContentError {
     }
 }
 
-/// Converts to the file system's error. A malformed log is `Corrupt`.
+/// Converts `Malformed` to `Corrupt`, and `NoMemory` to the error of the same name.
 impl From<ContentError> for Error {
     ghost use Rattle.lfs_tag.specs.ContentGives.{content_error};
 
@@ -106,7 +108,7 @@ impl From<ContentError> for Error {
     }
 }
 
-// Returns whether the tag's type is one of the format's, and its length matches that type.
+// Returns whether the format defines the tag's type and the tag's length matches that type.
 pub(crate) fn is_format_tag(tag: Tag) -> bool
     ensures { result ≡ is_known_tag tag }
 {
@@ -125,7 +127,7 @@ pub(crate) fn is_format_tag(tag: Tag) -> bool
     }
 }
 
-// Returns whether the tag names a slot, if its type needs one.
+// Returns whether the tag has the id of a slot or its type needs no slot.
 pub(crate) fn has_needed_slot(tag: Tag) -> bool
     ensures { result ≡ has_needed_id tag }
 {
@@ -142,8 +144,8 @@ fn empty_slot<'a>(alloc: Global) -> Slot<'a>
     }
 }
 
-// Returns the list index of the first attribute whose type is `kind` or greater, or the number of
-// attributes.
+// Returns the index of the first attribute whose type is `kind` or greater, or the number of
+// attributes if there is none.
 fn attribute_index(attributes: &[Attribute<'_>], kind: u8) -> usize
     ensures { result ≡ index_for_attribute kind (map attribute_view attributes.now) }
 {
@@ -155,7 +157,7 @@ fn attribute_index(attributes: &[Attribute<'_>], kind: u8) -> usize
     attributes.len()
 }
 
-// Sets an attribute, in place of one of the same type. The list stays in order.
+// Sets an attribute and replaces one of the same type. The list stays sorted by type.
 fn set_attribute<'a>(
     attributes: &mut Vec<Attribute<'a>>,
     attribute: Attribute<'a>,
@@ -171,14 +173,14 @@ fn set_attribute<'a>(
     Ok(())
 }
 
-// Removes the attribute of a type, if there is one.
+// Removes the attribute of the type `kind` if there is one.
 fn remove_attribute(attributes: &mut Vec<Attribute<'_>>, kind: u8)
     ensures { attributes.new.items ≡ filter (λ a. not (a.kind == kind)) attributes.old.items }
 {
     attributes.retain(|attribute| attribute.kind != kind);
 }
 
-// Adds empty slots until the id exists.
+// Appends empty slots until the slot `id` exists.
 fn pad_slots(alloc: Global, slots: &mut Vec<Slot<'_>>, id: usize) -> Result<(), AllocError>
     requires { id < 1024 }
     ensures filled { OnOk result (map slot_view slots.new.items ≡ padded_slots (map slot_view slots.old.items) id) }
@@ -190,7 +192,8 @@ fn pad_slots(alloc: Global, slots: &mut Vec<Slot<'_>>, id: usize) -> Result<(), 
     Ok(())
 }
 
-// Sets a slot's name. If the id is past the last slot, empty slots are added up to it.
+// Sets a slot's name. If the slot doesn't exist, first appends empty slots up to and including
+// `id`.
 fn set_slot_name<'a>(
     alloc: Global,
     slots: &mut Vec<Slot<'a>>,
@@ -215,7 +218,7 @@ fn set_slot_struct<'a>(slots: &mut Vec<Slot<'a>>, id: usize, part: NameOrStruct<
     slot.structure = Some(part);
 }
 
-// Sets or removes an attribute of a slot, as the entry says.
+// Sets or removes an attribute of a slot, according to the entry.
 fn change_attribute<'a>(
     slots: &mut Vec<Slot<'a>>,
     id: usize,
@@ -235,7 +238,7 @@ fn change_attribute<'a>(
     Ok(())
 }
 
-// Returns whether a slot exists and has a name.
+// Returns whether the slot `id` exists and has a name.
 fn is_slot_named(slots: &[Slot<'_>], id: usize) -> bool
     ensures value { result ≡ is_some (slot_of_id (map slot_view slots.now) id).name }
     ensures there { IsTrue result → id < length slots.now }
@@ -247,7 +250,7 @@ fn is_slot_named(slots: &[Slot<'_>], id: usize) -> bool
     }
 }
 
-// Inserts an empty slot.
+// Inserts an empty slot at `id`.
 fn insert_empty_slot(alloc: Global, slots: &mut Vec<Slot<'_>>, id: usize) -> Result<(), AllocError>
     requires { id ≤ vec_len slots.old }
     ensures { OnOk result (map slot_view slots.new.items ≡ insert (map slot_view slots.old.items) id empty_slot) }
@@ -256,7 +259,7 @@ fn insert_empty_slot(alloc: Global, slots: &mut Vec<Slot<'_>>, id: usize) -> Res
     Ok(())
 }
 
-// Removes a slot.
+// Removes the slot `id`.
 fn remove_slot(slots: &mut Vec<Slot<'_>>, id: usize)
     requires { id < vec_len slots.old }
     ensures { map slot_view slots.new.items ≡ remove (map slot_view slots.old.items) id }
@@ -264,7 +267,7 @@ fn remove_slot(slots: &mut Vec<Slot<'_>>, id: usize)
     slots.remove(id);
 }
 
-// Applies an entry to the slots. The entry isn't a checksum, a tail or a move state.
+// Applies an entry other than a checksum, a tail or a move state to the slots.
 fn apply_to_slots<'a>(
     alloc: Global,
     slots: &mut Vec<Slot<'a>>,
@@ -305,7 +308,7 @@ fn apply_to_slots<'a>(
     }
 }
 
-// Returns the tail that an entry sets. None if the entry names two null addresses.
+// Returns the tail that an entry sets, or None if the entry consists of two null addresses.
 pub(crate) fn tail_set_by(entry: &Entry<'_>) -> Option<Tail>
     requires { 8 ≤ length entry.now.bytes.now }
     ensures { option_map tail_view result ≡ entry_tail (log_entry_view entry.now) }
@@ -350,11 +353,11 @@ fn apply_to_content<'a>(
 }
 
 impl<'a> Content<'a> {
-    /// Returns the content of a log, by applying its entries in order (SPEC.md of littlefs,
+    /// Reads the content of a log by applying the log's entries in order (SPEC.md of littlefs,
     /// "Metadata tags"). Names, structs and attributes are borrowed from the block, not copied.
     ///
-    /// Errors: `Malformed` only if the log is malformed; such a log never returns Ok. `NoMemory` if
-    /// memory for slots or attributes isn't granted.
+    /// Errors: `Malformed` if the log is malformed. `NoMemory` if memory for slots or attributes
+    /// can't be allocated.
     pub fn read(alloc: Global, log: &Log<'a>) -> Result<Content<'a>, ContentError>
         ensures content { IfOk result (λ c. content_after empty_raw_content (block_entries log.now) ≡ Some (content_view c)) }
         ensures malformed { result ≡ Err ContentError.Malformed → content_after empty_raw_content (block_entries log.now) ≡ None }
@@ -362,10 +365,11 @@ impl<'a> Content<'a> {
         Content::read_with_room(alloc, log, 0)
     }
 
-    /// Does what [`read`](Content::read) does, with memory for `slot_count` slots reserved first.
-    /// The list of slots grows again only if the log had more slots at some point.
+    /// Reads the content of a log like [`read`](Content::read), but first reserves memory for
+    /// `slot_count` slots. The list of slots grows further only if the log has more slots at some
+    /// point.
     ///
-    /// Errors are those of [`read`](Content::read).
+    /// Errors: the same as those of [`read`](Content::read).
     pub fn read_with_room(
         alloc: Global,
         log: &Log<'a>,
@@ -387,9 +391,10 @@ impl<'a> Content<'a> {
         Ok(content)
     }
 
-    /// Applies one more entry, as if it were the last one of the log.
+    /// Applies one more entry, as if it were the last entry of the log.
     ///
-    /// Errors are those of [`read`](Content::read). After an error the content is unspecified.
+    /// Errors: the same as those of [`read`](Content::read). After an error, the content is
+    /// unspecified.
     pub fn apply_next_entry(&mut self, alloc: Global, entry: &Entry<'a>) -> Result<(), ContentError>
         ensures { GivesWithMemory (λ _. content_view self.new) result (content_after_entry (content_view self.old) (log_entry_view entry.now)) }
     {

@@ -1,11 +1,11 @@
-// The checksum's steps over a byte, a word and eight bytes, by a table.
+// Table-driven steps of the checksum over a byte, a 32-bit word and eight bytes.
 
 ghost use Rattle.std.specs.Prelude.{◌≡◌, ◌+◌, ◌*◌, ◌<◌, ◌≤◌, length, take, slice_index};
 ghost use Rattle.lfs_model.specs.format.Crc.{checksum_after_bits, crc_of};
 
 use byteorder::{ByteOrder, LittleEndian};
 
-// For each byte the result of 8 steps, then for each byte that of 16 steps, and so on up to 64.
+// Row `r`, from 0 to 7, has for each byte the result of `8 * (r + 1)` single-bit steps.
 const AFTER: [u32; 2048] = [
     0x00000000, 0x77073096, 0xee0e612c, 0x990951ba, 0x076dc419, 0x706af48f, 0xe963a535, 0x9e6495a3,
     0x0edb8832, 0x79dcb8a4, 0xe0d5e91e, 0x97d2d988, 0x09b64c2b, 0x7eb17cbd, 0xe7b82d07, 0x90bf1d91,
@@ -265,7 +265,7 @@ const AFTER: [u32; 2048] = [
     0x2c8e0fff, 0xe0240f61, 0x6eab0882, 0xa201081c, 0xa8c40105, 0x646e019b, 0xeae10678, 0x264b06e6,
 ];
 
-// Returns the number at an index of the table.
+// Returns the number at the index `place` of the table.
 fn table_word(place: usize) -> u32
     requires { place < 2048 }
     ensures { result ≡ slice_index AFTER place }
@@ -273,7 +273,7 @@ fn table_word(place: usize) -> u32
     AFTER[place]
 }
 
-// Returns the result of `8 * (row + 1)` steps from a byte.
+// Returns the result of `8 * (row + 1)` single-bit steps from `byte`.
 fn crc_of_byte(row: usize, byte: u32) -> u32
     requires row { row < 8 }
     requires byte { byte < 256 }
@@ -282,14 +282,14 @@ fn crc_of_byte(row: usize, byte: u32) -> u32
     table_word(row * 256 + byte as usize)
 }
 
-// Returns the result of eight steps.
+// Returns the result of eight single-bit steps from `x`.
 pub(crate) fn crc_after_bits(x: u32) -> u32
     ensures { result ≡ checksum_after_bits 8 x }
 {
     (x >> 8) ^ crc_of_byte(0, x & 0xff)
 }
 
-// Returns the result of `8 * row + 32` steps from a word.
+// Returns the result of `8 * row + 32` single-bit steps from `word`.
 fn crc_of_word(row: usize, word: u32) -> u32
     requires { row ≤ 4 }
     ensures { result ≡ checksum_after_bits (8 * row + 32) word }
@@ -300,7 +300,7 @@ fn crc_of_word(row: usize, word: u32) -> u32
         ^ crc_of_byte(row, word >> 24)
 }
 
-// Continues a checksum over the first eight of these bytes.
+// Continues a checksum over the first eight bytes of `bytes`.
 pub(crate) fn crc_after_eight(sum: u32, bytes: &[u8]) -> u32
     requires { 8 ≤ length bytes.now }
     ensures { result ≡ crc_of sum (take 8 bytes.now) }

@@ -1,4 +1,4 @@
-// A walk over a log's entries, from both ends.
+// An iterator over a log's entries, from both ends.
 
 ghost use Rattle.std.specs.Prelude.{◌≡◌, ◌+◌, ◌%◌, ◌^◌, ◌≤◌, ◌<◌, List, length, drop, slice_range, bit_xor};
 ghost use Rattle.byteorder.specs.Endian.{big_number};
@@ -13,7 +13,7 @@ use crate::tag::Tag;
 use byteorder::{BigEndian, ByteOrder};
 use std::marker::Model;
 
-/// An iterator over a log's entries, oldest first, which can be advanced from both ends.
+/// A double-ended iterator over a log's entries, from the oldest to the newest.
 #[derive(Drop)]
 pub struct Entries<'a> {
     block: &'a [u8],
@@ -37,7 +37,8 @@ impl<'a> Model for Entries<'a> {
 }
 
 impl<'a> Entries<'a> {
-    // Returns the entries of a block whose valid commits end at offset `end` with the tag `last`.
+    // Returns the entries of a block whose valid commits end at offset `end`. The tag at that
+    // offset is stored as its XOR with `last`.
     pub(crate) fn log_entries(block: &'a [u8], end: usize, last: Tag) -> Entries<'a>
         requires end { end ≡ (chain_of block.now).end }
         requires last { last ≡ (chain_of block.now).last }
@@ -55,7 +56,7 @@ impl<'a> Entries<'a> {
 }
 
 impl<'a> Entries<'a> {
-    // Returns a copy of the iterator, for another walk over the same entries.
+    // Returns a copy of the iterator for another walk over the same entries.
     pub(crate) fn copy_iterator(&self) -> Entries<'a>
         ensures { result ≡ self.now }
     {
@@ -89,8 +90,9 @@ impl<'a> Iterator for Entries<'a> {
     }
 }
 
-// Decodes the entry that ends at offset `end`, where `last` is its tag as carried to the next one.
-// Returns the entry's offset, the tag before it as carried to this one, and the entry.
+// Decodes the entry that ends at offset `end`. The tag at that offset is stored as its XOR with
+// `last`. Returns the entry's offset, the tag that the entry's own tag is XORed with, and the
+// entry.
 fn entry_before(block: &[u8], end: usize, last: Tag) -> (usize, Tag, Entry<'_>)
     requires room { 4 + tag_data_size (last % 2 ^ 31) ≤ end }
     requires within { end ≤ length block.now }

@@ -1,11 +1,11 @@
-// One entry of a log.
+// An entry of a log.
 
 ghost use Rattle.std.specs.Prelude.{◌≡◌, length};
 ghost use Rattle.lfs_model.specs.format.Tag.{tag_data_size};
 
 use crate::tag::Tag;
 
-/// A tag and its data, which is borrowed from the block.
+/// An entry of a log: a tag, and its data, which is borrowed from the block.
 #[derive(Clone, Copy, Drop)]
 pub struct Entry<'a> {
     pub tag: Tag,

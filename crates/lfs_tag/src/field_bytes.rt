@@ -1,4 +1,4 @@
-// The bytes of structs, tails and move states: little-endian numbers of 32 bits.
+// Encodes structs, tails and move states as little-endian 32-bit numbers.
 
 ghost use Rattle.std.specs.Prelude.{◌≡◌, ◌^◌, ◌<◌, slice_index};
 ghost use Rattle.std.specs.List.{flat_map};
@@ -12,7 +12,7 @@ ghost use Rattle.lfs_tag.specs.FieldsView.{superblock_view, move_view};
 use crate::fields::{MoveState, Superblock};
 use byteorder::{ByteOrder, LittleEndian};
 
-/// Encodes a pair's address, as a tail or a directory's struct stores it.
+/// Encodes a pair's address in the form that tails and directory structs store.
 pub fn pair_bytes(pair: [u32; 2]) -> [u8; 8]
     ensures bytes { result ≡ address_bytes (address_view pair) }
     ensures read { decoded_address result ≡ address_view pair }
@@ -22,8 +22,8 @@ pub fn pair_bytes(pair: [u32; 2]) -> [u8; 8]
     bytes
 }
 
-/// Encodes a file's CTZ struct: `head`, the address of the skip list's last block, and the file's
-/// size in bytes (SPEC.md of littlefs, "0x202 LFS_TYPE_CTZSTRUCT").
+/// Encodes a file's CTZ struct (SPEC.md of littlefs, "0x202 LFS_TYPE_CTZSTRUCT"). `head` is the
+/// address of the CTZ skip-list's last block, and `size` is the file's size in bytes.
 pub fn ctz_bytes(head: u32, size: u32) -> [u8; 8]
     ensures bytes { result ≡ address_bytes (head, size) }
     ensures read { decoded_struct ctz_type result ≡ Ctz head size }
@@ -46,7 +46,7 @@ pub fn superblock_bytes(superblock: &Superblock) -> [u8; 24]
     ])
 }
 
-// Encodes the superblock's six numbers, in order.
+// Encodes the superblock's six numbers in order.
 fn six_word_bytes(words: [u32; 6]) -> [u8; 24]
     ensures bytes { result ≡ flat_map (little_bytes 4) words }
     ensures read { superblock_fields result ≡ record {
@@ -63,8 +63,8 @@ fn six_word_bytes(words: [u32; 6]) -> [u8; 24]
     bytes
 }
 
-/// Encodes a move state. The lowest ten bits of the first word have no meaning and are 0. Requires
-/// a type below 2,048 and an id below 1,024.
+/// Encodes a move state. The lowest ten bits of the first word have no meaning and are set to 0.
+/// Requires a type below 2,048 and an id below 1,024.
 pub fn move_state_bytes(state: &MoveState) -> [u8; 12]
     requires kind { state.now.kind < 2 ^ 11 }
     requires id { state.now.id < 2 ^ 10 }

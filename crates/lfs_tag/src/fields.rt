@@ -1,4 +1,4 @@
-// The fields of structs, tails and move states: little-endian numbers of 32 bits.
+// Decodes structs, tails and move states from little-endian 32-bit numbers.
 
 ghost use Rattle.std.specs.Prelude.{◌≡◌, ◌+◌, ◌≤◌, ◌↔◌, IsTrue, length};
 ghost use Rattle.lfs_model.specs.format.Disk.{profile_attr_max, profile_file_max, profile_name_max};
@@ -14,51 +14,53 @@ ghost use Rattle.lfs_tag.specs.FieldsView.{superblock_view, move_view};
 use byteorder::{ByteOrder, LittleEndian};
 use lfs_device::{AcceptedVersions, Geometry, Profile};
 
-/// The address that names no block.
+/// The null address, which refers to no block.
 pub const NULL_ADDRESS: u32 = 0xffff_ffff;
 
 /// The fields of the superblock's struct (SPEC.md of littlefs, "0x0ff LFS_TYPE_SUPERBLOCK").
 #[derive(Clone, Copy, Debug, PartialEq, Eq, Drop)]
 pub struct Superblock {
-    /// The on-disk version: the major number in the upper 16 bits, the minor one in the lower.
+    /// The on-disk version. The major number is in the upper 16 bits, and the minor number is in
+    /// the lower 16 bits.
     pub version: u32,
-    /// The size of a block, in bytes.
+    /// The size of a block in bytes.
     pub block_size: u32,
     pub block_count: u32,
-    /// The longest name, in bytes.
+    /// The maximum length of a name in bytes.
     pub name_max: u32,
-    /// The longest file, in bytes.
+    /// The maximum size of a file in bytes.
     pub file_max: u32,
-    /// The longest attribute, in bytes.
+    /// The maximum size of a user attribute in bytes.
     pub attr_max: u32,
 }
 
-/// A pair's delta of the global state, or the global state itself, which is the XOR of all deltas
-/// (DESIGN.md of littlefs, "The move problem").
+/// A pair's delta of the global state, or the global state itself, which is the XOR of all pairs'
+/// deltas (DESIGN.md of littlefs, "The move problem").
 #[derive(Clone, Copy, Debug, PartialEq, Eq, Drop)]
 pub struct MoveState {
-    /// Whether the thread may hold an orphan: a pair that no directory leads to.
+    /// Whether there may be an orphan, which is a metadata pair that no directory refers to.
     pub sync: bool,
-    /// The type of a delete if the state names a slot that counts as deleted, otherwise 0.
+    /// The tag type of a delete (0x4ff) if a move is pending, otherwise 0.
     pub kind: u16,
-    /// The id of that slot.
+    /// The id of the slot that counts as deleted while the move is pending.
     pub id: u16,
-    /// The address of that slot's pair.
+    /// The address of the pair whose slot counts as deleted while the move is pending.
     pub pair: [u32; 2],
 }
 
 impl Superblock {
-    /// The name of the superblock's slot.
+    /// The superblock's name, which SPEC.md of littlefs calls the magic string.
     pub const NAME: &'static [u8] = b"littlefs";
 
-    /// Version 2.0, in which fresh images are written.
+    /// On-disk version 2.0, which all fresh images have.
     pub const VERSION: u32 = 0x0002_0000;
 
-    /// Version 2.1. Images of it are read and changed if a profile accepts it. None is made.
+    /// On-disk version 2.1. An image of version 2.1 can be read and written if the profile accepts
+    /// it, but no fresh image has version 2.1.
     pub const LATER_VERSION: u32 = 0x0002_0001;
 
-    /// Returns the superblock of a fresh image: version 2.0, the device's geometry, and the limits
-    /// of its profile.
+    /// Returns the superblock of a fresh image, with version 2.0, the device's geometry and the
+    /// limits of the device's profile.
     pub fn fresh_superblock(geometry: &Geometry) -> Superblock
         ensures fields { superblock_view result ≡ record {
           version = 0x00020000;
@@ -80,7 +82,7 @@ impl Superblock {
         }
     }
 
-    /// Returns whether the limits are those of the geometry's profile.
+    /// Returns whether the superblock's limits equal those of the geometry's profile.
     pub fn has_geometry_limits(&self, geometry: &Geometry) -> bool
         ensures { IsTrue result ↔ ((self.now.name_max ≡ profile_name_max geometry.now.profile) × (self.now.file_max ≡ profile_file_max geometry.now.profile) × (self.now.attr_max ≡ profile_attr_max geometry.now.profile)) }
     {
@@ -89,7 +91,7 @@ impl Superblock {
             && self.attr_max == geometry.attr_max()
     }
 
-    /// Returns whether each limit is above 0 and at most what the format allows.
+    /// Returns whether each limit is at least 1 and at most the maximum that the format allows.
     fn has_usable_limits(&self) -> bool
         ensures { result ≡ limits_usable (superblock_view self.now) }
     {
@@ -98,8 +100,9 @@ impl Superblock {
             && (1..=1022).contains(&self.attr_max)
     }
 
-    /// Returns the profile with the superblock's limits in place of its own. If a limit is 0 or
-    /// above the format's, returns the profile unchanged.
+    /// Returns the profile with its limits on names, files and attributes replaced by the
+    /// superblock's. If a limit of the superblock is 0 or above the format's maximum, returns the
+    /// profile unchanged.
     pub fn limit_profile(&self, profile: Profile) -> Profile
         ensures { result ≡ profile_with_limits (superblock_view self.now) profile }
     {
@@ -117,7 +120,7 @@ impl Superblock {
         }
     }
 
-    /// Returns whether the on-disk version is one of the accepted ones.
+    /// Returns whether `versions` includes the superblock's on-disk version.
     pub fn has_accepted_version(&self, versions: AcceptedVersions) -> bool
         ensures { result ≡ accepts_version versions self.now.version }
     {
@@ -131,7 +134,7 @@ impl Superblock {
 }
 
 impl MoveState {
-    /// Returns the delta that leaves the global state as it is: all zeros.
+    /// Returns the delta that doesn't change the global state, which is all zeros.
     pub fn none() -> MoveState
         ensures { move_view result ≡ zero_gstate }
     {
@@ -143,7 +146,7 @@ impl MoveState {
         }
     }
 
-    /// Returns whether the delta is zero. A compaction writes no entry for a zero delta.
+    /// Returns whether the delta is zero. A compaction writes no move state if the delta is zero.
     pub fn is_none(&self) -> bool
         ensures { result ≡ is_zero (move_view self.now) }
     {
@@ -151,7 +154,7 @@ impl MoveState {
     }
 }
 
-// Decodes the two addresses at the start of these bytes.
+// Decodes the two block addresses at the start of `bytes`.
 pub(crate) fn address_from_bytes(bytes: &[u8]) -> [u32; 2]
     requires { 8 ≤ length bytes.now }
     ensures { address_view result ≡ decoded_address bytes.now }
@@ -161,7 +164,7 @@ pub(crate) fn address_from_bytes(bytes: &[u8]) -> [u32; 2]
     [first, second]
 }
 
-// Decodes the move state at the start of these bytes.
+// Decodes the move state at the start of `bytes`.
 pub(crate) fn move_from_bytes(bytes: &[u8]) -> MoveState
     requires { 12 ≤ length bytes.now }
     ensures { move_view result ≡ decoded_gstate bytes.now }
@@ -175,15 +178,15 @@ pub(crate) fn move_from_bytes(bytes: &[u8]) -> MoveState
     }
 }
 
-/// Decodes the pair's address in a tail or in a directory's struct.
+/// Decodes a pair's address from a tail or from a directory's struct.
 pub fn pair_of(bytes: &[u8; 8]) -> [u32; 2]
     ensures { address_view result ≡ decoded_address bytes.now }
 {
     address_from_bytes(bytes)
 }
 
-/// Decodes a file's CTZ struct: returns the head, which is the address of the skip list's last
-/// block, and the file's size in bytes (SPEC.md of littlefs, "0x202 LFS_TYPE_CTZSTRUCT").
+/// Decodes a file's CTZ struct (SPEC.md of littlefs, "0x202 LFS_TYPE_CTZSTRUCT"). Returns the
+/// address of the CTZ skip-list's last block, called the head, and the file's size in bytes.
 pub fn ctz_of(bytes: &[u8; 8]) -> (u32, u32)
     ensures { decoded_struct ctz_type bytes.now ≡ Ctz result.0 result.1 }
 {
@@ -205,7 +208,7 @@ pub fn superblock_of(bytes: &[u8; 24]) -> Superblock
     }
 }
 
-/// Decodes the move state in an entry's data. The lowest ten bits of the first word are ignored.
+/// Decodes a move state and ignores the lowest ten bits of the first word.
 pub fn move_of(bytes: &[u8; 12]) -> MoveState
     ensures { move_view result ≡ decoded_gstate bytes.now }
 {

@@ -1,4 +1,5 @@
-//! The types of tags, of eleven bits: the upper three are the class, the lower eight the chunk.
+//! The 11-bit types of tags. The upper three bits are the class, and the lower eight bits are the
+//! chunk.
 
 /// The name of a regular file.
 pub const FILE_NAME: u16 = 0x001;
@@ -6,29 +7,29 @@ pub const FILE_NAME: u16 = 0x001;
 pub const DIRECTORY_NAME: u16 = 0x002;
 /// The name of the superblock.
 pub const SUPERBLOCK_NAME: u16 = 0x0ff;
-/// A directory's struct: the address of its first pair.
+/// A directory's struct, which contains the address of the directory's first pair.
 pub const DIRECTORY_STRUCT: u16 = 0x200;
-/// A file's struct that holds the file's bytes: an inline file.
+/// An inline file's struct, which contains the file's bytes.
 pub const INLINE_STRUCT: u16 = 0x201;
-/// A file's struct that names a CTZ skip list.
+/// A file's struct that refers to a CTZ skip-list.
 pub const CTZ_STRUCT: u16 = 0x202;
-/// The first type of a user attribute. A tag's type is this plus the attribute's own type.
+/// The lowest type of a user attribute's tag, to which the attribute's own 8-bit type is added.
 pub const ATTRIBUTE: u16 = 0x300;
-/// Inserts a slot at the id.
+/// Inserts an empty slot at the tag's id.
 pub const CREATE: u16 = 0x401;
-/// Removes the slot at the id.
+/// Removes the slot at the tag's id.
 pub const DELETE: u16 = 0x4ff;
-/// Ends a commit. The next tag is stored without a change of its top bit.
+/// A checksum, which ends a commit. The next tag is stored with its top bit unchanged.
 pub const CHECKSUM: u16 = 0x500;
-/// Ends a commit. The next tag is stored with its top bit inverted.
+/// A checksum, which ends a commit. The next tag is stored with its top bit inverted.
 pub const TURNED_CHECKSUM: u16 = 0x501;
-/// A forward checksum of version 2.1, which is read as an entry without a meaning.
+/// A forward checksum of on-disk version 2.1, which is read but has no effect.
 pub const FORWARD_CHECKSUM: u16 = 0x5ff;
-/// A tail whose pair begins another directory.
+/// A soft tail, whose pair begins another directory.
 pub const SOFT_TAIL: u16 = 0x600;
-/// A tail whose pair continues the same directory.
+/// A hard tail, whose pair continues the same directory.
 pub const HARD_TAIL: u16 = 0x601;
-/// A pair's delta of the global state.
+/// A move state, which is a pair's delta of the global state.
 pub const MOVE_STATE: u16 = 0x7ff;
 
 pub(crate) const NAME_CLASS: u16 = 0;

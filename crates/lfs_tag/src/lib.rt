@@ -1,6 +1,6 @@
 // SPDX-License-Identifier: BSD-3-Clause
-//! The log of a metadata block: tags, checksums and commits, and what a log says of an id or a
-//! name.
+//! Reads and writes the log of a metadata block, which consists of tags, checksums and commits.
+//! Searches a log by id and by name.
 #![tactic(auto)]
 
 mod builder;

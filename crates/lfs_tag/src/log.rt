@@ -13,8 +13,8 @@ use crate::tag::Tag;
 use byteorder::{BigEndian, ByteOrder, LittleEndian};
 use std::marker::Model;
 
-// Decodes the entry at an offset, if there is a valid one. `before` is the tag before it, as it is
-// carried to this one.
+// Decodes the entry at an offset, or returns None if there is no valid entry. The entry's tag is
+// stored as its XOR with `before`.
 #[tactic(auto, unfolding(lfs_model::specs::format::Log::entry_at))]
 pub(crate) fn entry_at(block: &[u8], at: usize, before: Tag) -> Option<Entry<'_>>
     ensures value { option_map log_entry_view result ≡ entry_at block.now at before }
@@ -35,7 +35,8 @@ pub(crate) fn entry_at(block: &[u8], at: usize, before: Tag) -> Option<Entry<'_>
     })
 }
 
-// Returns whether the checksum entry at an offset ends the commit that begins at offset `start`.
+// Returns whether the checksum entry at an offset is valid and ends the commit that begins at
+// offset `start`.
 #[tactic(auto, unfolding(lfs_model::specs::format::Log::closes))]
 fn is_valid_checksum(block: &[u8], start: usize, at: usize, entry: &Entry<'_>) -> bool
     requires start { start ≤ at }
@@ -50,8 +51,9 @@ fn is_valid_checksum(block: &[u8], start: usize, at: usize, entry: &Entry<'_>) -
                 && LittleEndian::read_u32(entry.bytes) == crc(0xffff_ffff, &block[start..at + 4])))
 }
 
-// Returns the end of the commit that begins at offset `start` and whose next entry is at offset
-// `at`, and its last tag as it is carried to the next one. None if no valid checksum ends it.
+// Returns the end of the commit that begins at offset `start`, and the tag that the next commit's
+// first tag is XORed with. The commit's next entry is at offset `at`, and its tag is XORed with
+// `before`. Returns None if no valid checksum ends the commit.
 fn commit_end(block: &[u8], start: usize, mut at: usize, mut before: Tag) -> Option<(usize, Tag)>
     requires { start ≤ at }
     ensures value { result ≡ option_map (λ c. (c.end, c.last)) (commit_at block.now start at before) }
@@ -73,7 +75,7 @@ fn commit_end(block: &[u8], start: usize, mut at: usize, mut before: Tag) -> Opt
     None
 }
 
-// Returns a block's revision, or 0 if the block is shorter than 4 bytes.
+// Returns a block's revision count, or 0 if the block is shorter than 4 bytes.
 fn revision(block: &[u8]) -> u32
     ensures { result ≡ block_revision block.now }
 {
@@ -84,8 +86,8 @@ fn revision(block: &[u8]) -> u32
     }
 }
 
-/// The log of a block: the longest chain of valid commits from offset 4 on, each with the right
-/// checksum (SPEC.md of littlefs, "Metadata pairs"). In contracts a log is the bytes of its block.
+/// The log of a block, which is the longest chain of valid commits that starts at offset 4 (SPEC.md
+/// of littlefs, "Metadata pairs"). In contracts, the value of a log is the bytes of its block.
 #[derive(Drop)]
 pub struct Log<'a> {
     block: &'a [u8],
@@ -107,13 +109,13 @@ impl<'a> Model for Log<'a> {
 }
 
 impl<'a> Log<'a> {
-    /// Reads the log of a block of any length and any bytes. It ends before the first commit with a
-    /// bad entry, and may have no commit at all.
+    /// Reads the log of a block, which may have any length and any bytes. The log ends before the
+    /// first commit with an invalid entry or checksum, so it may have no commit at all.
     ///
-    /// An entry is bad if its tag is invalid, if its data goes past the end of the block, or if its
-    /// type is of class 5 and isn't a checksum's. A checksum is bad if it has less than 4 or more
-    /// than 1,022 bytes, or the wrong value. A forward checksum of version 2.1 (type 0x5ff, at most
-    /// 1,022 bytes) is an entry like any other, without a meaning.
+    /// An entry is invalid if its tag is invalid, if its data extends past the end of the block, or
+    /// if its type is an undefined type of class 5. A checksum is invalid if its data has fewer
+    /// than 4 or more than 1,022 bytes, or if its value is wrong. A forward checksum of version 2.1
+    /// (type 0x5ff, at most 1,022 bytes) is read as an entry that has no effect.
     pub fn read(block: &'a [u8]) -> Log<'a>
         ensures { result ≡ block.now }
     {
@@ -128,9 +130,9 @@ impl<'a> Log<'a> {
         Log::with_known_end(block, end, last)
     }
 
-    /// Makes the log of a block from its known end and last tag, without a pass over the bytes.
-    /// Requires that [`end`](Log::end) and [`last_log_tag`](Log::last_log_tag) would return these
-    /// after a [`read`](Log::read) of the block.
+    /// Makes the log of a block whose end and last tag are known, without reading the commits.
+    /// `end` and `last` must equal what [`end`](Log::end) and [`last_log_tag`](Log::last_log_tag)
+    /// return after a [`read`](Log::read) of the block.
     pub fn with_known_end(block: &'a [u8], end: usize, last: Tag) -> Log<'a>
         requires end { end ≡ (chain_of block.now).end }
         requires last { last ≡ (chain_of block.now).last }
@@ -144,23 +146,22 @@ impl<'a> Log<'a> {
         }
     }
 
-    /// Returns whether the log has a commit.
+    /// Returns whether the log has at least one commit.
     pub fn has_commit(&self) -> bool
         ensures { result ≡ has_commit self.now }
     {
         4 < self.end
     }
 
-    /// Returns the offset in the block where the last commit ends, in bytes. It is 4 if there is no
-    /// commit.
+    /// Returns the block offset at which the last commit ends, or 4 if the log has no commit.
     pub fn end(&self) -> usize
         ensures { result ≡ (chain_of self.now).end }
     {
         self.end
     }
 
-    /// Returns the tag that the next commit's first tag is stored with. All bits are set if there
-    /// is no commit.
+    /// Returns the tag that the next commit's first tag is XORed with. All bits of the returned tag
+    /// are set if the log has no commit.
     pub fn last_log_tag(&self) -> Tag
         ensures { result ≡ (chain_of self.now).last }
     {
@@ -181,8 +182,8 @@ impl<'a> Log<'a> {
         self.block
     }
 
-    /// Returns the entries of all commits, oldest first. The iterator can be advanced from both
-    /// ends. Nothing is copied.
+    /// Returns a double-ended iterator over the entries of all commits, from the oldest to the
+    /// newest. Doesn't copy the entries' data.
     pub fn entries(&self) -> Entries<'a>
         ensures value { result ≡ block_entries self.now }
         ensures small { length (block_entries self.now) < 2 ^ 62 }

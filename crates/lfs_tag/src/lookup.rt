@@ -1,4 +1,4 @@
-// A slot by its name, or the id at which that name belongs.
+// A search for a name among a log's slots.
 
 ghost use Rattle.std.specs.Prelude.{◌≡◌, ℕ, ◌+◌, ◌≤◌, ◌<◌, ◌^◌, [], length, map, max, slice_set, IsTrue, Some, None};
 ghost use Rattle.std.specs.List.{insert, remove};
@@ -20,25 +20,25 @@ use arrayvec::ArrayVec;
 use lfs_model::NameOrder;
 use std::cmp::Ordering;
 
-/// The id of a name, or the id at which it belongs.
+/// The result of a search for a name among a log's slots.
 #[derive(Clone, Copy, Debug, PartialEq, Eq, Drop)]
 pub enum Lookup {
-    /// The least id whose slot has the name.
+    /// The smallest id whose slot has the name.
     Found(u16),
-    /// No slot has the name. It belongs at this id: the least one of a greater name, or the number
-    /// of slots.
+    /// No slot has the name. The id is that of the first slot with a greater name, or the number of
+    /// slots if no name is greater. A new slot with the name belongs there.
     Place(u16),
 }
 
 const BLOCK_MAX: usize = 65536;
 
-// The most slots of a log for which one pass over its entries is enough.
+// The maximum number of slots for which one pass over a log's entries suffices.
 const ROOM: usize = 1024;
 
-// The comparison of a slot's own name with the wanted one.
+// The comparison of a slot's name with the wanted name.
 #[derive(Clone, Copy, Default, Drop)]
 enum NameComparison {
-    // The slot has no name, the superblock's name, or a lesser one.
+    // The slot has no name, has the superblock's name, or has a name less than the wanted one.
     #[default]
     NoneOrLess,
     Same,
@@ -47,13 +47,14 @@ enum NameComparison {
 
 type Ranks = ArrayVec<NameComparison, ROOM>;
 
-/// Finds a name among a log's slots. Returns its id, or the id at which the name belongs: before
-/// the first slot whose name is greater in this order. A superblock's slot and the slot `skip`
-/// count in the ids, but are never found.
+/// Finds a name among a log's slots and returns its id. If no slot has the name, returns the id at
+/// which the name belongs, before the first slot whose name is greater in `order`. Superblock slots
+/// and the slot `skip` keep their ids but are never found.
 ///
-/// Requires a log that isn't malformed, of a block of at most 65,536 bytes; otherwise the result is
-/// unspecified. Nothing is allocated. If the log never has more than 1,024 slots, its entries are
-/// read once and each name is compared once. Otherwise the log is searched for each slot.
+/// Requires a log that isn't malformed, in a block of at most 65,536 bytes; otherwise the result is
+/// unspecified. Doesn't allocate memory. If the log never has more than 1,024 slots, `find` reads
+/// the entries once and compares each name once. Otherwise, `find` searches the log for each slot's
+/// name.
 pub fn find(log: &Log<'_>, order: NameOrder, name: &[u8], skip: Option<u16>) -> Lookup
     ensures { (c : RawContent) → content_after empty_raw_content (block_entries log.now) ≡ Some c → length log.now ≤ 2 ^ 16 → IsNameLookup order name.now skip c.slots result }
 {
@@ -68,7 +69,7 @@ pub fn find(log: &Log<'_>, order: NameOrder, name: &[u8], skip: Option<u16>) -> 
     }
 }
 
-// Returns the wanted name's id, or the id at which it belongs, from the comparisons of all slots.
+// Returns the wanted name's id, or the id at which it belongs, given the comparisons of all slots.
 fn find_by_comparisons(ranks: &[NameComparison], skip: Option<u16>) -> Lookup
     requires { length ranks.now < 2 ^ 16 }
     ensures { result ≡ lookup_of_comparisons skip ranks.now }
@@ -81,7 +82,8 @@ fn find_by_comparisons(ranks: &[NameComparison], skip: Option<u16>) -> Lookup
     }
 }
 
-// Does the same for a log with any number of slots, by searching its entries for each slot's name.
+// Returns the wanted name's id, or the id at which it belongs, by searching the log for each slot's
+// name. The log may have any number of slots.
 fn find_by_ids(log: &Log<'_>, order: NameOrder, name: &[u8], skip: Option<u16>) -> Lookup
     requires { length log.now ≤ 2 ^ 16 }
     ensures { (c : RawContent) → content_after empty_raw_content (block_entries log.now) ≡ Some c → result ≡ lookup_of_comparisons skip (map (comparison_with_slot order name.now) c.slots) }
@@ -95,8 +97,8 @@ fn find_by_ids(log: &Log<'_>, order: NameOrder, name: &[u8], skip: Option<u16>) 
     }
 }
 
-// Returns the first id below `count` whose slot has the wanted name if `same` is set, otherwise the
-// first with a greater name. Returns `count` if there is none.
+// Searches for the wanted name if `same` is set, otherwise for a greater name. Returns the first
+// matching id below `count`, or `count` if no slot matches. The slot `skip` never matches.
 fn first_wanted_id(
     log: &Log<'_>,
     order: NameOrder,
@@ -118,7 +120,7 @@ fn first_wanted_id(
     count
 }
 
-// Returns how a slot's name compares with the wanted one.
+// Compares a slot's name with the wanted name.
 fn compare_slot_name(log: &Log<'_>, order: NameOrder, name: &[u8], id: u16) -> NameComparison
     ensures { (c : RawContent) → content_after empty_raw_content (block_entries log.now) ≡ Some c → result ≡ comparison_with_slot order name.now (slot_of_id c.slots id) }
 {
@@ -130,7 +132,8 @@ fn compare_slot_name(log: &Log<'_>, order: NameOrder, name: &[u8], id: u16) -> N
     }
 }
 
-// Compares the names of all slots of a log. Returns false if there is no room for all of them.
+// Compares the names of all slots of a log with the wanted name. Returns false if `ranks` is too
+// short for all slots.
 #[tactic(auto, using(crate::proofs::Ranks::few_entries))]
 fn comparisons_of_slots(ranks: &mut Ranks, log: &Log<'_>, order: NameOrder, name: &[u8]) -> bool
     requires { ranks.old.items ≡ [] }
@@ -144,7 +147,7 @@ fn comparisons_of_slots(ranks: &mut Ranks, log: &Log<'_>, order: NameOrder, name
     true
 }
 
-// Applies an entry to the comparisons. Returns false if there is no room for another slot.
+// Applies an entry to the comparisons. Returns false if `ranks` is too short for another slot.
 fn apply_to_comparisons(ranks: &mut Ranks, order: NameOrder, name: &[u8], entry: &Entry<'_>) -> bool
     ensures { IsTrue result → ranks.new.items ≡ comparisons_after_entry order name.now ranks.old.items (log_entry_view entry.now) }
 {
@@ -160,7 +163,7 @@ fn apply_to_comparisons(ranks: &mut Ranks, order: NameOrder, name: &[u8], entry:
     }
 }
 
-// Returns how the name that an entry sets compares with the wanted one.
+// Compares the name that an entry sets with the wanted name.
 fn compare_with_entry(order: NameOrder, name: &[u8], entry: &Entry<'_>) -> NameComparison
     ensures { result ≡ comparison_with_entry order name.now (log_entry_view entry.now) }
 {
@@ -171,7 +174,7 @@ fn compare_with_entry(order: NameOrder, name: &[u8], entry: &Entry<'_>) -> NameC
     }
 }
 
-// Returns the comparison for the ordering of the wanted name and a slot's.
+// Converts the ordering of the wanted name and a slot's name to a comparison.
 fn comparison_by_ordering(ordering: Ordering) -> NameComparison
     ensures { result ≡ ordering_comparison ordering }
 {
@@ -182,8 +185,8 @@ fn comparison_by_ordering(ordering: Ordering) -> NameComparison
     }
 }
 
-// Sets the comparison of a slot. If the id is past the last slot, slots without a name are added up
-// to it.
+// Sets the comparison of a slot. If the slot doesn't exist, first appends slots without a name up
+// to and including `id`.
 fn set_comparison(ranks: &mut Ranks, id: usize, rank: NameComparison)
     requires { id < 1024 }
     ensures { ranks.new.items ≡ slice_set (padded_comparisons ranks.old.items id) id rank }
@@ -192,7 +195,7 @@ fn set_comparison(ranks: &mut Ranks, id: usize, rank: NameComparison)
     ranks[id] = rank;
 }
 
-// Adds slots without a name until the id exists.
+// Appends slots without a name until the slot `id` exists.
 fn pad_comparisons(ranks: &mut Ranks, id: usize)
     requires { id < 1024 }
     ensures ranks { ranks.new.items ≡ padded_comparisons ranks.old.items id }
@@ -203,7 +206,7 @@ fn pad_comparisons(ranks: &mut Ranks, id: usize)
     }
 }
 
-// Applies a create or a delete. Returns false if there is no room for another slot.
+// Applies a create or a delete. Returns false if `ranks` is too short for another slot.
 fn splice_comparisons(ranks: &mut Ranks, entry: &Entry<'_>) -> bool
     ensures { IsTrue result → ranks.new.items ≡ comparisons_after_splice ranks.old.items (log_entry_view entry.now) }
 {
@@ -221,8 +224,8 @@ fn splice_comparisons(ranks: &mut Ranks, entry: &Entry<'_>) -> bool
     true
 }
 
-// Returns the first id whose slot has the wanted name if `same` is set, otherwise the first with a
-// greater name. Returns the number of slots if there is none.
+// Searches for the wanted name if `same` is set, otherwise for a greater name. Returns the first
+// matching id, or the number of slots if no slot matches. The slot `skip` never matches.
 fn first_wanted(ranks: &[NameComparison], same: bool, skip: Option<u16>) -> usize
     ensures first { result ≡ first_wanted_slot same skip 0 ranks.now }
     ensures within { result ≤ length ranks.now }

@@ -7,8 +7,8 @@ ghost use Rattle.lfs_model.specs.format.Names.{is_component, is_valid_name, cmp_
 use lfs_model::NameOrder;
 use std::cmp::Ordering;
 
-/// Returns whether the bytes can be one component of a path. A component may have any length but 0,
-/// contains neither a byte 0 nor a slash, and is neither `.` nor `..`.
+/// Returns whether the bytes can be one component of a path. A component isn't empty, contains
+/// neither a zero byte nor a slash, and is neither `.` nor `..`.
 pub fn is_valid_component(name: &[u8]) -> bool
     ensures { result ≡ is_component name.now }
 {
@@ -18,8 +18,8 @@ pub fn is_valid_component(name: &[u8]) -> bool
         && !are_names_equal(name, b"..")
 }
 
-/// Returns whether the bytes can be the name of a file or a directory: a component of at most 255
-/// bytes.
+/// Returns whether the bytes can be the name of a file or a directory. A name is a path component
+/// of at most 255 bytes.
 pub fn is_name(name: &[u8]) -> bool
     ensures { result ≡ is_valid_name name.now }
 {
@@ -32,15 +32,15 @@ fn are_names_equal(name: &[u8], other: &[u8]) -> bool
     name == other
 }
 
-// Returns whether neither a byte 0 nor a slash is among the bytes.
+// Returns whether the name contains neither a zero byte nor a slash.
 fn has_allowed_bytes(name: &[u8]) -> bool
     ensures { result ≡ list_all (λ b. not (b == 0 || b == slash_byte)) name.now }
 {
     name.iter().all(|byte| !(*byte == 0 || *byte == b'/'))
 }
 
-/// Compares two names byte by byte. If one name is a prefix of the other, `order` decides which
-/// comes first.
+/// Compares two names byte by byte. If one name is a prefix of the other, `order` decides which of
+/// them comes first.
 pub fn name_cmp(order: NameOrder, name: &[u8], other: &[u8]) -> Ordering
     ensures { result ≡ name_cmp order name.now other.now }
 {

@@ -1,4 +1,4 @@
-// The entries pushed so far, for the builder's contract alone.
+// The entries pushed so far, which only the builder's contract uses.
 
 ghost use Rattle.std.specs.Prelude.{◌≡◌};
 ghost use Rattle.std.specs.Borrow.{ftrue};
@@ -6,7 +6,7 @@ ghost use Rattle.lfs_tag.specs.Builder.{PartialCommit};
 
 use std::marker::Model;
 
-// A type of size 0. Nothing of it is left at run time.
+// A zero-sized type that exists only for proofs.
 #[derive(Drop)]
 pub(crate) struct PushedCommitProof {
     pub(crate) ghost so_far: { PartialCommit },
@@ -17,7 +17,7 @@ impl Model for PushedCommitProof {
 }
 
 impl PushedCommitProof {
-    // Returns a value that stands for any commit. The caller's proof chooses it from the referents.
+    // Returns a value for the commit that the caller's proof chooses from the arguments.
     pub(crate) fn with_ghost_commit<S, T>(_before: &S, _pushed: &T) -> PushedCommitProof
         ghost so_far: { PartialCommit }
         ensures { result.so_far ≡ so_far }

@@ -1,10 +1,11 @@
-// The order of revisions.
+// The order of revision counts.
 
 ghost use Rattle.std.specs.Prelude.{◌≡◌};
 ghost use Rattle.lfs_model.specs.format.Content.{is_later};
 
-/// Returns whether revision `b` is later than `a`, by the sign of their 32-bit difference. So 0 is
-/// later than the greatest revision (SPEC.md of littlefs, "Metadata pairs").
+/// Returns whether revision count `b` is later than `a`, according to the sign of their 32-bit
+/// difference. Revision count 0 is therefore later than `u32::MAX` (SPEC.md of littlefs, "Metadata
+/// pairs").
 pub fn is_later_than(a: u32, b: u32) -> bool
     ensures { result ≡ is_later a b }
 {

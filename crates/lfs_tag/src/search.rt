@@ -1,4 +1,4 @@
-// The newest entry of a type for an id, searched from the log's end back.
+// A search for the newest entry of a type for an id, from the end of the log backward.
 
 ghost use Rattle.std.specs.Prelude.{◌≡◌, ℕ, ◌+◌, ◌-◌, ◌≤◌, ◌<◌, ◌^◌, ◌/◌, length, reverse, min, Some};
 ghost use Rattle.std.specs.Option.{option_copied, option_map};
@@ -17,15 +17,15 @@ use crate::kinds::{ATTRIBUTE_CLASS, CREATE, NAME_CLASS, SPLICE_CLASS, STRUCT_CLA
 use crate::log::Log;
 use crate::steps::Steps;
 
-// What an entry says of the slot that has a given id after it.
+// What an entry says about the slot that has a given id after the entry.
 enum EntryEffect<'a> {
-    // The slot's name or struct after the entry, or None if it has none.
+    // The slot's name, struct or attribute after the entry, or None if it has none.
     Holds(Option<NameOrStruct<'a>>),
-    // The entry says nothing of the slot, whose id was this one before it.
+    // The entry says nothing about the slot, which had this id before the entry.
     Was(u64),
 }
 
-// Returns what a create or a delete says of the slot that has this id after it.
+// Returns what a create or a delete says about the slot that has this id after the entry.
 fn splice_effect<'a>(entry: &Entry<'a>, id: u64) -> EntryEffect<'a>
     requires { id < 2 ^ 64 - 1 }
     ensures { entry_effect_view result ≡ splice_effect_of (log_entry_view entry.now) id }
@@ -42,7 +42,7 @@ fn splice_effect<'a>(entry: &Entry<'a>, id: u64) -> EntryEffect<'a>
     }
 }
 
-// Returns what an entry says of the slot that has this id after it, and of this type.
+// Returns what an entry says about the slot that has this id after the entry, for the type `kind`.
 fn effect_on_id<'a>(entry: &Entry<'a>, kind: u16, id: u64) -> EntryEffect<'a>
     requires { id < 2 ^ 64 - 1 }
     ensures { entry_effect_view result ≡ slot_effect (log_entry_view entry.now) kind id }
@@ -69,7 +69,8 @@ fn effect_on_id<'a>(entry: &Entry<'a>, kind: u16, id: u64) -> EntryEffect<'a>
     }
 }
 
-// Searches from the newest entry back. Returns what it found, and how many entries it looked at.
+// Searches the entries from the newest to the oldest. Returns what was found and the number of
+// entries that were examined.
 fn search_newest<'a>(
     mut entries: Entries<'a>,
     kind: u16,
@@ -90,8 +91,9 @@ fn search_newest<'a>(
     (None, looks)
 }
 
-// Returns what the newest entry for a slot sets, of type `kind` or of another type that replaces
-// it. Adds the number of entries that it looked at to `steps`.
+// Returns what the newest matching entry sets for a slot, or None. An entry matches if it sets an
+// attribute of type `kind`, or a name or struct of any type in the class of `kind`. Adds the number
+// of examined entries to `steps`.
 fn newest_of_slot<'a>(
     log: &Log<'a>,
     kind: u16,
@@ -107,7 +109,7 @@ fn newest_of_slot<'a>(
     found.0
 }
 
-// Returns the bytes of a name or a struct, if it has that type.
+// Returns the bytes of a name, struct or attribute if its type is `kind`.
 fn matching_bytes<'a>(part: Option<NameOrStruct<'a>>, kind: u16) -> Option<&'a [u8]>
     ensures { option_copied result ≡ part_bytes kind (option_map part_view part.entry) }
 {
@@ -117,11 +119,11 @@ fn matching_bytes<'a>(part: Option<NameOrStruct<'a>>, kind: u16) -> Option<&'a [
     }
 }
 
-/// Returns the bytes of a slot's name, struct or attribute of type `kind`. Returns None exactly if
-/// the slot has none of that type; a slot has only one name and one struct, each of one type.
+/// Returns the bytes of a slot's name, struct or attribute of type `kind`. Returns None if and only
+/// if the slot has no name, struct or attribute of type `kind`.
 ///
-/// Requires a log that isn't malformed. Adds the number of entries that the search looked at to
-/// `steps`, at most the number of entries in the log.
+/// Requires a log that isn't malformed. Adds the number of entries that the search examined, which
+/// is at most the number of entries in the log, to `steps`.
 pub fn get<'a>(log: &Log<'a>, kind: u16, id: u16, steps: &mut Steps) -> Option<&'a [u8]>
     ensures held { (c : RawContent) → content_after empty_raw_content (block_entries log.now) ≡ Some c → option_copied result ≡ bytes_at c.slots kind id }
     ensures steps { steps.new ≡ min (steps.old + searched_count (reverse (block_entries log.now)) kind id) (2 ^ 64 - 1) }
@@ -130,8 +132,9 @@ pub fn get<'a>(log: &Log<'a>, kind: u16, id: u16, steps: &mut Steps) -> Option<&
     matching_bytes(newest_of_slot(log, kind, id, steps), kind)
 }
 
-/// Returns a slot's name with its type. Returns None if the slot has none or doesn't exist.
-/// Requires a log that isn't malformed. `steps` counts as in [`get`].
+/// Returns a slot's name and the name's type, or None if the slot has no name or doesn't exist.
+/// Requires a log that isn't malformed. Adds the number of entries that the search examined to
+/// `steps`.
 pub fn name_of_slot<'a>(log: &Log<'a>, id: u16, steps: &mut Steps) -> Option<NameOrStruct<'a>>
     ensures held { (c : RawContent) → content_after empty_raw_content (block_entries log.now) ≡ Some c → option_map part_view result ≡ (slot_of_id c.slots id).name }
     ensures steps { steps.new ≡ min (steps.old + searched_count (reverse (block_entries log.now)) 0 id) (2 ^ 64 - 1) }
@@ -140,8 +143,9 @@ pub fn name_of_slot<'a>(log: &Log<'a>, id: u16, steps: &mut Steps) -> Option<Nam
     newest_of_slot(log, NAME_CLASS << 8, id, steps)
 }
 
-/// Returns a slot's struct with its type. Returns None if the slot has none or doesn't exist.
-/// Requires a log that isn't malformed. `steps` counts as in [`get`].
+/// Returns a slot's struct and the struct's type, or None if the slot has no struct or doesn't
+/// exist. Requires a log that isn't malformed. Adds the number of entries that the search examined
+/// to `steps`.
 pub fn struct_of_slot<'a>(log: &Log<'a>, id: u16, steps: &mut Steps) -> Option<NameOrStruct<'a>>
     ensures held { (c : RawContent) → content_after empty_raw_content (block_entries log.now) ≡ Some c → option_map part_view result ≡ (slot_of_id c.slots id).struct }
     ensures steps { steps.new ≡ min (steps.old + searched_count (reverse (block_entries log.now)) 0x200 id) (2 ^ 64 - 1) }

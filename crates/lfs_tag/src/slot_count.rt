@@ -1,4 +1,4 @@
-// The number of slots of a log.
+// The number of slots in a log.
 
 ghost use Rattle.std.specs.Prelude.{◌≡◌, ◌+◌, ◌≤◌, ◌<◌, ◌^◌, length, max};
 ghost use Rattle.lfs_model.specs.format.Log.{block_entries};
@@ -9,7 +9,8 @@ use crate::entry::Entry;
 use crate::kinds::{CREATE, NAME_CLASS, SPLICE_CLASS};
 use crate::log::Log;
 
-// Returns the number of slots of a log that isn't malformed, in a block of at most 65,536 bytes.
+// Returns the number of slots in a log that isn't malformed. Requires a block of at most 65,536
+// bytes.
 #[tactic(auto, using(crate::proofs::Ranks::few_entries))]
 pub(crate) fn slot_count(log: &Log<'_>) -> usize
     requires { length log.now ≤ 2 ^ 16 }
@@ -23,7 +24,7 @@ pub(crate) fn slot_count(log: &Log<'_>) -> usize
     count
 }
 
-// Returns the number of slots after an entry.
+// Returns the number of slots after an entry is applied to `count` slots.
 fn count_after_entry(count: usize, entry: &Entry<'_>) -> usize
     requires { count < 2 ^ 32 }
     ensures count { result ≡ slot_count_after_entry count (log_entry_view entry.now) }

@@ -1,4 +1,4 @@
-// A slot's kind, by the type of its name.
+// The kind of a slot, as the type of its name determines it.
 
 ghost use Rattle.std.specs.Prelude.{◌≡◌, Some};
 ghost use Rattle.lfs_model.specs.format.Content.{complete_slot, kind_of_type};
@@ -9,17 +9,18 @@ ghost use Rattle.lfs_tag.specs.KindView.{name_kind_view, is_superblock_name};
 use crate::content::{NameOrStruct, Slot};
 use crate::kinds::{DIRECTORY_NAME, FILE_NAME};
 
-/// A slot's kind, by the type of its name (SPEC.md of littlefs, "0x0xx LFS_TYPE_NAME").
+/// The kind of a slot, which the type of its name determines (SPEC.md of littlefs, "0x0xx
+/// LFS_TYPE_NAME").
 #[derive(Clone, Copy, Debug, PartialEq, Eq, Drop)]
 pub enum SlotNameKind {
     File,
     Directory,
-    /// Any other name.
+    /// The superblock, or any other type of name.
     Superblock,
 }
 
 impl SlotNameKind {
-    /// Returns the kind of a slot that has this name.
+    /// Returns the kind of a slot whose name is `name`.
     pub fn of(name: &NameOrStruct<'_>) -> SlotNameKind
         ensures { name_kind_view result ≡ kind_of_type name.now.kind }
     {
@@ -30,7 +31,7 @@ impl SlotNameKind {
         }
     }
 
-    /// Returns whether the kind is the superblock's.
+    /// Returns whether the kind is `Superblock`.
     pub fn is_superblock(self) -> bool
         ensures { result ≡ is_superblock_kind (name_kind_view self) }
     {
@@ -43,7 +44,7 @@ impl SlotNameKind {
 }
 
 impl Slot<'_> {
-    /// Returns whether the slot is the superblock's: it has a name that is neither a file's nor a
+    /// Returns whether the slot is the superblock's, whose name is neither a file's nor a
     /// directory's.
     pub fn is_superblock(&self) -> bool
         ensures named { result ≡ is_superblock_name (slot_view self.now).name }

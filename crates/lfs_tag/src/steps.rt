@@ -1,10 +1,10 @@
-// A count of the entries that searches looked at.
+// A counter of the entries that searches examined.
 
 ghost use Rattle.std.specs.Prelude.{◌≡◌, ◌+◌, ◌-◌, ◌^◌, min};
 
 use std::marker::Model;
 
-/// The number of entries that searches have looked at. It stops growing at `u64::MAX`.
+/// A counter of the log entries that searches examined. The count saturates at `u64::MAX`.
 #[derive(Clone, Copy, Debug, PartialEq, Eq, Drop)]
 pub struct Steps {
     count: u64,
@@ -21,21 +21,21 @@ impl Model for Steps {
 }
 
 impl Steps {
-    /// Makes a count of 0.
+    /// Makes a counter that starts at 0.
     pub fn new() -> Steps
         ensures { result ≡ 0 }
     {
         Steps { count: 0 }
     }
 
-    /// Returns the count.
+    /// Returns the number of entries counted so far.
     pub fn count(self) -> u64
         ensures { result ≡ self }
     {
         self.count
     }
 
-    // Adds to the count, up to `u64::MAX`.
+    // Adds to the count, which saturates at `u64::MAX`.
     pub(crate) fn add(&mut self, entries: u64)
         ensures { self.new ≡ min (self.old + entries) (2 ^ 64 - 1) }
     {

@@ -1,4 +1,4 @@
-// The struct of a slot, decoded.
+// The decoded struct of a slot.
 
 ghost use Rattle.std.specs.Prelude.{◌≡◌, Some};
 ghost use Rattle.std.specs.Option.{option_map};
@@ -10,23 +10,24 @@ use crate::content::NameOrStruct;
 use crate::fields::{ctz_of, pair_of};
 use crate::kinds::{CTZ_STRUCT, DIRECTORY_STRUCT, INLINE_STRUCT};
 
-/// The struct of a slot, decoded (SPEC.md of littlefs, "0x2xx LFS_TYPE_STRUCT"). A file's bytes are
-/// borrowed.
+/// The decoded struct of a slot (SPEC.md of littlefs, "0x2xx LFS_TYPE_STRUCT"). An inline file's
+/// bytes are borrowed.
 #[derive(Clone, Copy, Drop)]
 pub enum Struct<'a> {
-    /// An inline file: its bytes, in the block.
+    /// The bytes of an inline file, borrowed from the block.
     Inline(&'a [u8]),
-    /// A file's CTZ skip list: the address of its last block, and the file's size in bytes.
+    /// The address of the last block of a file's CTZ skip-list, and the file's size in bytes.
     Ctz { head: u32, size: u32 },
-    /// A directory, by the address of its first pair.
+    /// The address of a directory's first pair.
     Branch([u32; 2]),
 }
 
 impl<'a> Struct<'a> {
     ghost use Rattle.lfs_tag.specs.StructView.{part_struct, struct_view};
 
-    /// Decodes a slot's struct. Returns None exactly if the type isn't a struct's, or if a CTZ or
-    /// directory struct doesn't have 8 bytes. A log that isn't malformed holds no such struct.
+    /// Decodes a slot's struct. Returns None if and only if the type isn't a struct's, or a CTZ or
+    /// directory struct doesn't have 8 bytes. If a log isn't malformed, all of its structs can be
+    /// decoded.
     pub fn of(part: &NameOrStruct<'a>) -> Option<Struct<'a>>
         ensures says { IsAllowedPart 2 (part_view part.now) → option_map struct_view result ≡ Some (decoded_struct part.now.kind part.now.bytes.now) }
         ensures only { option_map struct_view result ≡ part_struct (part_view part.now) }

@@ -1,4 +1,4 @@
-// The content of a log without its slots.
+// The content of a log without the slots themselves.
 
 ghost use Rattle.std.specs.Prelude.{◌≡◌, ℕ, ◌<◌, ◌≤◌, OnOk, IfOk, IsTrue, length, true, vec_len, Some, None};
 ghost use Rattle.std.specs.List.{insert, remove, list_all};
@@ -17,7 +17,7 @@ use crate::kinds::{
 use crate::log::Log;
 use std::alloc::{AllocError, Global};
 
-/// The [`Content`](crate::Content) of a log with the number of slots in place of the slots.
+/// A summary of a log's [`Content`](crate::Content), with the number of slots instead of the slots.
 #[derive(Clone, Copy, Debug, PartialEq, Eq, Drop)]
 pub struct Summary {
     pub slot_count: usize,
@@ -27,7 +27,7 @@ pub struct Summary {
     pub is_complete: bool,
 }
 
-// The parts that a slot has.
+// Which parts a slot has.
 #[derive(Clone, Copy, Drop)]
 struct SlotSummary {
     has_name: bool,
@@ -43,11 +43,10 @@ struct PartialSummary {
 }
 
 impl Summary {
-    /// Returns what [`Content::read`](crate::Content::read) would, without the slots. Allocates two
-    /// bytes for each slot.
+    /// Returns a summary of the content that [`Content::read`](crate::Content::read) would return.
+    /// Allocates two bytes for each slot.
     ///
-    /// Errors: `Malformed` only if the log is malformed; such a log never returns Ok. `NoMemory` if
-    /// that memory isn't granted.
+    /// Errors: `Malformed` if the log is malformed. `NoMemory` if memory can't be allocated.
     #[tactic(auto, using(crate::proofs::Summaries::no_content_where_none))]
     pub fn read(alloc: Global, log: &Log<'_>) -> Result<Summary, ContentError>
         ensures summary { IfOk result (λ s. (c : RawContent) × IsLogSummary log.now c s) }
@@ -113,7 +112,7 @@ fn apply_to_outline(outline: &mut PartialSummary, entry: &Entry<'_>) -> Result<(
     }
 }
 
-// Applies an entry to the slots' marks. The entry isn't a checksum, a tail or a move state.
+// Applies an entry other than a checksum, a tail or a move state to the marks of the slots.
 fn apply_to_marks(marks: &mut Vec<SlotSummary>, entry: &Entry<'_>) -> Result<(), ContentError>
     ensures { GivesWithMemory (λ _. marks.new.items) result (marks_after_entry marks.old.items (log_entry_view entry.now)) }
 {
@@ -148,7 +147,7 @@ fn apply_to_marks(marks: &mut Vec<SlotSummary>, entry: &Entry<'_>) -> Result<(),
     }
 }
 
-// Returns whether a slot exists and has a name.
+// Returns whether the slot `id` exists and has a name.
 fn is_named_mark(marks: &[SlotSummary], id: usize) -> bool
     ensures value { result ≡ (id_mark marks.now id).has_name }
     ensures there { IsTrue result → id < length marks.now }
@@ -160,7 +159,8 @@ fn is_named_mark(marks: &[SlotSummary], id: usize) -> bool
     }
 }
 
-// Marks a slot as named. If the id is past the last slot, marks of empty slots are added up to it.
+// Marks a slot as named. If the slot doesn't exist, first appends marks of empty slots up to and
+// including `id`.
 fn mark_named(marks: &mut Vec<SlotSummary>, id: usize) -> Result<(), AllocError>
     requires { id < 1024 }
     ensures { OnOk result (marks.new.items ≡ marks_with_change (λ m. record m { has_name = true }) (padded_marks marks.old.items id) id) }
@@ -170,7 +170,7 @@ fn mark_named(marks: &mut Vec<SlotSummary>, id: usize) -> Result<(), AllocError>
     Ok(())
 }
 
-// Adds marks of empty slots until the id exists.
+// Appends marks of empty slots until the slot `id` exists.
 fn pad_marks(marks: &mut Vec<SlotSummary>, id: usize) -> Result<(), AllocError>
     requires { id < 1024 }
     ensures filled { OnOk result (marks.new.items ≡ padded_marks marks.old.items id) }

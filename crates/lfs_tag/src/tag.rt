@@ -1,4 +1,4 @@
-// Tags.
+// The tags of a log's entries.
 
 ghost use Rattle.std.specs.Prelude.{◌≡◌, ◌<◌, ◌^◌, ◌%◌, ◌↔◌, IsTrue, bit_xor};
 ghost use Rattle.lfs_model.specs.format.Tag.{IsValidTag, tag_type, tag_id, tag_length, tag_class, tag_chunk, tag_data_size, is_commit_end, make_tag, tag_before_next};
@@ -7,8 +7,8 @@ ghost use Rattle.lfs_model.specs.format.EntryTypes.{is_attribute_removal};
 use crate::kinds::{CHECKSUM_CLASS, FORWARD_CHECKSUM};
 use std::marker::Model;
 
-/// A tag of 32 bits (SPEC.md of littlefs, "Metadata tags"). From the top: a bit that is 0 in a
-/// valid tag, 11 bits of type, 10 of id and 10 of length.
+/// A 32-bit tag (SPEC.md of littlefs, "Metadata tags"). From the top, the fields of a tag are a bit
+/// that is 0 in a valid tag, an 11-bit type, a 10-bit id and a 10-bit length.
 #[derive(Clone, Copy, Debug, PartialEq, Eq, Drop)]
 pub struct Tag {
     bits: u32,
@@ -25,10 +25,11 @@ impl Model for Tag {
 }
 
 impl Tag {
-    /// The id of a tag that isn't about a slot.
+    /// The id of a tag that doesn't refer to a slot.
     pub const NO_ID: u16 = 0x3ff;
 
-    /// The length field of a tag that removes an attribute. No data follow such a tag.
+    /// The length field of a tag that removes an attribute. No data follows a tag whose length is
+    /// 0x3ff.
     pub const REMOVED: u16 = 0x3ff;
 
     /// Makes a tag from its 32 bits.
@@ -61,8 +62,8 @@ impl Tag {
         }
     }
 
-    /// Decodes a stored tag: its XOR with the tag before it. `previous` has all bits set for a
-    /// block's first tag.
+    /// Decodes a stored tag by XORing it with the tag before it. For a block's first tag,
+    /// `previous` has all bits set.
     pub fn decode(stored: u32, previous: Tag) -> Tag
         ensures { result ≡ bit_xor stored previous }
     {
@@ -71,7 +72,7 @@ impl Tag {
         }
     }
 
-    /// Returns the tag as it is stored: its XOR with the tag before it.
+    /// Returns the tag in its stored form, which is its XOR with the tag before it.
     pub fn encode(self, previous: Tag) -> u32
         ensures stored { result ≡ bit_xor self previous }
         ensures again { bit_xor result previous ≡ self }
@@ -79,14 +80,14 @@ impl Tag {
         self.bits ^ previous.bits
     }
 
-    /// Returns whether the tag is valid: its top bit is 0, as in each entry of a log.
+    /// Returns whether the tag is valid, which means that its top bit is 0.
     pub fn is_valid(self) -> bool
         ensures { IsTrue result ↔ IsValidTag self }
     {
         self.bits >> 31 == 0
     }
 
-    /// Returns the type, below 2,048: one of [`crate::kinds`], or 0x300 plus a user attribute's own
+    /// Returns the 11-bit type: one of [`crate::kinds`], or 0x300 plus a user attribute's 8-bit
     /// type.
     pub fn kind(self) -> u16
         ensures { result ≡ tag_type self }
@@ -94,43 +95,43 @@ impl Tag {
         (self.bits >> 20 & 0x7ff) as u16
     }
 
-    /// Returns the id of the slot, below 1,024; 0x3ff stands for none.
+    /// Returns the 10-bit id of the slot, or 0x3ff if the tag doesn't refer to a slot.
     pub fn id(self) -> u16
         ensures { result ≡ tag_id self }
     {
         (self.bits >> 10 & 0x3ff) as u16
     }
 
-    /// Returns the length field, below 1,024.
+    /// Returns the 10-bit length field.
     pub fn len(self) -> u16
         ensures { result ≡ tag_length self }
     {
         (self.bits & 0x3ff) as u16
     }
 
-    /// Returns the class: the upper three bits of the type.
+    /// Returns the class, which is the upper three bits of the type.
     pub fn class(self) -> u16
         ensures { result ≡ tag_class self }
     {
         self.kind() >> 8
     }
 
-    /// Returns the chunk: the lower eight bits of the type. For an attribute it is the attribute's
-    /// own type.
+    /// Returns the chunk, which is the lower eight bits of the type. A user attribute's chunk is
+    /// the attribute's own type.
     pub fn chunk(self) -> u8
         ensures { result ≡ tag_chunk self }
     {
         (self.kind() & 0xff) as u8
     }
 
-    /// Returns whether the length is 0x3ff, which removes an attribute.
+    /// Returns whether the length field is 0x3ff, which removes an attribute.
     pub fn has_removal_length(self) -> bool
         ensures { result ≡ is_attribute_removal self }
     {
         self.len() == Tag::REMOVED
     }
 
-    /// Returns how many bytes of data follow the tag.
+    /// Returns the number of data bytes that follow the tag.
     pub fn size(self) -> usize
         ensures { result ≡ tag_data_size self }
     {
@@ -141,17 +142,18 @@ impl Tag {
         }
     }
 
-    // Returns whether the tag ends a commit or makes it invalid: all tags of class 5 do, except a
-    // forward checksum's, which littlefs writes from version 2.1 on and which has no meaning here.
+    // Returns whether the tag ends a commit or invalidates it. Every tag of class 5 ends or
+    // invalidates a commit, except a forward checksum, which littlefs writes from version 2.1 on
+    // and which has no effect here.
     pub(crate) fn ends_commit(self) -> bool
         ensures { result ≡ is_commit_end self }
     {
         self.class() == CHECKSUM_CLASS && !(self.kind() == FORWARD_CHECKSUM && self.len() <= 1022)
     }
 
-    // Returns the tag as it is carried to the next one, which is stored with it. A checksum's
-    // lowest chunk bit flips the top bit, so that a commit can make the bytes after it decode as an
-    // invalid tag.
+    // Returns the tag that the next tag is XORed with. This is the tag itself, but a checksum's
+    // lowest chunk bit flips the top bit. By the flipped bit, a commit can make the bytes after it
+    // decode as an invalid tag.
     pub(crate) fn as_previous_tag(self) -> Tag
         ensures { result ≡ tag_before_next self }
     {
@@ -164,7 +166,7 @@ impl Tag {
         }
     }
 
-    // Returns the valid tag of which this is the carried form.
+    // Returns the valid tag whose [`as_previous_tag`](Tag::as_previous_tag) is this tag.
     pub(crate) fn without_top_bit(self) -> Tag
         ensures { result ≡ self % 2 ^ 31 }
     {

@@ -1,4 +1,4 @@
-// From the addresses of pairs to their indices in the thread.
+// Conversion of pair addresses to indices in the thread.
 
 ghost use Rattle.std.specs.Prelude.{◌≡◌, IfErr, IfOk};
 ghost use Rattle.lfs_model.specs.tree.View.{IsAccepted};
@@ -8,7 +8,7 @@ use lfs_device::{BlockDevice, Error};
 use lfs_thread::{PairAddressList, Thread};
 use std::alloc::Global;
 
-// Returns the addresses of all pairs, in a table that finds a pair's index without a search.
+// Returns the addresses of all pairs, in a table that finds the index of a pair by its address.
 pub(crate) fn thread_addresses<D: BlockDevice>(
     alloc: Global,
     thread: &Thread<D>,

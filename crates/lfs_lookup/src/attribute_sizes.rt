@@ -1,4 +1,4 @@
-// How many bytes the attributes of an entry use of its pair.
+// The number of bytes that an entry's attributes use in its metadata pair.
 
 ghost use Rattle.std.specs.Prelude.{◌≡◌, ◌<◌, ◌+◌, IfErr, IfOk, IsSome, Some, false, length, map, slice_get};
 ghost use Rattle.lfs_model.specs.session.TreeEdits.{node_attributes_of};
@@ -25,7 +25,7 @@ use lfs_tag::{Attribute, Content, Log, Slot};
 use lfs_thread::Thread;
 use std::alloc::Global;
 
-// Returns how many bytes attributes use together, each with its tag of 4 bytes.
+// Returns the number of bytes that the attributes use, including a tag of 4 bytes for each.
 fn total_attributes_size(attributes: &[Attribute<'_>]) -> usize
     requires { AttributesInOrder 0 (map attribute_view attributes.now) }
     ensures { result ≡ attributes_size (map attribute_view attributes.now) }
@@ -37,7 +37,7 @@ fn total_attributes_size(attributes: &[Attribute<'_>]) -> usize
     size
 }
 
-// Returns the size of the attributes of the slot with that id, or 0 if there is no such slot.
+// Returns the size of the attributes of the slot with the given id, or 0 if there is no such slot.
 fn slot_attributes_size(slots: &[Slot<'_>], id: u16) -> usize
     requires { AreWellFormed (map slot_view slots.now) }
     ensures { result ≡ attributes_size (slot_of_id (map slot_view slots.now) id).attributes }
@@ -48,7 +48,7 @@ fn slot_attributes_size(slots: &[Slot<'_>], id: u16) -> usize
     }
 }
 
-// Returns the size of the attributes of a slot of a log.
+// Returns the size of the attributes of the slot with the given id in a log.
 fn log_attributes_size(alloc: Global, log: &Log<'_>, id: u16) -> Result<usize, Error>
     requires { HasCompleteLog log.now }
     ensures is { (content : ModelContent) (slot : ModelSlot) → IsContentLog log.now content → slice_get content.slots id ≡ Some slot → IfOk result (IsAttributesSize slot.attributes) }
@@ -58,7 +58,7 @@ fn log_attributes_size(alloc: Global, log: &Log<'_>, id: u16) -> Result<usize, E
     Ok(slot_attributes_size(&content.slots, id))
 }
 
-// Returns the size of the attributes of a slot, whose block is loaded into the cache.
+// Returns the size of a slot's attributes. Loads the slot's block into the cache.
 fn cached_attributes_size<D: BlockDevice>(
     alloc: Global,
     thread: &mut Thread<D>,
@@ -75,13 +75,14 @@ fn cached_attributes_size<D: BlockDevice>(
     log_attributes_size(alloc, &thread.lend(slot.pair).unwrap(), slot.id)
 }
 
-/// Returns how many bytes the attributes of the entry at a path use of its pair, each with its tag
-/// of 4 bytes; 0 for the root, and if there is no entry. Makes at most one read for each metadata
-/// pair of the directories above the path, and none if all of them are cached.
+/// Returns the number of bytes that the attributes of the entry at `path` use in its metadata pair,
+/// including a tag of 4 bytes for each attribute. Returns 0 if the path is the root's or has no
+/// entry. Makes at most one read for each metadata pair of the path's ancestor directories, and no
+/// read if all of these pairs are cached.
 ///
 /// `root` is the index of the root directory's first pair.
 ///
-/// Errors: `Io` if a read failed. `NoMemory` if memory can't be allocated.
+/// Errors: `Io` if a read fails. `NoMemory` if memory can't be allocated.
 pub fn attributes_size_at<D: BlockDevice>(
     alloc: Global,
     thread: &mut Thread<D>,

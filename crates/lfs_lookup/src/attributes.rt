@@ -1,4 +1,4 @@
-// An attribute of the entry at a path.
+// Reads of an attribute of the entry at a path.
 
 ghost use Rattle.std.specs.Prelude.{◌≡◌, ◌<◌, ◌≤◌, ◌+◌, IfErr, IfOk, IfSome, IsSome, Some, length, slice_get};
 ghost use Rattle.std.specs.Option.{option_copied, option_map};
@@ -27,8 +27,8 @@ use lfs_tag::{Log, Steps, get};
 use lfs_thread::Thread;
 use std::alloc::{AllocError, Global};
 
-// Returns the bytes of an attribute of a log's slot. Returns None if the slot has no attribute of
-// that type.
+// Returns the bytes of an attribute of a slot in a log. Returns None if the slot has no attribute
+// of type `kind`.
 fn attribute_in_log<'a>(log: &Log<'a>, kind: u8, id: u16) -> Option<&'a [u8]>
     requires { HasCompleteLog log.now }
     ensures short { IfSome result (λ bytes. length bytes.now ≤ 1022) }
@@ -37,7 +37,7 @@ fn attribute_in_log<'a>(log: &Log<'a>, kind: u8, id: u16) -> Option<&'a [u8]>
     get(log, ATTRIBUTE + u16::from(kind), id, &mut Steps::new())
 }
 
-// Copies bytes, if there are any.
+// Copies the bytes, if there are any.
 fn copy_optional_bytes(alloc: Global, bytes: Option<&[u8]>) -> Result<Option<Vec<u8>>, AllocError>
     ensures { IfOk result (λ found. option_map (λ v. v.items) found ≡ option_copied bytes.entry) }
 {
@@ -50,7 +50,7 @@ fn copy_optional_bytes(alloc: Global, bytes: Option<&[u8]>) -> Result<Option<Vec
     }
 }
 
-// Copies an attribute of a slot of a log.
+// Copies an attribute of a slot in a log.
 fn copy_log_attribute(
     alloc: Global,
     log: &Log<'_>,
@@ -84,7 +84,7 @@ fn attribute_of_slot<D: BlockDevice>(
     copy_log_attribute(alloc, &thread.lend(slot.pair).unwrap(), kind, slot.id)
 }
 
-// Returns the slot that a look-up found. The root has none.
+// Returns the slot that a look-up found, if any. The root directory has no slot.
 pub(crate) fn spot_if_found(shown: VisiblePathLookup) -> Option<SlotPosition>
     ensures { result ≡ lookup_spot shown }
 {
@@ -95,7 +95,7 @@ pub(crate) fn spot_if_found(shown: VisiblePathLookup) -> Option<SlotPosition>
     }
 }
 
-// Returns an attribute of the slot, if there is one.
+// Returns an attribute of the slot if there is a slot.
 fn attribute_if_slot<D: BlockDevice>(
     alloc: Global,
     thread: &mut Thread<D>,
@@ -114,13 +114,13 @@ fn attribute_if_slot<D: BlockDevice>(
     }
 }
 
-/// Looks up a path, and returns its entry's attribute of type `kind`, at most 1,022 bytes. The root
-/// has no attributes. Makes at most one read for each metadata pair of the directories above the
-/// path, and none if all of them are cached.
+/// Looks up a path, and returns the entry's attribute of type `kind`, which has at most 1,022
+/// bytes. The root directory has no attributes. Makes at most one read for each metadata pair of
+/// the path's ancestor directories, and no read if all of these pairs are cached.
 ///
 /// `root` is the index of the root directory's first pair.
 ///
-/// Errors: `Io` if a read failed. `NoMemory` if memory can't be allocated.
+/// Errors: `Io` if a read fails. `NoMemory` if memory can't be allocated.
 pub fn find_attribute<D: BlockDevice>(
     alloc: Global,
     thread: &mut Thread<D>,
@@ -137,7 +137,8 @@ pub fn find_attribute<D: BlockDevice>(
 {
     let shown = look_up_path(alloc, thread, root, path)?;
     let bytes = attribute_if_slot(alloc, thread, spot_if_found(shown), kind)?;
-    // A proof needs the device's block size to see that a list has as many bytes as its entry says.
+    // The proof needs the device's block size to show that a list has the size that its entry
+    // states.
     let _device = thread.device();
     Ok(FoundAttribute {
         finding: finding_shown(shown),

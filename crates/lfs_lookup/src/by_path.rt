@@ -24,15 +24,15 @@ use lfs_device::{BlockDevice, Error};
 use lfs_thread::Thread;
 use std::alloc::Global;
 
-/// Looks up a path. The slot that a pending move names counts as deleted (DESIGN.md of littlefs,
-/// "The move problem"). Makes at most one read for each metadata pair of the directories above the
-/// path, and none if all of them are cached. If nothing is to recover and each of these pairs has a
-/// slot, a directory of n pairs costs at most 1 + log2 n reads. Afterwards the pair of the slot
-/// that was found is cached.
+/// Looks up a path. Treats the slot to which a pending move refers as deleted (DESIGN.md of
+/// littlefs, "The move problem"). Makes at most one read for each metadata pair of the path's
+/// ancestor directories, and no read if all of these pairs are cached. If the global state is zero
+/// and each pair of the ancestor directories has a slot, makes at most 1 + log2 n reads in a
+/// directory of n pairs. The pair of the slot that was found is cached afterwards.
 ///
 /// `root` is the index of the root directory's first pair.
 ///
-/// Errors: `Io` if a read failed. `NoMemory` if memory can't be allocated.
+/// Errors: `Io` if a read fails. `NoMemory` if memory can't be allocated.
 pub fn look_up_path<D: BlockDevice>(
     alloc: Global,
     thread: &mut Thread<D>,
@@ -51,7 +51,7 @@ pub fn look_up_path<D: BlockDevice>(
     look_up_unhidden(thread, root, &names, moved)
 }
 
-// Returns how many bytes a file has.
+// Returns the size of a file in bytes.
 fn contents_size(contents: FileStorage) -> u32
     requires { InlineFitsTag contents }
     ensures { result ≡ storage_size contents }
@@ -62,7 +62,7 @@ fn contents_size(contents: FileStorage) -> u32
     }
 }
 
-// Returns the finding of a file.
+// Returns the result of a look-up that found a file.
 fn finding_of_file(contents: FileStorage) -> FoundNode
     requires { InlineFitsTag contents }
     ensures { result ≡ record { fault = None; node = File (storage_size contents) } }
@@ -75,7 +75,8 @@ fn finding_of_file(contents: FileStorage) -> FoundNode
     }
 }
 
-// Returns the finding of no entry, with the refusal of a parent, if any.
+// Returns the result of a look-up that found no entry. `fault` is the error that a parent causes,
+// if any.
 fn finding_of_nothing(fault: Option<Refusal>) -> FoundNode
     ensures { result ≡ record { fault = fault; node = Nothing } }
 {
@@ -85,7 +86,7 @@ fn finding_of_nothing(fault: Option<Refusal>) -> FoundNode
     }
 }
 
-// Returns the finding of a directory.
+// Returns the result of a look-up that found a directory.
 fn finding_of_directory() -> FoundNode
     ensures { result ≡ record { fault = None; node = Directory } }
 {
@@ -95,7 +96,8 @@ fn finding_of_directory() -> FoundNode
     }
 }
 
-/// Converts the result of a look-up: to the entry, or the refusal of a parent.
+/// Converts the result of a look-up to the entry that was found, or to the error that a parent
+/// causes.
 pub fn finding_shown(shown: VisiblePathLookup) -> FoundNode
     requires { FoundInlineFits shown }
     ensures { result ≡ node_or_refusal shown }
@@ -110,8 +112,8 @@ pub fn finding_shown(shown: VisiblePathLookup) -> FoundNode
     }
 }
 
-/// Returns the index of the first pair of the directory that a look-up found, if it found one.
-/// `root` is the index of the root directory's first pair.
+/// Returns the index of the first pair of the directory that a look-up found. Returns None if the
+/// look-up found no directory. `root` is the index of the root directory's first pair.
 pub fn first_pair_found(root: usize, shown: VisiblePathLookup) -> Option<usize>
     ensures { result ≡ found_pair_number root shown }
 {
@@ -122,13 +124,13 @@ pub fn first_pair_found(root: usize, shown: VisiblePathLookup) -> Option<usize>
     }
 }
 
-/// Looks up a path. Returns a file with its size in bytes, a directory, or nothing, then also with
-/// the refusal if a parent is missing or isn't a directory. Makes at most one read for each
-/// metadata pair of the directories above the path, and none if all of them are cached.
+/// Looks up a path. Returns a directory, a file with its size in bytes, or nothing. If a parent is
+/// missing or isn't a directory, also returns the error to report. Makes at most one read for each
+/// metadata pair of the path's ancestor directories, and no read if all of these pairs are cached.
 ///
 /// `root` is the index of the root directory's first pair.
 ///
-/// Errors: `Io` if a read failed. `NoMemory` if memory can't be allocated.
+/// Errors: `Io` if a read fails. `NoMemory` if memory can't be allocated.
 pub fn find_node<D: BlockDevice>(
     alloc: Global,
     thread: &mut Thread<D>,
@@ -141,17 +143,18 @@ pub fn find_node<D: BlockDevice>(
     ensures reading { ReadsOrReports thread.old thread.new result }
 {
     let shown = look_up_path(alloc, thread, root, path)?;
-    // A proof needs the device's block size to see that a list has as many bytes as its entry says.
+    // The proof needs the device's block size to show that a list has the size that its entry
+    // states.
     let _device = thread.device();
     Ok(finding_shown(shown))
 }
 
 /// Looks up a path, and returns whether it leads to a directory that has entries. Makes at most one
-/// read for each metadata pair of the directory at the path and of those above it.
+/// read for each metadata pair of the directory at the path and of its ancestors.
 ///
 /// `root` is the index of the root directory's first pair.
 ///
-/// Errors: `Io` if a read failed. `NoMemory` if memory can't be allocated.
+/// Errors: `Io` if a read fails. `NoMemory` if memory can't be allocated.
 pub fn path_has_entries<D: BlockDevice>(
     alloc: Global,
     thread: &mut Thread<D>,
@@ -166,7 +169,8 @@ pub fn path_has_entries<D: BlockDevice>(
 {
     let shown = look_up_path(alloc, thread, root, path)?;
     let has_entries = has_entries(alloc, thread, first_pair_found(root, shown))?;
-    // A proof needs the device's block size to see that a list has as many bytes as its entry says.
+    // The proof needs the device's block size to show that a list has the size that its entry
+    // states.
     let _device = thread.device();
     Ok(NodeAndEmptiness {
         finding: finding_shown(shown),

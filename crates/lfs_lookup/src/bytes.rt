@@ -1,4 +1,4 @@
-// The inline bytes of a file's slot.
+// Reads of the inline bytes of a file's slot.
 
 ghost use Rattle.std.specs.Prelude.{◌≡◌, ◌≤◌, ◌<◌, ◌+◌, List, ℕ, IfOk, IfErr, IsSome, Some, drop, false, length, slice_get, take};
 ghost use Rattle.std.specs.Option.{option_copied};
@@ -20,7 +20,7 @@ use lfs_tag::{Log, Steps, get};
 use lfs_thread::Thread;
 use std::alloc::{AllocError, Global};
 
-// Returns at most `count` bytes, from a position on.
+// Returns a copy of at most `count` of the bytes, starting at offset `position`.
 fn copy_bytes_from(
     alloc: Global,
     bytes: &[u8],
@@ -34,14 +34,14 @@ fn copy_bytes_from(
     Vec::from_slice(alloc, &bytes[from..from + len])
 }
 
-// Returns the inline bytes of a log's slot. Returns None if its struct isn't inline.
+// Returns the inline bytes of a slot in a log. Returns None if the slot's struct isn't inline.
 fn inline_in_log<'a>(log: &Log<'a>, id: u16) -> Option<&'a [u8]>
     ensures { (content : ModelContent) (slot : Slot) (bytes : List ℕ) → IsContentLog log.now content → slice_get content.slots id ≡ Some slot → slot.struct ≡ Inline bytes → option_copied result ≡ Some bytes }
 {
     get(log, INLINE_STRUCT, id, &mut Steps::new())
 }
 
-// Returns at most `count` inline bytes of a log's slot, from a position on.
+// Returns at most `count` inline bytes of a slot in a log, starting at offset `position`.
 fn copy_inline_bytes(
     alloc: Global,
     log: &Log<'_>,
@@ -58,10 +58,10 @@ fn copy_inline_bytes(
     Ok(copy_bytes_from(alloc, bytes, position, count)?)
 }
 
-/// Returns at most `count` bytes, from a position on, of a slot with an inline struct. Makes at
-/// most one read, and none if the slot's block is cached.
+/// Returns at most `count` inline bytes of a slot with an inline struct, starting at offset
+/// `position`. Makes at most one read, and no read if the slot's block is cached.
 ///
-/// Errors: `Io` if a read failed. `NoMemory` if memory can't be allocated.
+/// Errors: `Io` if a read fails. `NoMemory` if memory can't be allocated.
 pub fn read_inline_at<D: BlockDevice>(
     alloc: Global,
     thread: &mut Thread<D>,
@@ -86,8 +86,8 @@ pub fn read_inline_at<D: BlockDevice>(
     )
 }
 
-/// Returns the slot and the storage of the file that a look-up found. Returns None if it found no
-/// file.
+/// Returns the slot of the file that a look-up found, and where the file's bytes are stored.
+/// Returns None if the look-up found no file.
 pub fn spot_of_file(shown: VisiblePathLookup) -> Option<(SlotPosition, FileStorage)>
     ensures { result ≡ spot_and_storage shown }
 {

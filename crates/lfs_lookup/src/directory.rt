@@ -21,7 +21,8 @@ use lfs_tag::kinds::DELETE;
 use lfs_thread::Thread;
 use std::alloc::Global;
 
-// Returns the id of the slot that a pending move names, if that slot is in the pair at the address.
+// Returns the id of the slot to which a pending move refers, if that slot is in the pair at address
+// `at`.
 fn moved_id_in(state: &MoveState, at: [u32; 2]) -> Option<usize>
     ensures { result ≡ moved_slot_id (move_view state.now) (address_view at) }
 {
@@ -32,7 +33,7 @@ fn moved_id_in(state: &MoveState, at: [u32; 2]) -> Option<usize>
     }
 }
 
-// Returns the entries of one pair, without the slot that a move in `state` names.
+// Returns the entries of one pair, without the slot to which a move in `state` refers.
 fn pair_items<D: BlockDevice>(
     alloc: Global,
     thread: &mut Thread<D>,
@@ -51,11 +52,11 @@ fn pair_items<D: BlockDevice>(
     items_in_log(alloc, &thread.lend(index).unwrap(), moved)
 }
 
-/// Returns the entries of one pair in order, without the superblock and the slot that a pending
-/// move names (DESIGN.md of littlefs, "The move problem").
+/// Returns the entries of one pair in the order of their slots. Leaves out the superblock, and the
+/// slot to which a pending move refers (DESIGN.md of littlefs, "The move problem").
 ///
-/// Errors: `Io` if the read of the pair's block failed. `NoMemory` if memory for the block, its
-/// slots or the entries can't be allocated.
+/// Errors: `Io` if the pair's block can't be read. `NoMemory` if memory for the block, its slots or
+/// the entries can't be allocated.
 pub fn unhidden_pair_items<D: BlockDevice>(
     alloc: Global,
     thread: &mut Thread<D>,
@@ -71,11 +72,11 @@ pub fn unhidden_pair_items<D: BlockDevice>(
     pair_items(alloc, thread, &state, index)
 }
 
-/// Returns the entries of the directory that begins with the pair of index `first`. `state` is the
-/// thread's global state. Makes at most one read for each pair of the directory, and none if all of
-/// them are cached.
+/// Returns the entries of the directory whose first pair has index `first`. `state` is the thread's
+/// global state. Makes at most one read for each pair of the directory, and no read if all of these
+/// pairs are cached.
 ///
-/// Errors: `Io` if a read failed. `NoMemory` if memory can't be allocated.
+/// Errors: `Io` if a read fails. `NoMemory` if memory can't be allocated.
 pub fn directory_items<D: BlockDevice>(
     alloc: Global,
     thread: &mut Thread<D>,
@@ -99,10 +100,10 @@ pub fn directory_items<D: BlockDevice>(
     Ok(items)
 }
 
-/// Returns the entries of the directory that begins with the pair of index `first`. They are in the
-/// order of its pairs along the hard tails (SPEC.md of littlefs, "0x601 LFS_TYPE_HARDTAIL"), and in
-/// an accepted image sorted in the disk's order of names. Makes at most one read for each pair of
-/// the directory, and none if all of them are cached.
+/// Returns the entries of the directory whose first pair has index `first`, in the order of the
+/// directory's pairs along the hard tails (SPEC.md of littlefs, "0x601 LFS_TYPE_HARDTAIL"). In an
+/// accepted image, the entries are sorted in the disk's order of names. Makes at most one read for
+/// each pair of the directory, and no read if all of these pairs are cached.
 ///
 /// Errors are those of [`unhidden_pair_items`].
 pub fn directory_pair_entries<D: BlockDevice>(
@@ -122,7 +123,8 @@ pub fn directory_pair_entries<D: BlockDevice>(
     Ok(items)
 }
 
-// Returns the entries of the directory that begins with that pair, if there is one.
+// Returns the entries of the directory whose first pair has index `from`, or no entries if `from`
+// is None.
 pub(crate) fn items_if_directory<D: BlockDevice>(
     alloc: Global,
     thread: &mut Thread<D>,
@@ -141,8 +143,8 @@ pub(crate) fn items_if_directory<D: BlockDevice>(
     }
 }
 
-/// Returns whether the directory that begins with the pair of index `from` has an entry. Returns
-/// false if `from` is None. Makes at most one read for each pair of the directory.
+/// Returns whether the directory whose first pair has index `from` has an entry. Returns false if
+/// `from` is None. Makes at most one read for each pair of the directory.
 ///
 /// Errors are those of [`unhidden_pair_items`].
 pub fn has_entries<D: BlockDevice>(

@@ -1,4 +1,4 @@
-// A slot's struct, decoded.
+// Decoded structs of slots.
 
 ghost use Rattle.lfs_model.specs.format.Content.{decoded_struct};
 ghost use Rattle.lfs_model.specs.layers.LoggedContent.{IsAllowedPart};
@@ -7,24 +7,24 @@ ghost use Rattle.lfs_lookup.specs.Entry.{IsStructEntry};
 
 use lfs_tag::{NameOrStruct, Struct};
 
-/// Where a file's bytes are stored.
+/// The location of a file's bytes.
 #[derive(Clone, Copy, Debug, PartialEq, Eq, Drop)]
 pub enum FileStorage {
-    /// `len` bytes, inline in the file's slot.
+    /// `len` bytes, stored inline in the file's slot.
     Inline { len: usize },
-    /// A CTZ skip list: the address of its last block, and its size in bytes.
+    /// A CTZ skip-list: the number of its last block, and its size in bytes.
     List { head: u32, size: u32 },
 }
 
-/// A struct, decoded (SPEC.md of littlefs, "0x2xx LFS_TYPE_STRUCT").
+/// A decoded struct (SPEC.md of littlefs, "0x2xx LFS_TYPE_STRUCT").
 #[derive(Clone, Copy, Debug, PartialEq, Eq, Drop)]
 pub enum FileOrDirectory {
     File(FileStorage),
-    /// A directory, by the address of its first pair.
+    /// A directory: the address of its first pair.
     Directory([u32; 2]),
 }
 
-/// Decodes a slot's struct: returns where a file's bytes are stored, or the address of a
+/// Decodes a slot's struct. Returns where a file's bytes are stored, or the address of a
 /// directory's first pair (SPEC.md of littlefs, "0x2xx LFS_TYPE_STRUCT").
 pub fn entry_of_struct(structure: &NameOrStruct<'_>) -> FileOrDirectory
     requires { IsAllowedPart 2 (part_view structure.now) }

@@ -1,4 +1,4 @@
-// Escapes the bytes of paths in listings.
+// Escapes for the bytes of paths in listings.
 
 ghost use Rattle.std.specs.Prelude.{◌≡◌, ◌++◌, ◌<◌, OnOk};
 ghost use Rattle.lfs_model.specs.layers.Listing.{escaped_byte, escaped_text, hex_digit};
@@ -33,8 +33,8 @@ fn push_escaped_byte(text: &mut Vec<u8>, byte: u8) -> Result<(), AllocError>
     Ok(())
 }
 
-/// Appends a path as a listing prints it: `\` and each byte outside 0x20 to 0x7e as `\x` and two
-/// hexadecimal digits.
+/// Appends a path in the form in which a listing prints it. Writes `\`, and each byte outside 0x20
+/// to 0x7e, as `\x` and two hexadecimal digits.
 pub fn push_escaped_path(text: &mut Vec<u8>, path: &[u8]) -> Result<(), AllocError>
     ensures { OnOk result (text.new.items ≡ text.old.items ++ escaped_text path.now) }
 {

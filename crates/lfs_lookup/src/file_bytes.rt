@@ -1,4 +1,4 @@
-// The bytes of a file.
+// Reads of all bytes of a file.
 
 ghost use Rattle.std.specs.Prelude.{◌≡◌, IfOk, false, length};
 ghost use Rattle.lfs_model.specs.tree.View.{IsFormedList};
@@ -20,9 +20,9 @@ pub(crate) fn zeros(alloc: Global, len: usize) -> Result<Vec<u8>, AllocError>
     Ok(bytes)
 }
 
-/// Returns the bytes of a file, by its struct. A directory has none.
+/// Returns all bytes of the file with the given struct, or no bytes for the struct of a directory.
 ///
-/// Errors: `Io` if a read failed. `NoMemory` if memory for the bytes can't be allocated.
+/// Errors: `Io` if a read fails. `NoMemory` if memory for the bytes can't be allocated.
 pub fn read_struct_bytes<D: BlockDevice>(
     alloc: Global,
     thread: &mut Thread<D>,

@@ -1,4 +1,4 @@
-// The contents of a file, as a reader stores them.
+// The contents of a file, as an open reader keeps them.
 
 ghost use Rattle.std.specs.Prelude.{◌≡◌, ◌<◌, IfOk, IsSome, List, false};
 ghost use Rattle.lfs_model.specs.crash.Frame.{ancestor_paths};
@@ -22,12 +22,12 @@ use lfs_device::{BlockDevice, Error};
 use lfs_thread::Thread;
 use std::alloc::Global;
 
-/// The contents of a file, as its entry names them.
+/// The contents of a file, as its entry stores them.
 #[derive(Drop)]
 pub enum FileContents {
-    /// A copy of the inline bytes.
+    /// A copy of the file's inline bytes.
     Inline(Vec<u8>),
-    /// A CTZ skip list: the address of its last block, and its size in bytes.
+    /// A CTZ skip-list: the number of its last block, and its size in bytes.
     List { head: u32, size: u32 },
 }
 
@@ -35,11 +35,11 @@ pub enum FileContents {
 #[derive(Drop)]
 pub struct FoundFile {
     pub finding: FoundNode,
-    /// None if the path has no file.
+    /// The contents of the file, or None if the path doesn't lead to a file.
     pub contents: Option<FileContents>,
 }
 
-// Returns the contents of the file in this slot, whose block is cached.
+// Returns the contents of the file in a slot whose block is cached.
 fn contents_of_slot<D: BlockDevice>(
     alloc: Global,
     thread: &mut Thread<D>,
@@ -62,13 +62,13 @@ fn contents_of_slot<D: BlockDevice>(
     }
 }
 
-/// Looks up a path, and returns the contents of the file there, if it is one. Makes at most one
-/// read for each metadata pair of the directories above the path, and none if all of them are
-/// cached.
+/// Looks up a path, and returns the contents of the file at the path, if there is one. Makes at
+/// most one read for each metadata pair of the path's ancestor directories, and no read if all of
+/// these pairs are cached.
 ///
 /// `root` is the index of the root directory's first pair.
 ///
-/// Errors: `Io` if a read failed. `NoMemory` if memory can't be allocated.
+/// Errors: `Io` if a read fails. `NoMemory` if memory can't be allocated.
 pub fn find_file_contents<D: BlockDevice>(
     alloc: Global,
     thread: &mut Thread<D>,
@@ -82,7 +82,8 @@ pub fn find_file_contents<D: BlockDevice>(
     ensures reading { ReadsOrReports thread.old thread.new result }
 {
     let shown = look_up_path(alloc, thread, root, path)?;
-    // A proof needs the device's block size to see that a list has as many bytes as its entry says.
+    // The proof needs the device's block size to show that a list has the size that its entry
+    // states.
     let _device = thread.device();
     let finding = finding_shown(shown);
     let Some((slot, contents)) = spot_of_file(shown) else {

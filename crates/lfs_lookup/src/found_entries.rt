@@ -1,4 +1,4 @@
-// The results of calls by path.
+// The results of look-ups by path.
 
 ghost use Rattle.std.specs.Prelude.{◌≡◌};
 ghost use Rattle.lfs_lookup.specs.Finds.{is_absent, is_directory_node, is_file_node, node_size_if_file, stat_view};
@@ -9,13 +9,13 @@ use crate::refusal::Refusal;
 /// The entry at a path.
 #[derive(Drop)]
 pub struct FoundNode {
-    /// The refusal if a parent isn't a directory: `NotDir`, or `NoEnt` if it is missing.
+    /// The error to report if a parent is missing (`NoEnt`) or is a file (`NotDir`).
     pub fault: Option<Refusal>,
-    /// The entry at the path: `Nothing` if a parent refuses it.
+    /// The entry at the path, or `Nothing` if a parent isn't a directory.
     pub node: Node,
 }
 
-/// A file or a directory, as a look-up finds it.
+/// A file, a directory, or nothing, as the result of a look-up.
 #[derive(Clone, Copy)]
 pub enum Node {
     Nothing,
@@ -61,25 +61,25 @@ pub struct NodeAndEmptiness {
     pub has_entries: bool,
 }
 
-/// The entry at a path, and an attribute of it.
+/// The entry at a path, and one of its attributes.
 #[derive(Drop)]
 pub struct FoundAttribute {
     pub finding: FoundNode,
-    /// The attribute's bytes. None if the entry doesn't have the attribute.
+    /// The bytes of the attribute, or None if the entry doesn't have the attribute.
     pub bytes: Option<Vec<u8>>,
 }
 
-/// The entry at a path, and the entries in it.
+/// The entry at a path and, if it is a directory, the entries in it.
 #[derive(Drop)]
 pub struct Listing {
     pub finding: FoundNode,
-    /// The entries in name order, a shorter name before a longer one that begins with it. Empty if
-    /// the path has no directory.
+    /// The directory's entries, sorted by name; a name that is a prefix of another comes first. The
+    /// list is empty if the path doesn't lead to a directory.
     pub items: Vec<ListItem>,
 }
 
 impl Stat {
-    /// Returns the stat of a file of `size` bytes, or of a directory if `size` is None.
+    /// Returns the `Stat` of a file of `size` bytes, or of a directory if `size` is None.
     pub fn from_size(size: Option<u32>) -> Stat
         ensures { stat_view result ≡ size }
     {

@@ -1,4 +1,4 @@
-// The superblock of an image.
+// Reads of an image's superblock.
 
 ghost use Rattle.std.specs.Prelude.{◌≡◌, ◌≤◌, ◌+◌, IfOk, Some, false, length};
 ghost use Rattle.lfs_model.specs.format.EntryTypes.{superblock_fields};
@@ -27,12 +27,12 @@ fn superblock_of_bytes(bytes: &[u8]) -> Superblock
     }
 }
 
-/// Returns the superblock with which the root directory begins. Other superblocks of its chain may
-/// differ from it only in the version. Makes at most one read.
+/// Returns the superblock in the root directory's first pair. The other superblocks of the chain
+/// may differ from this one only in their versions. Makes at most one read.
 ///
 /// `root` is the index of the root directory's first pair.
 ///
-/// Errors: `Io` if a read failed. `NoMemory` if memory can't be allocated.
+/// Errors: `Io` if a read fails. `NoMemory` if memory can't be allocated.
 pub fn superblock<D: BlockDevice>(
     alloc: Global,
     thread: &mut Thread<D>,

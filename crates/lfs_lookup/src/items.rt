@@ -14,13 +14,13 @@ use lfs_device::Error;
 use lfs_tag::{Content, Log, NameOrStruct, Slot, Struct};
 use std::alloc::{AllocError, Global};
 
-/// The struct of an entry (SPEC.md of littlefs, "0x2xx LFS_TYPE_STRUCT"): a file's contents, or the
-/// first pair of a directory.
+/// The decoded struct of an entry (SPEC.md of littlefs, "0x2xx LFS_TYPE_STRUCT"): a file's
+/// contents, or a directory's first pair.
 #[derive(Drop)]
 pub enum OwnedStruct {
     /// A copy of a file's inline bytes.
     Inline(Vec<u8>),
-    /// A file's CTZ skip list: the address of its last block, and its size in bytes.
+    /// The CTZ skip-list of a file: the number of its last block, and its size in bytes.
     Ctz { head: u32, size: u32 },
     /// The address of a directory's first pair.
     Branch([u32; 2]),
@@ -29,13 +29,13 @@ pub enum OwnedStruct {
 /// An entry of a directory.
 #[derive(Drop)]
 pub struct NameAndOwnedStruct {
-    /// The bytes of its name.
+    /// The bytes of the entry's name.
     pub name: Vec<u8>,
-    /// Its struct.
+    /// The entry's struct.
     pub structure: OwnedStruct,
 }
 
-/// Decodes a slot's struct, and copies inline bytes.
+/// Decodes a slot's struct, and copies the inline bytes of a file.
 pub fn owned_struct(alloc: Global, part: &NameOrStruct<'_>) -> Result<OwnedStruct, AllocError>
     requires { IsAllowedPart 2 (part_view part.now) }
     ensures { IfOk result (λ s. owned_view s ≡ decoded_struct part.now.kind part.now.bytes.now) }
@@ -50,7 +50,7 @@ pub fn owned_struct(alloc: Global, part: &NameOrStruct<'_>) -> Result<OwnedStruc
     }
 }
 
-// Returns the entry of a slot. Returns None for the superblock's slot, and for a slot without a
+// Returns the entry of a slot. Returns None for the superblock's slot, and for a slot that lacks a
 // name or a struct.
 fn item_of_slot(alloc: Global, slot: &Slot<'_>) -> Result<Option<NameAndOwnedStruct>, AllocError>
     requires { IsFormedSlot (slot_view slot.now) }
@@ -67,7 +67,7 @@ fn item_of_slot(alloc: Global, slot: &Slot<'_>) -> Result<Option<NameAndOwnedStr
     Ok(Some(NameAndOwnedStruct { name, structure }))
 }
 
-// Appends the entry of a slot, if it is one.
+// Appends the entry of a slot to `items` if the slot has one.
 fn push_slot_item(
     alloc: Global,
     items: &mut Vec<NameAndOwnedStruct>,
@@ -82,7 +82,7 @@ fn push_slot_item(
     Ok(())
 }
 
-// Returns the entries of slots.
+// Returns the entries of the slots.
 fn items_of_slots(alloc: Global, slots: &[Slot<'_>]) -> Result<Vec<NameAndOwnedStruct>, AllocError>
     requires { AreWellFormed (map slot_view slots.now) }
     ensures { IfOk result (λ items. items_view items.items ≡ raw_entries (map slot_view slots.now)) }
@@ -121,7 +121,7 @@ pub(crate) fn items_in_log(
     Ok(items)
 }
 
-// Sorts entries by name, a shorter name before a longer one that begins with it.
+// Sorts entries by name. A name that is a prefix of another comes first.
 pub(crate) fn sort_shorter_first(items: &mut Vec<NameAndOwnedStruct>)
     ensures { AreShorterFirst (items_view items.old.items) (items_view items.new.items) }
 {

@@ -5,18 +5,18 @@ ghost use Rattle.lfs_lookup.specs.declared.kinds.Kind.TheVariants.{Dir};
 
 use arrayvec::ArrayVec;
 
-/// Whether an entry is a file or a directory.
+/// The kind of an entry: file or directory.
 #[derive(Clone, Copy, PartialEq, Eq, Debug)]
 pub enum Kind {
     File,
     Dir,
 }
 
-/// An entry's kind, and its size.
+/// The kind and the size of an entry.
 #[derive(Clone, Copy, Debug)]
 pub struct Stat {
     pub kind: Kind,
-    /// The size of a file in bytes; 0 for a directory.
+    /// The size of a file in bytes, or 0 for a directory.
     pub size: u32,
     ghost no_bytes: { kind ≡ Dir → size ≡ 0 },
 }
@@ -24,10 +24,10 @@ pub struct Stat {
 /// An entry of a directory.
 #[derive(Drop)]
 pub struct ListItem {
-    /// The bytes of its name.
+    /// The bytes of the entry's name.
     pub name: ArrayVec<u8, 255>,
     pub kind: Kind,
-    /// The size of a file in bytes; 0 for a directory.
+    /// The size of a file in bytes, or 0 for a directory.
     pub size: u32,
     ghost no_bytes: { kind ≡ Dir → size ≡ 0 },
 }

@@ -1,6 +1,6 @@
 // SPDX-License-Identifier: BSD-3-Clause
-//! Look-ups in the directories of an accepted image, by name and by path; also the image's
-//! superblock, and the rules of the writing profile that an image breaks.
+//! Looks up names and paths in an accepted image, and lists its directories. Also reads an image's
+//! superblock, and finds a rule that keeps an image from being written.
 #![tactic(auto)]
 
 mod addresses;

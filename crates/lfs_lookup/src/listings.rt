@@ -1,4 +1,4 @@
-// The entries of the directory at a path, by name, kind and size.
+// Listings of the directory at a path, with the name, kind and size of each entry.
 
 ghost use Rattle.std.specs.Prelude.{◌≡◌, ◌≤◌, ◌+◌, ◌++◌, ◌∷◌, [], IfOk, map, sum_by};
 ghost use Rattle.lfs_model.specs.crash.Frame.{directory_pair_count, ancestor_paths};
@@ -63,14 +63,14 @@ fn to_list_items(alloc: Global, items: Vec<NameAndOwnedStruct>) -> Result<Vec<Li
     Ok(listed)
 }
 
-/// Looks up a path, and returns the entries of the directory there, none if it isn't one. They are
-/// in name order, a shorter name before a longer one that begins with it. Makes at most one read
-/// for each metadata pair of the directory at the path and of those above it, and none if all of
-/// them are cached.
+/// Looks up a path, and returns the entries of the directory at the path, or no entries if the path
+/// doesn't lead to a directory. The entries are sorted by name; a name that is a prefix of another
+/// comes first. Makes at most one read for each metadata pair of the directory and of its
+/// ancestors, and no read if all of these pairs are cached.
 ///
 /// `root` is the index of the root directory's first pair.
 ///
-/// Errors: `Io` if a read failed. `NoMemory` if memory can't be allocated.
+/// Errors: `Io` if a read fails. `NoMemory` if memory can't be allocated.
 pub fn list_directory<D: BlockDevice>(
     alloc: Global,
     thread: &mut Thread<D>,
@@ -87,8 +87,9 @@ pub fn list_directory<D: BlockDevice>(
     let shown = look_up_path(alloc, thread, root, path)?;
     let mut items = items_if_directory(alloc, thread, first_pair_found(root, shown))?;
     sort_shorter_first(&mut items);
-    // A proof needs that blocks hold bytes to see that inline contents are short, and the device's
-    // block size to see that a list has as many bytes as its entry says.
+    // The proof needs that blocks consist of bytes to show that inline contents are short. The
+    // proof also needs the device's block size to show that a list has the size that its entry
+    // states.
     let _device = thread.device();
     let listed = to_list_items(alloc, items)?;
     Ok(Listing {

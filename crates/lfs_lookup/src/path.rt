@@ -1,4 +1,4 @@
-// Paths: a slash before each name.
+// Paths, which have a slash before each name.
 
 ghost use Rattle.std.specs.Prelude.{ℕ, List, true, ◌≡◌, ◌<◌, ◌≤◌, ◌^◌, ◌==◌, IfOk, length, map, is_some};
 ghost use Rattle.std.specs.List.{list_all, slice_split};
@@ -12,7 +12,7 @@ use lfs_tag::is_valid_component;
 use std::alloc::{AllocError, Global};
 use std::marker::Model;
 
-// Returns whether these bytes are valid names, separated by slashes.
+// Returns whether the bytes are valid names separated by slashes.
 fn has_valid_names(bytes: &[u8]) -> bool
     ensures { result ≡ list_all is_component (slice_split (λ c. c == slash_byte) bytes.now) }
 {
@@ -30,14 +30,14 @@ fn is_path(bytes: &[u8]) -> bool
     }
 }
 
-// Returns the parts between slashes.
+// Returns the parts between the slashes.
 fn split_at_slashes<'a>(alloc: Global, bytes: &'a [u8]) -> Result<Vec<&'a [u8]>, AllocError>
     ensures { IfOk result (λ parts. map (λ part. part.now) parts.items ≡ slice_split (λ c. c == slash_byte) bytes.now) }
 {
     bytes.split(|byte| *byte == b'/').collect(alloc)
 }
 
-// Returns how many bytes there are after the last slash.
+// Returns the number of bytes after the last slash.
 fn last_name_length(bytes: &[u8]) -> usize
     ensures len { result ≡ length_after_slash 0 bytes.now }
     ensures bound { result ≤ length bytes.now }
@@ -49,7 +49,7 @@ fn last_name_length(bytes: &[u8]) -> usize
     len
 }
 
-/// The bytes of a well-formed path. In contracts it is the list of its names.
+/// The bytes of a well-formed path. Contracts describe a path as the list of its names.
 #[derive(Drop)]
 pub struct Path<'a> {
     bytes: &'a [u8],
@@ -69,7 +69,7 @@ impl<'a> Model for Path<'a> {
 }
 
 impl<'a> Path<'a> {
-    /// Parses a path. Returns None if it isn't well formed.
+    /// Parses a path. Returns None if the path isn't well formed.
     pub fn parse(bytes: &'a [u8]) -> Option<Path<'a>>
         ensures { result ≡ parse_path bytes.now }
     {
@@ -80,9 +80,9 @@ impl<'a> Path<'a> {
         }
     }
 
-    /// Returns the names in the path, in order; the root's path has none.
+    /// Returns the names in the path, in order. The root's path has no names.
     ///
-    /// Errors: `AllocError` if memory for them can't be allocated.
+    /// Errors: `AllocError` if memory for the names can't be allocated.
     pub fn names(&self, alloc: Global) -> Result<Vec<&'a [u8]>, AllocError>
         ensures { IfOk result (λ names. map (λ name. name.now) names.items ≡ self.now) }
     {
@@ -99,21 +99,21 @@ impl<'a> Path<'a> {
         matches!(self.bytes, [] | [_])
     }
 
-    /// Gives proofs that each name of the path is a valid component. Does nothing at run time.
+    /// Proves that each name in the path is a valid component. Does nothing at run time.
     pub fn lemma_valid_names(&self)
         ensures { list_all is_component self.now ≡ true }
     {
         let _len = self.bytes.len();
     }
 
-    /// Gives proofs that some bytes parse to the path. Does nothing at run time.
+    /// Proves that the path is the result of parsing some bytes. Does nothing at run time.
     pub fn lemma_path_bytes(&self)
         ensures { (bytes : List ℕ) × (path_or_root bytes ≡ self.now) }
     {
         let _len = self.bytes.len();
     }
 
-    /// Returns the length of the last name in bytes; 0 for the root's path.
+    /// Returns the length in bytes of the path's last name, or 0 for the root's path.
     pub fn name_len(&self) -> usize
         ensures len { result ≡ length (last_name self.now) }
         ensures bound { result < 2 ^ 63 }

@@ -35,61 +35,61 @@ pub(crate) enum Parent {
     Nothing,
 }
 
-/// The result of a path's look-up. `parent` is the index of the first pair of the directory to
-/// which the path's last name belongs.
+/// The result of looking up a path. In each variant, `parent` is the index of the first pair of the
+/// directory that has, or would have, the path's last name.
 #[derive(Clone, Copy, Debug, PartialEq, Eq, Drop)]
 pub enum PathLookup {
     /// The root directory, which has no slot.
     Root,
-    /// A directory, which begins with the pair of index `first`.
+    /// A directory whose first pair has index `first`.
     Directory {
         parent: usize,
         slot: SlotPosition,
         first: usize,
     },
-    /// A file.
+    /// A file, whose bytes are stored as `contents` says.
     File {
         parent: usize,
         slot: SlotPosition,
         contents: FileStorage,
     },
-    /// No entry. A new one belongs before the slot `place`.
+    /// No entry. A new entry would be inserted before the slot `place`.
     Nothing {
         parent: usize,
         place: SlotPosition,
     },
-    /// A component before the last is a file.
+    /// A component before the last one is a file.
     ParentIsFile,
-    /// A component before the last is missing.
+    /// A component before the last one is missing.
     ParentIsMissing,
 }
 
-/// The result of a path's look-up if a slot may count as deleted. Like [`PathLookup`], but without
-/// the slot at which a missing name belongs.
+/// The result of looking up a path if the slot of a pending move counts as deleted. Unlike
+/// [`PathLookup`], this type doesn't say where a missing name would be inserted.
 #[derive(Clone, Copy, Debug, PartialEq, Eq, Drop)]
 pub enum VisiblePathLookup {
     /// The root directory, which has no slot.
     Root,
-    /// A directory, which begins with the pair of index `first`.
+    /// A directory whose first pair has index `first`.
     Directory {
         slot: SlotPosition,
         first: usize,
     },
-    /// A file.
+    /// A file, whose bytes are stored as `contents` says.
     File {
         slot: SlotPosition,
         contents: FileStorage,
     },
     /// No entry.
     Nothing,
-    /// A component before the last is a file.
+    /// A component before the last one is a file.
     ParentIsFile,
-    /// A component before the last is missing.
+    /// A component before the last one is missing.
     ParentIsMissing,
 }
 
-// Returns the slot that counts as deleted, because a pending move in `state` names it (DESIGN.md of
-// littlefs, "The move problem"). Returns None if no move is pending.
+// Returns the slot that counts as deleted because the pending move in `state` refers to it
+// (DESIGN.md of littlefs, "The move problem"). Returns None if no move is pending.
 pub(crate) fn moved_slot_spot<D: BlockDevice>(
     thread: &Thread<D>,
     state: &MoveState,
@@ -107,7 +107,7 @@ pub(crate) fn moved_slot_spot<D: BlockDevice>(
     }
 }
 
-// Finds a directory by its name in another one. The slot `moved` counts as deleted.
+// Finds a subdirectory by its name. The slot `moved` counts as deleted.
 fn find_subdirectory<D: BlockDevice>(
     thread: &mut Thread<D>,
     first: usize,
@@ -130,9 +130,9 @@ fn find_subdirectory<D: BlockDevice>(
     }
 }
 
-// Finds the directory at a path. The slot `moved` counts as deleted. The root begins with the pair
-// of index `root`. The search ends at the first name that isn't a directory's, and makes at most
-// one read for each pair of the directories above the last one.
+// Finds the directory at a path. The slot `moved` counts as deleted. `root` is the index of the
+// root directory's first pair. Stops at the first name that isn't a directory's. Makes at most one
+// read for each pair of the directory's ancestors.
 //
 // Errors are those of `find_name`.
 pub(crate) fn find_directory<D: BlockDevice>(
@@ -191,12 +191,13 @@ fn search_directory<D: BlockDevice>(
     }
 }
 
-/// Looks up a path by the names of its components, from the root down. The root begins with the
-/// pair of index `root`. Makes at most one read for each metadata pair of the directories above the
-/// path. If each of these pairs has a slot, a directory of n pairs costs at most 1 + log2 n reads.
+/// Looks up a path, given as a list of names, from the root down. `root` is the index of the root
+/// directory's first pair. Makes at most one read for each metadata pair of the path's ancestor
+/// directories. If each pair of the ancestor directories has a slot, makes at most 1 + log2 n reads
+/// in a directory of n pairs.
 ///
-/// Errors: `Io` if a read failed. `NoMemory` if memory for a block can't be allocated. The thread
-/// doesn't fail.
+/// Errors: `Io` if a read fails. `NoMemory` if memory for a block can't be allocated. Neither error
+/// makes the thread fail.
 pub fn look_up<D: BlockDevice>(
     thread: &mut Thread<D>,
     root: usize,
@@ -246,9 +247,9 @@ fn look_up_name<D: BlockDevice>(
     }
 }
 
-// Looks up a path as `look_up` does. The slot `moved`, which a pending move names, counts as
-// deleted (DESIGN.md of littlefs, "The move problem"). Afterwards the block of the slot that was
-// found is cached.
+// Looks up a path as `look_up` does, except that the slot `moved`, to which a pending move refers,
+// counts as deleted (DESIGN.md of littlefs, "The move problem"). The block of the slot that was
+// found is cached afterwards.
 //
 // Errors are those of `find_name`.
 pub(crate) fn look_up_unhidden<D: BlockDevice>(

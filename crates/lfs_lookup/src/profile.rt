@@ -1,4 +1,5 @@
-// Finds a rule of the writing profile that an image breaks.
+// A search for a rule that keeps an image from being written: a rule of the writing profile
+// (docs/GLOSSARY.md) that the image breaks.
 
 ghost use Rattle.std.specs.Prelude.{List, ◌≡◌, ◌↔◌, ◌<◌, ◌⊎◌, IsTrue, All, IfOk, IfErr, IfSome, MatchOption, None, Some, false, length, map, true};
 ghost use Rattle.lfs_model.specs.format.Content.{complete_slot, complete_slots, decoded_struct};
@@ -26,16 +27,16 @@ use lfs_tag::{Attribute, Content, Log, NameOrStruct, Slot, Superblock, superbloc
 use lfs_thread::Thread;
 use std::alloc::Global;
 
-// The address of a slot's pair, and its index there.
+// The position of a slot: its pair's address, and its index in the pair.
 #[derive(Clone, Copy)]
 struct SlotPlace {
     pair: [u32; 2],
     slot: usize,
 }
 
-// ---- which of two breaches is reported
+// ---- the choice of the breach that is reported
 
-// Returns the rank of a rule: the one of least rank is reported.
+// Returns the rank of a breach's rule. The breach with the lowest rank is reported.
 fn rule_order(breach: ProfileBreach) -> u32 {
     match breach {
         ProfileBreach::OtherLimits { .. } => 0,
@@ -45,7 +46,7 @@ fn rule_order(breach: ProfileBreach) -> u32 {
     }
 }
 
-// Returns the breach with the rule of less rank, or `first` if both break the same rule.
+// Returns the breach whose rule has the lower rank, or `first` if the ranks are equal.
 fn breach_to_tell(
     first: Option<ProfileBreach>,
     next: Option<ProfileBreach>,
@@ -62,7 +63,7 @@ fn breach_to_tell(
 
 // ---- slots
 
-// Returns the first limit of a superblock that isn't the profile's.
+// Returns the first limit of a superblock that differs from the profile's limit.
 fn other_limit(geometry: &Geometry, fields: &Superblock) -> Option<OtherLimit>
     ensures found { IfSome result (IsOtherLimit geometry.now.profile (superblock_view fields.now)) }
     ensures none { result ≡ None → HasProfileLimits geometry.now.profile (superblock_view fields.now) }
@@ -79,7 +80,7 @@ fn other_limit(geometry: &Geometry, fields: &Superblock) -> Option<OtherLimit>
     None
 }
 
-// Returns the first limit of a superblock's struct that isn't the profile's.
+// Returns the first limit in a superblock's struct that differs from the profile's limit.
 fn other_limit_of(geometry: &Geometry, structure: &NameOrStruct<'_>) -> Option<OtherLimit>
     requires { length structure.now.bytes.now ≡ 24 }
     ensures found { IfSome result (IsOtherLimit geometry.now.profile (superblock_fields structure.now.bytes.now)) }
@@ -114,8 +115,8 @@ fn inline_fits(geometry: &Geometry, structure: &NameOrStruct<'_>) -> bool
     structure.kind != INLINE_STRUCT || structure.bytes.len() <= geometry.inline_limit() as usize
 }
 
-// Returns whether an entry, with the longest inline contents it may ever have, uses at most half of
-// a pair.
+// Returns whether an entry uses at most half of a pair, even with the longest inline contents that
+// it may ever have.
 fn charge_fits(geometry: &Geometry, name: &NameOrStruct<'_>, attributes: &[Attribute<'_>]) -> bool
     ensures { (s : ModelSlot) → s.name ≡ name.now.bytes.now → s.attributes ≡ map attribute_view attributes.now → IsTrue result ↔ ChargeFits geometry.now.profile geometry.now.block_size geometry.now.page s }
 {
@@ -160,7 +161,7 @@ fn breach_of_slot(geometry: &Geometry, place: SlotPlace, slot: &Slot<'_>) -> Opt
     breach_of_entry(geometry, place, &name, &structure, &slot.attributes)
 }
 
-// Returns the rule of the writing profile that the slots of the pair at the address break, if any.
+// Returns a rule of the writing profile that the slots of the pair at address `pair` break, if any.
 fn breach_of_slots(geometry: &Geometry, pair: [u32; 2], slots: &[Slot<'_>]) -> Option<ProfileBreach>
     requires { (all : List ModelSlot) × ((complete_slots (map slot_view slots.now) ≡ Some all) × All HasSuperblockStruct all) }
     ensures { (all : List ModelSlot) → complete_slots (map slot_view slots.now) ≡ Some all → All HasSuperblockStruct all → IsSlotsBreach geometry.now.profile geometry.now.block_size geometry.now.page (address_view pair) all result }
@@ -175,7 +176,7 @@ fn breach_of_slots(geometry: &Geometry, pair: [u32; 2], slots: &[Slot<'_>]) -> O
 
 // ---- pairs
 
-// Returns a breach if a pair behind a hard tail has no slot.
+// Returns a breach if a pair that follows a hard tail has no slot.
 fn breach_if_empty(pair: [u32; 2], follows: bool, slots: &[Slot<'_>]) -> Option<ProfileBreach>
     ensures { MatchOption result (follows ≡ true → ¬ (length slots.now ≡ 0)) (λ b. (b ≡ EmptyPair pair) × (follows ≡ true) × (length slots.now ≡ 0)) }
 {
@@ -201,8 +202,8 @@ fn breach_of_size(
     }
 }
 
-// Returns the rule of the writing profile that a pair with that log breaks, if any. `follows` says
-// whether it is behind a hard tail, and so must have a slot.
+// Returns a rule of the writing profile that a pair with the given log breaks, if any. `follows` is
+// true if a hard tail points to the pair, which must then have a slot.
 fn breach_of_log(
     alloc: Global,
     geometry: &Geometry,
@@ -221,7 +222,7 @@ fn breach_of_log(
     Ok(breach_to_tell(breach_to_tell(of_slots, empty), large))
 }
 
-// Returns the rule of the writing profile that the pair at an index breaks, if any.
+// Returns a rule of the writing profile that the pair at an index breaks, if any.
 fn breach_at<D: BlockDevice>(
     alloc: Global,
     thread: &mut Thread<D>,
@@ -242,8 +243,8 @@ fn breach_at<D: BlockDevice>(
 
 // ---- the image
 
-/// Returns whether a pair continues the directory of the pair before it. The pairs up to the root's
-/// first one, of index `root`, don't.
+/// Returns whether a pair continues the directory of the previous pair. Returns false for each pair
+/// up to the root's first one, whose index is `root`.
 pub fn follows_hard_tail<D: BlockDevice>(thread: &Thread<D>, root: usize, index: usize) -> bool
     requires works { thread.now.failed ≡ false }
     requires below { index < length thread.now.kept.pairs }
@@ -252,18 +253,19 @@ pub fn follows_hard_tail<D: BlockDevice>(thread: &Thread<D>, root: usize, index:
     index > root && thread.next(index - 1).is_some()
 }
 
-/// Returns a rule of the writing profile that an image breaks, and where. Returns None exactly if
-/// the image may be changed. These are the rules: each pair has at most a thousand slots, which fit
-/// into it after a compaction. Each superblock has the limits of the device's profile. Each entry
-/// uses at most half of a pair, with the longest inline contents it may ever have. Inline contents
+/// Returns a rule of the writing profile that an image breaks, and where the image breaks it.
+/// Returns None if and only if the image may be written.
+///
+/// The rules are these. Each pair has at most a thousand slots, which fit into the pair after a
+/// compaction. Each superblock has the limits of the device's profile. Each entry uses at most half
+/// of a pair, even with the longest inline contents that the entry may ever have. Inline contents
 /// are within the device's inline limit. Only the first pair of a directory may have no slots.
 ///
-/// If the image breaks several rules, another limit is named first, then long inline contents, an
-/// empty pair, and what is too large. The first breach of that rule is named. `root` is the index
-/// of the root directory's first pair.
+/// If the image breaks several rules, reports the rule that comes first in this order: other
+/// limits, long inline contents, an empty pair, too much content. Reports the first place in the
+/// image where this rule is broken. `root` is the index of the root directory's first pair.
 ///
-/// Errors: `Io` if a read failed. `NoMemory` if memory for a block and its slots can't be
-/// allocated.
+/// Errors: `Io` if a read fails. `NoMemory` if memory for a block and its slots can't be allocated.
 pub fn find_profile_breach<D: BlockDevice>(
     alloc: Global,
     thread: &mut Thread<D>,

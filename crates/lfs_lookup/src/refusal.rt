@@ -1,4 +1,4 @@
-// Errors that are refusals.
+// Errors that are refusals: a call that returns one of them has changed nothing.
 
 ghost use Rattle.std.specs.Prelude.{◌≡◌, true};
 ghost use Rattle.lfs_model.specs.session.Session.{refuse_if};
@@ -7,7 +7,8 @@ ghost use Rattle.lfs_lookup.specs.RefusalErrors.{refusal_error, is_refusal, erro
 use lfs_device::Error;
 use std::marker::Model;
 
-/// A refusal: an error other than `Io`, `NoMemory` and `Corrupt`, which changes nothing.
+/// An error other than `Io`, `NoMemory` or `Corrupt`. A call that returns such an error has changed
+/// nothing.
 #[derive(Clone, Copy)]
 pub struct Refusal {
     error: Error,
@@ -30,7 +31,7 @@ impl Model for Refusal {
 }
 
 impl Refusal {
-    /// Returns the refusal as an error.
+    /// Converts the refusal to an error.
     pub fn error(&self) -> Error
         ensures refusal { error_refusal result ≡ self.now }
         ensures is { is_refusal result ≡ true }
@@ -39,7 +40,7 @@ impl Refusal {
     }
 }
 
-/// Converts an error that is a refusal.
+/// Converts an error to a refusal. Requires an error other than `Io`, `NoMemory` or `Corrupt`.
 pub fn to_refusal(error: Error) -> Refusal
     requires { is_refusal error ≡ true }
     ensures { result ≡ error_refusal error }
@@ -47,7 +48,7 @@ pub fn to_refusal(error: Error) -> Refusal
     Refusal { error }
 }
 
-/// Returns the error as a refusal if `is` is true, otherwise None.
+/// Returns the error as a refusal if `is` is true, or None otherwise.
 pub fn refuse_if(is: bool, error: Error) -> Option<Refusal>
     requires { is_refusal error ≡ true }
     ensures { result ≡ refuse_if is (error_refusal error) }

@@ -1,4 +1,4 @@
-// Searches for names in directories, along their pairs.
+// Searches for names in a directory, along its metadata pairs.
 
 ghost use Rattle.std.specs.Prelude.{◌≡◌, ◌<◌, ◌≤◌, ◌+◌, ◌-◌, ◌/◌, ◌∷◌, [], false, length, drop, IfOk, IfSome, IsSome, OnOk};
 ghost use Rattle.lfs_model.specs.session.History.{read_count};
@@ -30,9 +30,9 @@ pub struct SlotPosition {
 // The result of a search for a name in a directory.
 #[derive(Clone, Copy, Debug, PartialEq, Eq, Drop)]
 pub(crate) enum NamePositionInDirectory {
-    // Its slot, and the entry there.
+    // The slot that has the name, and the entry in that slot.
     Found(SlotPosition, FileOrDirectory),
-    // The directory doesn't have the name; it belongs before this slot.
+    // The directory doesn't have the name, which would be inserted before this slot.
     Place(SlotPosition),
 }
 
@@ -82,9 +82,8 @@ fn find_in_pair<D: BlockDevice>(
     Ok(find_in_log(&log, order, name, skip))
 }
 
-// Returns the index after the last pair of the directory that begins with the pair of index
-// `first`. A directory continues along the hard tails (SPEC.md of littlefs, "0x601
-// LFS_TYPE_HARDTAIL").
+// Returns the index after the last pair of the directory whose first pair has index `first`. A
+// directory continues along hard tails (SPEC.md of littlefs, "0x601 LFS_TYPE_HARDTAIL").
 fn directory_end<D: BlockDevice>(thread: &Thread<D>, first: usize) -> usize
     requires works { thread.now.failed ≡ false }
     requires below { first < length thread.now.kept.pairs }
@@ -100,8 +99,8 @@ fn directory_end<D: BlockDevice>(thread: &Thread<D>, first: usize) -> usize
     if pair < count { pair + 1 } else { count }
 }
 
-// Returns which of the pairs from `low` to before `high` is searched next: the middle one, or `low`
-// if that one has no slots.
+// Returns the index of the pair to search next, among the pairs from `low` to just before `high`.
+// This is the middle pair, or the pair `low` if the middle one has no slots.
 fn middle_pair_number<D: BlockDevice>(thread: &Thread<D>, low: usize, high: usize) -> usize
     requires works { thread.now.failed ≡ false }
     requires some { low < high }
@@ -118,8 +117,8 @@ fn middle_pair_number<D: BlockDevice>(thread: &Thread<D>, low: usize, high: usiz
     }
 }
 
-// Returns the pair with which the search of a directory begins: its first one, or the next one if
-// the first has no slots. So a new first name isn't written to a pair that was emptied.
+// Returns the index of the pair at which the search of a directory begins: the first pair, or the
+// next one if the first has no slots. So a new name isn't written to a first pair that was emptied.
 fn search_start<D: BlockDevice>(thread: &Thread<D>, first: usize) -> usize
     requires can { CanReadPair thread.now first }
     ensures { StartsSearch thread.now.kept first result }
@@ -130,7 +129,7 @@ fn search_start<D: BlockDevice>(thread: &Thread<D>, first: usize) -> usize
     }
 }
 
-// As `find_name`, among the directory's pairs from index `first` on.
+// Searches as `find_name` does, in the directory's pairs from index `first` on.
 fn find_from<D: BlockDevice>(
     thread: &mut Thread<D>,
     first: usize,
@@ -150,7 +149,7 @@ fn find_from<D: BlockDevice>(
         let pair = middle_pair_number(thread, low, high);
         let count = thread.slot_count(pair);
         if count == 0 && pair > first {
-            // This pair has no names, and those before it are less.
+            // This pair has no names, and all names before it are less.
             low = pair + 1;
             continue;
         }
@@ -176,13 +175,13 @@ fn find_from<D: BlockDevice>(
     Ok(NamePositionInDirectory::Place(spot))
 }
 
-// Finds a name in the directory that begins with the pair of index `first`, or the slot at which it
-// belongs. Ignores a pending move, unlike `find_unhidden`. The names of a directory rise along its
-// pairs, so this is a binary search: at most one read for each pair of the directory, and at most 1
-// + log2 n if each of its n pairs has a slot.
+// Finds a name in the directory whose first pair has index `first`, or finds where the name would
+// be inserted. Ignores a pending move, unlike `find_unhidden`. The search is binary because a
+// directory's names are sorted along its pairs. Makes at most one read for each pair of the
+// directory, and at most 1 + log2 n reads if each of its n pairs has a slot.
 //
-// Errors: `Io` if a read failed. `NoMemory` if memory for a block can't be allocated. The thread
-// doesn't fail.
+// Errors: `Io` if a read fails. `NoMemory` if memory for a block can't be allocated. Neither error
+// makes the thread fail.
 pub(crate) fn find_name<D: BlockDevice>(
     thread: &mut Thread<D>,
     first: usize,
@@ -199,8 +198,8 @@ pub(crate) fn find_name<D: BlockDevice>(
     find_from(thread, start, name)
 }
 
-// Finds the entry of a name pair by pair. The slot `moved` counts as deleted. The other clauses are
-// those of `find_unhidden`.
+// Finds the entry with a name in one pair after another. The slot `moved` counts as deleted. All
+// other clauses are those of `find_unhidden`.
 fn find_along_tails<D: BlockDevice>(
     thread: &mut Thread<D>,
     first: usize,
@@ -231,17 +230,18 @@ fn find_along_tails<D: BlockDevice>(
     }
 }
 
-/// Finds the entry of a name in the directory that begins with the pair of index `first`. The slot
-/// `moved`, which a pending move names, counts as deleted (DESIGN.md of littlefs, "The move
-/// problem"). Returns None if no entry has the name. Makes at most one read for each pair of the
-/// directory, and none if all of them are cached. If `moved` is None it is a binary search: at most
-/// 1 + log2 n reads if each of its n pairs has a slot. At Ok the pair that has the name is cached.
+/// Finds the entry with a name in the directory whose first pair has index `first`. The slot
+/// `moved`, to which a pending move refers, counts as deleted (DESIGN.md of littlefs, "The move
+/// problem"). Returns None if no entry has the name. The pair that has the name is cached
+/// afterwards.
 ///
-/// If `moved` is None, the directory's names have to rise, as in an accepted image, and no later
-/// pair of the thread may have a superblock.
+/// Makes at most one read for each pair of the directory, and no read if all of these pairs are
+/// cached. If `moved` is None, the search is binary: it makes at most 1 + log2 n reads if each of
+/// the directory's n pairs has a slot. A binary search requires that the directory's names are
+/// sorted, as in an accepted image, and that no later pair of the thread has a superblock.
 ///
-/// Errors: `Io` if a read failed. `NoMemory` if memory for a block can't be allocated. The thread
-/// doesn't fail.
+/// Errors: `Io` if a read fails. `NoMemory` if memory for a block can't be allocated. Neither error
+/// makes the thread fail.
 pub fn find_unhidden<D: BlockDevice>(
     thread: &mut Thread<D>,
     first: usize,

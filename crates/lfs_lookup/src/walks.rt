@@ -19,13 +19,13 @@ use std::alloc::{AllocError, Global};
 /// An entry of the tree, with its path.
 #[derive(Drop)]
 pub struct TreeItem {
-    /// Its path from the root: a `/` before each name.
+    /// The path of the entry from the root, with a `/` before each name.
     pub path: Vec<u8>,
-    /// Its struct.
+    /// The entry's struct.
     pub structure: OwnedStruct,
 }
 
-// Converts an entry of the directory at a path to one with its own path.
+// Converts an entry of the directory at `path` to one with a full path.
 fn tree_item_beneath(
     alloc: Global,
     path: &[u8],
@@ -42,7 +42,7 @@ fn tree_item_beneath(
     })
 }
 
-// Pushes the entries of the directory at a path, the first of them last.
+// Pushes the entries of the directory at a path in reverse order, so that the first is on top.
 fn push_beneath_path(
     alloc: Global,
     pending: &mut Vec<TreeItem>,
@@ -58,8 +58,8 @@ fn push_beneath_path(
     Ok(())
 }
 
-// Pushes the entries of the directory that begins with the pair of index `first`, the first name
-// last.
+// Pushes the entries of the directory whose first pair has index `first` in reverse name order, so
+// that the first name is on top.
 fn push_directory_items<D: BlockDevice>(
     alloc: Global,
     thread: &mut Thread<D>,
@@ -80,7 +80,7 @@ fn push_directory_items<D: BlockDevice>(
     Ok(())
 }
 
-// Pushes the entries of a directory; none of a file.
+// Pushes the entries of a directory. Pushes nothing for a file.
 fn push_below_entry<D: BlockDevice>(
     alloc: Global,
     thread: &mut Thread<D>,
@@ -103,11 +103,11 @@ fn push_below_entry<D: BlockDevice>(
     Ok(())
 }
 
-/// Returns all entries beneath the root, depth first and in name order, a shorter name before a
-/// longer one that begins with it. A directory is before the entries beneath it, and these are
-/// before the next name.
+/// Returns all entries beneath the root, depth first and sorted by name; a name that is a prefix of
+/// another comes first. Each directory is followed by the entries beneath it, and then by the next
+/// name.
 ///
-/// Errors: `Io` if a read failed. `NoMemory` if memory for a block, its slots or the entries can't
+/// Errors: `Io` if a read fails. `NoMemory` if memory for a block, its slots or the entries can't
 /// be allocated.
 pub fn walk_tree<D: BlockDevice>(
     alloc: Global,
@@ -122,7 +122,7 @@ pub fn walk_tree<D: BlockDevice>(
     let addresses = thread_addresses(alloc, thread)?;
     let mut walked = Vec::new(alloc);
     let mut pending = Vec::new(alloc);
-    // The pairs of the superblock's chain, which may be before the root, have no entries.
+    // The pairs of the superblock's chain, which may precede the root, have no entries.
     push_directory_items(alloc, thread, &state, 0, b"", &mut pending)?;
     while let Some(found) = pending.pop() {
         push_below_entry(alloc, thread, &addresses, &state, &found, &mut pending)?;

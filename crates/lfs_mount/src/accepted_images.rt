@@ -1,4 +1,4 @@
-// The image of a device, if it is accepted.
+// Mounts of devices whose images are accepted.
 
 ghost use Rattle.std.specs.Prelude.{ℕ, Err, List, ◌≡◌, ◌≤◌, ◌<◌, ◌+◌, ◌%◌, ◌++◌, ◌∷◌, drop, length, sum_by, true, IfErr, IfNone, IfOk, IfSome, None, OnOk};
 ghost use Rattle.lfs_blocks.specs.Next.{IsNextFree};
@@ -37,28 +37,30 @@ use lfs_tag::MoveState;
 use lfs_thread::{MountError, Thread};
 use std::alloc::Global;
 
-/// Mounts a device if its image is accepted: it follows littlefs's SPEC.md, every file's list is
-/// well formed, no block has two owners, and every directory is reached exactly once (or not at
-/// all, if the sync bit is set). Its version must be one that the device's profile accepts. Only
-/// reads the device. In the returned thread's block map, the blocks of the image's pairs and files
-/// are used, and none is in flight.
+/// Mounts a device if its image is accepted. An accepted image follows littlefs's SPEC.md, has only
+/// well-formed CTZ skip-lists, has no block with two owners, and has exactly one path to each
+/// directory. If the sync bit is set, an accepted image may also have directories to which no path
+/// leads. The device's profile must accept the image's version. Only reads the device. The block
+/// map of the returned thread marks the blocks of the image's pairs and files as used, and no block
+/// as in flight.
 ///
-/// Finds the order of the names in the directories. In littlefs's own code the longer of two names
-/// comes first if the other is a prefix of it (`lfs_dir_find_match`); if both orders fit, the
-/// thread has that one. The findings say which orders fit, and at which pair the root directory
-/// begins.
+/// Finds the order by which the names in each directory are sorted. In littlefs's own code, the
+/// longer of two names comes first if the other is a prefix of it (`lfs_dir_find_match`). If both
+/// orders fit, the thread gets littlefs's order. The findings contain the orders that fit and the
+/// index of the root directory's first pair.
 ///
-/// Errors: `Corrupt` only if the image is accepted in neither order, with a rule that it breaks in
-/// the order of littlefs's own code; such an image never returns Ok. `Io` if a read failed,
-/// `NoMemory` if memory isn't granted. The device is returned with the error.
+/// Errors: `Corrupt` only if the image is accepted in neither order, with a rule that the image
+/// breaks in the order of littlefs's own code. Never returns Ok for an image that is accepted in
+/// neither order. `Io` if a read fails. `NoMemory` if memory can't be allocated. Every error also
+/// returns the device.
 pub fn mount<D: BlockDevice>(alloc: Global, device: D) -> Result<CheckedImage<D>, (D, MountError)>
     ensures mounted { IfOk result (λ m. IsMountedImage (disk_of_device D.BlockDevice device) (D.history device) m.thread m.findings) }
     ensures longer { IfOk result (λ m. m.thread.kept.disk.order ≡ ShorterFirst → (ps : List ThreadPair) → ¬ IsAccepted (ordered_disk LongerFirst (disk_of_device D.BlockDevice device)) ps) }
     ensures broken { IfErr result (λ e. IsTrueViolation (ordered_disk LongerFirst (disk_of_device D.BlockDevice device)) e.1) }
     ensures corrupt { IfErr result (λ e. error_of_mount e.1 ≡ Error.Corrupt → (order : NameOrder) (ps : List ThreadPair) → ¬ IsAccepted (ordered_disk order (disk_of_device D.BlockDevice device)) ps) }
     ensures back { IfErr result (λ e. GivesDeviceBack D.BlockDevice device e.0 (error_of_mount e.1)) }
-    // The fetches and one more read for each pair, two more, and one for each block of a file's
-    // list.
+    // At most the reads of each pair's fetch, one more read for each pair, two further reads, and
+    // one read for each block of a file's list.
     ensures few { IfOk result (λ m. ReadsLikeMount (disk_of_device D.BlockDevice device) (D.history device) m.thread) }
 {
     let mut image = read_and_check(alloc, device)?;
@@ -71,9 +73,10 @@ pub fn mount<D: BlockDevice>(alloc: Global, device: D) -> Result<CheckedImage<D>
     }
 }
 
-/// Mounts a device as [`mount`] does. Drops the violation, for callers that need only `Corrupt`.
+/// Mounts a device as [`mount`] does, for callers that don't need to know which rule a corrupt
+/// image breaks.
 ///
-/// Errors are those of [`mount`].
+/// Errors are those of [`mount`], except that `Corrupt` doesn't contain the broken rule.
 pub fn mount_image<D: BlockDevice>(alloc: Global, device: D) -> Result<CheckedImage<D>, (D, Error)>
     ensures mounted { IfOk result (λ m. IsMountedImage (disk_of_device D.BlockDevice device) (D.history device) m.thread m.findings) }
     ensures longer { IfOk result (λ m. m.thread.kept.disk.order ≡ ShorterFirst → (ps : List ThreadPair) → ¬ IsAccepted (ordered_disk LongerFirst (disk_of_device D.BlockDevice device)) ps) }
@@ -88,11 +91,12 @@ pub fn mount_image<D: BlockDevice>(alloc: Global, device: D) -> Result<CheckedIm
     }
 }
 
-/// Reads the image of a device, and finds a rule that it breaks in each order of names, or None if
-/// it is accepted in that order. The caller sets the thread's order of names with `set_order`.
+/// Reads the image of a device. For each order of names, finds a rule that the image breaks, or
+/// None if the image is accepted in that order. The caller sets the thread's order of names with
+/// `set_order`.
 ///
-/// Errors: `Corrupt` if the image breaks a rule whatever the order of names. `Io` if a read failed,
-/// `NoMemory` if memory isn't granted. The device is returned with the error.
+/// Errors: `Corrupt` if the image breaks a rule in every order of names. `Io` if a read fails.
+/// `NoMemory` if memory can't be allocated. Every error also returns the device.
 pub fn read_and_check<D: BlockDevice>(
     alloc: Global,
     device: D,
@@ -119,9 +123,9 @@ pub fn read_and_check<D: BlockDevice>(
     }
 }
 
-// Checks an image whose thread was read, and marks the blocks of its files as used. Returns the
-// index of the root's first pair, and for each order of names a rule that the image breaks, or
-// None. The next allocation begins at another block than after an earlier mount.
+// Checks an image whose thread was read, and marks the blocks of the image's files as used. Returns
+// the index of the root's first pair and, for each order of names, a rule that the image breaks, or
+// None. Makes the next allocation begin at another block than after an earlier mount.
 fn check_image<D: BlockDevice>(
     alloc: Global,
     device: &mut D,
@@ -145,8 +149,8 @@ fn check_image<D: BlockDevice>(
     Ok(ImageFindings { root, violations })
 }
 
-// Returns a number that differs from mount to mount: how many blocks are used, plus the pairs'
-// revisions, which rise with each mount that writes.
+// Returns the number of used blocks plus the revision counts of all pairs. The sum is likely to
+// differ from mount to mount.
 fn image_seed(map: &BlockMap, pairs: &[Pair]) -> u32
     ensures { result ≡ image_seed map.now pairs.now }
 {
@@ -157,8 +161,8 @@ fn image_seed(map: &BlockMap, pairs: &[Pair]) -> u32
     number
 }
 
-// Mixes a number as MurmurHash3 ends. The numbers of mounts rise in equal steps; mixed, they fall
-// on blocks as if by chance.
+// Mixes a number as the last step of MurmurHash3 does. The seeds of successive mounts may be close
+// to each other; after the mix they are spread over the blocks.
 fn mixed_seed(number: u32) -> u32
     ensures { result ≡ mixed_seed number }
 {
@@ -167,8 +171,8 @@ fn mixed_seed(number: u32) -> u32
     second ^ (second >> 16)
 }
 
-// Sets the map's next allocation to another block after each mount, so that wear spreads, and
-// returns that block. `own` is the profile's number, which is mixed in.
+// Makes the map's next allocation begin at another block after each mount, so that wear spreads.
+// Returns that block. The profile's seed `own` is mixed into the choice.
 fn start_allocation_elsewhere(map: &mut BlockMap, pairs: &[Pair], own: u32) -> Option<u32>
     ensures next { IfSome result (IsNextFree map.old (allocation_seed own map.old pairs.now % length map.old)) }
     ensures none { IfNone result ((block : ℕ) → ¬ (IsFree map.old block)) }
@@ -178,7 +182,7 @@ fn start_allocation_elsewhere(map: &mut BlockMap, pairs: &[Pair], own: u32) -> O
     map.start_search_at(seed)
 }
 
-// Returns the pairs from an index on.
+// Returns the pairs from `index` on.
 fn pairs_from_index(pairs: &[Pair], index: usize) -> &[Pair]
     requires { index ≤ length pairs.now }
     ensures { result.now ≡ drop index pairs.now }
@@ -186,8 +190,8 @@ fn pairs_from_index(pairs: &[Pair], index: usize) -> &[Pair]
     &pairs[index..]
 }
 
-// Checks the slots of the directories' pairs, and marks the blocks of their files as used. Returns
-// for each order of names a rule that the directories break, or None.
+// Checks the slots of the directories' pairs, and marks the blocks of the directories' files as
+// used. Returns, for each order of names, a rule that the directories break, or None.
 fn check_directories<D: BlockDevice>(
     alloc: Global,
     device: &mut D,

@@ -23,19 +23,20 @@ use lfs_thread::{MountError, PairAddressList};
 use std::alloc::Global;
 
 // Checks the slots of a thread whose headers were read, and marks the blocks of its files as used
-// in `map`. Before the call only the pairs' blocks are used there, and all others are free.
+// in `map`. Requires that only the pairs' blocks are used in `map` before the call, and that all
+// other blocks are free.
 //
-// `members` are the pairs from the root's first one on, in the thread's order. `places` are the
+// `members` are the pairs from the root's first pair on, in the thread's order. `places` are the
 // addresses of the directories. `sync` is the sync bit of the global state.
 //
-// The result supposes that the superblock's pairs and the move of the global state are right. It is
-// the rule that the directories break in each order of names. In an order in which they break none
-// the image is accepted, and its blocks are the used ones of the map.
+// Returns, for each order of names, a rule that the directories break, or None. Assumes that the
+// superblock's pairs and the global state's move are valid. If no rule is broken in an order, the
+// image is accepted in that order, and the map marks exactly the image's blocks as used.
 //
-// Errors: `Corrupt` if the image breaks a rule whatever the order of names: a slot holds no entry
-// (`Entry`, `Move`), a file's list isn't well formed (`List`), or a block is owned twice
-// (`TwoOwners`; SPEC.md of littlefs, "Metadata types"; DESIGN.md, "CTZ skip-lists" and "The move
-// problem"). `NoMemory` if memory isn't granted, `Io` if the device failed. After an error the map
+// Errors: `Corrupt` if a slot has no valid entry (`Entry`, `Move`), a file's list isn't well formed
+// (`List`), or a block has two owners (`TwoOwners`). The image then breaks a rule in every order of
+// names (SPEC.md of littlefs, "Metadata types"; DESIGN.md, "CTZ skip-lists" and "The move
+// problem"). `NoMemory` if memory can't be allocated. `Io` if a read fails. After an error, the map
 // is unspecified.
 pub(crate) fn check_thread<D: BlockDevice>(
     alloc: Global,
@@ -53,7 +54,7 @@ pub(crate) fn check_thread<D: BlockDevice>(
         → IsDescribedThread (ordered_disk order (disk_of_device D.BlockDevice device.old)) map.old places.now members.now sync chain p rest
         → PairsBreak (ordered_disk order (disk_of_device D.BlockDevice device.old)) (chain ++ p ∷ rest) v }
     ensures device { ReadsReportingFaults D.BlockDevice device.old device.new result }
-    // One read for each pair, and those of the files' lists.
+    // One read for each pair, and the reads of the files' lists.
     ensures few { OnOk result (read_count (D.history device.new) ≤ read_count (D.history device.old) + sum_by (pair_reads (disk_of_device D.BlockDevice device.old)) members.now) }
 {
     let directories = scan_pairs(alloc, device, map, places, members)?;

@@ -1,4 +1,4 @@
-// The entries of a directory, as a mount reads its pairs one by one.
+// The entries of a directory, collected while a mount reads the directory's pairs.
 
 ghost use Rattle.std.specs.Prelude.{◌≡◌, ◌⊎◌, map, OnOk, IfErr, IsErrOf, Some, None};
 ghost use Rattle.lfs_model.specs.declared.order.NameOrder.{NameOrder};
@@ -17,15 +17,15 @@ use lfs_tag::{Slot, Struct, name_cmp};
 use lfs_thread::PairAddressList;
 use std::alloc::Global;
 
-// Returns whether a name comes after the last one in this order of names. `last` is empty if there
-// is none.
+// Returns whether `name` comes after the name `last` in the given order of names. Returns true if
+// `last` is empty, which means that no name precedes `name`.
 fn comes_after_name(order: NameOrder, last: &[u8], name: &[u8]) -> bool
     ensures { result ≡ comes_after_name order last.now name.now }
 {
     last.is_empty() || name_cmp(order, last, name).is_lt()
 }
 
-// Returns the orders in which a name comes after the last one.
+// Returns the orders of names in which `name` comes after the name `last`.
 fn orders_after(last: &[u8], name: &[u8]) -> NameOrderSet
     ensures { (order : NameOrder) → includes_order order result ≡ comes_after_name order last.now name.now }
 {
@@ -35,10 +35,10 @@ fn orders_after(last: &[u8], name: &[u8]) -> NameOrderSet
     }
 }
 
-// A directory, by the entries read so far.
+// A directory of which some entries were read.
 #[derive(Drop)]
 pub(crate) struct ScannedDirectory {
-    // The name of the last entry, or no bytes if there was none.
+    // The name of the last entry that was read, or no bytes if none was read.
     last: Vec<u8>,
     directory: Directory,
 }
@@ -47,7 +47,7 @@ impl ScannedDirectory {
     ghost use Rattle.lfs_mount.specs.KnownView.{scan_view};
     ghost use Rattle.lfs_mount.specs.DirectoryView.{vertex_view};
 
-    // Starts a directory, of which no entry was read.
+    // Creates a directory of which no entry was read.
     pub fn begin_directory_scan(alloc: Global) -> ScannedDirectory
         ensures { (order : NameOrder) → scan_view order result ≡ empty_scan }
     {
@@ -71,7 +71,7 @@ impl ScannedDirectory {
         Ok(())
     }
 
-    // Adds an entry.
+    // Adds an entry to the directory.
     fn add_directory_entry(
         &mut self,
         places: &PairAddressList,
@@ -92,7 +92,7 @@ impl ScannedDirectory {
         Ok(())
     }
 
-    // Ends the directory and returns it. The next one is started.
+    // Returns the directory that was read, and begins the next one.
     pub fn take_scanned_directory(&mut self, alloc: Global) -> Directory
         ensures directory { (order : NameOrder) → vertex_view order result ≡ (scan_view order self.old).1 }
         ensures nothing { (order : NameOrder) → scan_view order self.new ≡ empty_scan }
@@ -100,8 +100,10 @@ impl ScannedDirectory {
         std::mem::replace(self, ScannedDirectory::begin_directory_scan(alloc)).directory
     }
 
-    // Adds the entries in these slots of a pair. `Corrupt` only if one of the slots holds no entry,
-    // `NoMemory` if memory isn't granted.
+    // Adds the entries in the given slots of a pair.
+    //
+    // Errors: `Corrupt` only if one of the slots has no valid entry. `NoMemory` if memory can't be
+    // allocated.
     pub fn scan_directory_slots(
         &mut self,
         places: &PairAddressList,

@@ -16,7 +16,7 @@ pub(crate) struct NamedStruct<'a> {
     pub target: Struct<'a>,
 }
 
-// Returns the decoded struct, if it suits the type of the name.
+// Returns the decoded struct if its type fits the type of the name.
 fn suited_struct<'a>(name: &NameOrStruct<'_>, structure: &NameOrStruct<'a>) -> Option<Struct<'a>>
     ensures { option_map (λ s. struct_reference (struct_view s)) result ≡ raw_reference name.now.kind (part_view structure.now) }
 {
@@ -32,8 +32,8 @@ fn suited_struct<'a>(name: &NameOrStruct<'_>, structure: &NameOrStruct<'a>) -> O
 }
 
 // Returns the entry in a slot of a directory (SPEC.md of littlefs, "Metadata types"). Returns None
-// exactly if the slot's name isn't one that a directory may have, or its struct doesn't suit the
-// type of its name.
+// if and only if the slot lacks a name that a directory may have, or a struct that fits the type of
+// the name.
 pub(crate) fn tree_entry_in<'a>(slot: &Slot<'a>) -> Option<NamedStruct<'a>>
     ensures { option_map entry_view result ≡ raw_slot_entry (slot_view slot.now) }
 {
@@ -58,8 +58,8 @@ pub(crate) fn is_tree_entry(slot: &Slot<'_>) -> bool
     tree_entry_in(slot).is_some()
 }
 
-// Returns the index of the first slot that holds no entry, or the number of slots if each holds
-// one.
+// Returns the index of the first slot that has no valid entry. Returns the number of slots if all
+// of them have valid entries.
 pub(crate) fn first_non_entry(slots: &[Slot<'_>]) -> usize
     ensures holds { (other : ℕ) → LacksEntryAt (map slot_view slots.now) other → LacksEntryAt (map slot_view slots.now) result }
     ensures within { result ≤ length slots.now }

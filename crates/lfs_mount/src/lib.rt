@@ -1,6 +1,6 @@
 // SPDX-License-Identifier: BSD-3-Clause
-//! Decides which images are accepted: by one pass over the metadata pairs, whose headers are in
-//! memory, and then, for each order of names, a search through the directories that reads nothing.
+//! Decides which images are accepted, by one pass over the metadata pairs and one search of the
+//! directories for each order of names. The search doesn't read the device.
 #![tactic(auto)]
 
 mod accepted_images;

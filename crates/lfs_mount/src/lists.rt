@@ -1,4 +1,4 @@
-// The blocks of files' lists, marked as used.
+// The blocks of files' CTZ skip-lists, which are marked as used.
 
 ghost use Rattle.std.specs.Prelude.{◌≡◌, ◌≤◌, ◌<◌, ◌+◌, ◌^◌, ◌↔◌, Err, IsTrue, OnOk, length, slice_set, sum_by};
 ghost use Rattle.std.specs.Bool.{OnFalse, OnTrue};
@@ -26,8 +26,8 @@ use lfs_model::Violation;
 use lfs_tag::{Slot, Struct};
 use lfs_thread::MountError;
 
-// Marks a free block as used. Returns false, and changes nothing, if the block isn't free, or if
-// the map doesn't have it.
+// Marks a free block as used. Returns false and changes nothing if the block isn't free, or if its
+// number is too large for the map.
 fn mark_if_free(map: &mut BlockMap, block: u32) -> bool
     ensures free { IsTrue result ↔ IsFree map.old block }
     ensures marked { OnTrue result (map.new ≡ slice_set map.old block Used) }
@@ -36,10 +36,12 @@ fn mark_if_free(map: &mut BlockMap, block: u32) -> bool
     block < map.block_count() && map.mark(block)
 }
 
-// Marks the blocks of a slot's list as used. `list` is the list's last block and its size in bytes.
+// Marks the blocks of a slot's CTZ skip-list as used. `list` is the number of the list's last block
+// and the list's size in bytes.
 //
-// Errors: `Corrupt` if the list isn't well formed, or if one of its blocks is used already; the
-// error names the first such block. Some of its blocks may then be marked. `Io` if a read failed.
+// Errors: `Corrupt` if the list isn't well formed, or if one of its blocks is already used. If a
+// block is already used, the error contains the first such block. Some blocks of the list may be
+// marked after an error. `Io` if a read fails.
 fn mark_slot_list<D: BlockDevice>(
     device: &mut D,
     map: &mut BlockMap,
@@ -74,7 +76,8 @@ fn mark_slot_list<D: BlockDevice>(
     }
 }
 
-// Returns the last block and the size of the list in a slot's entry, if it has one.
+// Returns the last block and the size in bytes of the list in a slot's entry. Returns None if the
+// entry has no list.
 fn list_of_slot(slot: &Slot<'_>) -> Option<(u32, u32)>
     ensures { result ≡ option_and_then list_of_entry (raw_slot_entry (slot_view slot.now)) }
 {
@@ -87,11 +90,11 @@ fn list_of_slot(slot: &Slot<'_>) -> Option<(u32, u32)>
     }
 }
 
-// Marks the blocks of all lists in these slots of a pair as used. The superblock's slot and the
-// moved one aren't among the slots.
+// Marks the blocks of all lists in the given slots of a pair as used. The slots don't include the
+// superblock's slot and the slot of a pending move.
 //
-// Errors: `Corrupt` if one of the lists isn't well formed, or if one of the blocks is used already.
-// Some blocks may then be marked. `Io` if a read failed.
+// Errors: `Corrupt` if one of the lists isn't well formed, or if one of its blocks is already used.
+// Some blocks may be marked after an error. `Io` if a read fails.
 pub(crate) fn mark_slot_lists<D: BlockDevice>(
     device: &mut D,
     map: &mut BlockMap,

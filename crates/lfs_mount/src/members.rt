@@ -1,4 +1,4 @@
-// The directories' pairs, by their headers alone.
+// Descriptions of the directories' pairs, made from the pairs' headers alone.
 
 ghost use Rattle.std.specs.Prelude.{◌≡◌, IfErr, IfOk, nat_eq, true};
 ghost use Rattle.std.specs.List.{IsDistinct};
@@ -15,7 +15,8 @@ use lfs_tag::{MoveState, has_hard_tail};
 use lfs_thread::PairAddressList;
 use std::alloc::Global;
 
-// Returns the id of the slot that a set move names, if that slot is in the pair at this address.
+// Returns the id of the slot to which a pending move refers, if that slot is in the pair at address
+// `at`.
 fn moved_slot_at(state: &MoveState, at: [u32; 2]) -> Option<u32>
     ensures { result ≡ moved_id_at (move_view state.now) (address_view at) }
 {
@@ -38,7 +39,7 @@ fn describe_header(state: &MoveState, is_first: bool, pair: &Pair) -> PairBefore
     }
 }
 
-// Describes these pairs by their headers, from the root's first one on.
+// Describes each pair by its header. The first of the pairs is the root's first pair.
 pub(crate) fn describe_headers(
     alloc: Global,
     state: &MoveState,
@@ -55,7 +56,8 @@ pub(crate) fn describe_headers(
     Ok(members)
 }
 
-// Returns the address of each directory's first pair, from the root's first pair on.
+// Returns the address of each directory's first pair. The first of the pairs is the root's first
+// pair.
 pub(crate) fn directory_start_addresses(
     alloc: Global,
     pairs: &[Pair],

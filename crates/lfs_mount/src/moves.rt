@@ -29,13 +29,12 @@ fn has_pair_at(address: [u32; 2], pairs: &[Pair]) -> bool
     false
 }
 
-// Checks the move of a global state by the headers of the directories' pairs (SPEC.md of littlefs,
-// "0x7ff LFS_TYPE_MOVESTATE"). Either no move is set, and its fields are zero; or the move is a
-// delete of a slot in one of these pairs. The pass over the slots checks later that this slot is an
-// entry.
+// Checks the move in the global state against the headers of the directories' pairs (SPEC.md of
+// littlefs, "0x7ff LFS_TYPE_MOVESTATE"). The move is valid if none is pending and its fields are
+// zero, or if it deletes a slot in one of the pairs. The pass over the slots checks later that the
+// slot has a valid entry.
 //
-// Errors: `Corrupt` exactly if the move is neither, with the rule of the move, which the image
-// breaks.
+// Errors: `Corrupt`, with the rule `Move`, if and only if the move is invalid.
 pub(crate) fn check_move(state: &MoveState, pairs: &[Pair]) -> Result<(), MountError>
     ensures ok { OnOk result (is_move_inside (move_view state.now) (map header_address pairs.now) ≡ true) }
     ensures corrupt { IfErr result (λ e. (e ≡ MountError.Corrupt Violation.Move) × (is_move_inside (move_view state.now) (map header_address pairs.now) ≡ false)) }
@@ -51,7 +50,7 @@ pub(crate) fn check_move(state: &MoveState, pairs: &[Pair]) -> Result<(), MountE
     }
 }
 
-// Returns whether no move is set, or one of a slot in one of these pairs.
+// Returns whether no move is pending, or the pending move deletes a slot in one of the pairs.
 fn moves_inside(state: &MoveState, pairs: &[Pair]) -> bool
     ensures { result ≡ is_move_inside (move_view state.now) (map header_address pairs.now) }
 {

@@ -7,7 +7,7 @@ ghost use Rattle.lfs_mount.specs.Orders.{includes_order, violation_in_order};
 
 use lfs_model::{NameOrder, Violation};
 
-// The orders of names in which something holds.
+// A set of orders of names.
 #[derive(Clone, Copy, Drop)]
 pub(crate) struct NameOrderSet {
     pub longer_first: bool,
@@ -15,7 +15,7 @@ pub(crate) struct NameOrderSet {
 }
 
 impl NameOrderSet {
-    // Returns both orders.
+    // Returns the set of both orders.
     pub fn both() -> NameOrderSet
         ensures { (order : NameOrder) → includes_order order result ≡ true }
     {
@@ -45,7 +45,8 @@ impl NameOrderSet {
     }
 }
 
-/// For each order of names a rule that an image breaks in it, or None if it is accepted.
+/// For each order of names, a rule that an image breaks, or None if the image is accepted in that
+/// order.
 #[derive(Clone, Copy, Drop)]
 pub struct OrderViolations {
     pub longer_first: Option<Violation>,
@@ -53,10 +54,11 @@ pub struct OrderViolations {
 }
 
 impl OrderViolations {
-    /// Returns the order in which the image is accepted. If it is accepted in both, that is the one
-    /// with the longer name first, as in littlefs's own code.
+    /// Returns the order of names in which the image is accepted. If the image is accepted in both
+    /// orders, returns the order with the longer name first, as in littlefs's own code.
     ///
-    /// Errors: if it is accepted in neither, the rule that it breaks with the longer name first.
+    /// Errors: the rule that the image breaks in the order with the longer name first, if the image
+    /// is accepted in neither order.
     pub fn preferred(self) -> Result<NameOrder, Violation>
         ensures kept { IfOk result (λ order. violation_in_order order self ≡ None) }
         ensures longer { result ≡ Ok ShorterFirst → is_some (violation_in_order LongerFirst self) ≡ true }

@@ -33,10 +33,10 @@ use lfs_tag::{Content, Log, Slot};
 use lfs_thread::{MountError, PairAddressList};
 use std::alloc::Global;
 
-// The header of a directory's pair, as the pass needs it before it reads the slots.
+// The parts of a pair's header that the pass needs before it reads the pair's slots.
 #[derive(Clone, Copy, Drop)]
 pub(crate) struct PairBeforeSlotsAreRead {
-    // The pair's address, as the tail before it names it.
+    // The pair's address, as stored in the tail that points to the pair.
     pub at: [u32; 2],
     // The pair's active block.
     pub active: u32,
@@ -44,7 +44,7 @@ pub(crate) struct PairBeforeSlotsAreRead {
     pub is_hard: bool,
     // Whether slot 0 is the superblock's, as in the root's first pair.
     pub has_superblock: bool,
-    // The id of the slot that a set move names, if that slot is in this pair.
+    // The id of the slot to which a pending move refers, if that slot is in this pair.
     pub moved: Option<u32>,
 }
 
@@ -52,8 +52,8 @@ impl PairBeforeSlotsAreRead {
     ghost use Rattle.std.specs.Prelude.{◌≡◌, ◌<◌, ◌^◌};
     ghost use Rattle.lfs_mount.specs.Taken.{entry_slot_number};
 
-    // Returns a slot's id in the pair, from its index among the entries: without the superblock's
-    // slot and the moved one.
+    // Returns a slot's id in the pair, given the slot's index among the entries. The entries
+    // exclude the superblock's slot and the slot of a pending move.
     pub fn entry_slot_number(&self, index: usize) -> u32
         requires { index < 2 ^ 31 }
         ensures { result ≡ entry_slot_number self.now index }
@@ -67,9 +67,9 @@ impl PairBeforeSlotsAreRead {
     }
 }
 
-// Removes the slot that a set move names, if it names one of this pair.
+// Removes the slot to which a pending move refers, if that slot is in this pair.
 //
-// Errors: `Corrupt` if that slot is no entry.
+// Errors: `Corrupt` if the slot has no valid entry.
 fn remove_moved_slot(
     slots: &mut Vec<Slot<'_>>,
     member: &PairBeforeSlotsAreRead,
@@ -95,8 +95,8 @@ fn remove_moved_slot(
     Ok(())
 }
 
-// Removes the superblock's slot, if the pair has it. `Corrupt` exactly if there is no slot to
-// remove.
+// Removes the superblock's slot if `has_superblock` is true. Returns `Corrupt` if and only if there
+// is no slot to remove.
 fn remove_superblock_slot(slots: &mut Vec<Slot<'_>>, has_superblock: bool) -> Result<(), MountError>
     ensures ok { OnOk result (superblock_removed has_superblock (map slot_view slots.old.items) ≡ Some (map slot_view slots.new.items)) }
     ensures fewer { OnOk result (length slots.new.items ≤ length slots.old.items) }
@@ -112,10 +112,11 @@ fn remove_superblock_slot(slots: &mut Vec<Slot<'_>>, has_superblock: bool) -> Re
     Ok(())
 }
 
-// Returns the slots of a pair's log without the superblock's and the one that a set move names.
+// Returns the slots of a pair's log, except for the superblock's slot and the slot of a pending
+// move.
 //
-// Errors: `Corrupt` if the log is malformed, if the moved slot is no entry, or if there is no
-// superblock to remove. `NoMemory` if memory for slots isn't granted.
+// Errors: `Corrupt` if the log is malformed, if the moved slot has no valid entry, or if there is
+// no superblock to remove. `NoMemory` if memory for the slots can't be allocated.
 fn read_entry_slots<'a>(
     alloc: Global,
     log: &Log<'a>,
@@ -138,7 +139,7 @@ fn read_entry_slots<'a>(
     Ok(slots)
 }
 
-// Reads the active block of a pair. The error is never `Corrupt`.
+// Reads the active block of a pair. Never returns `Corrupt`.
 fn read_active_block<D: BlockDevice>(
     alloc: Global,
     device: &mut D,
@@ -157,11 +158,12 @@ fn read_active_block<D: BlockDevice>(
     }
 }
 
-// Reads a pair of a directory, by its active block. Adds its entries to `known`, and marks the
+// Reads the active block of a directory's pair. Adds the pair's entries to `known`, and marks the
 // blocks of its files as used.
 //
-// Errors: `Corrupt` if the pair's log is malformed, a slot holds no entry, a list isn't well
-// formed, or a block is used already. `Io` if a read failed, `NoMemory` if memory isn't granted.
+// Errors: `Corrupt` if the pair's log is malformed, a slot has no valid entry, a list isn't well
+// formed, or a block is already used. `Io` if a read fails. `NoMemory` if memory can't be
+// allocated.
 fn scan_pair<D: BlockDevice>(
     alloc: Global,
     device: &mut D,
@@ -192,12 +194,12 @@ fn scan_pair<D: BlockDevice>(
     Ok(())
 }
 
-// Reads the pairs of all directories, in the thread's order, and returns the directories. Only the
-// blocks of the thread's pairs are used in the map before the call; those of the files are, too,
-// afterwards.
+// Reads the pairs of all directories in the thread's order, and returns the directories. Requires
+// that only the blocks of the thread's pairs are used in the map. Marks the blocks of the files as
+// used, too.
 //
-// Errors: `Corrupt` if a slot holds no entry, a file's list isn't well formed, or a block is owned
-// twice. `Io` if a read failed, `NoMemory` if memory isn't granted.
+// Errors: `Corrupt` if a slot has no valid entry, a file's list isn't well formed, or a block has
+// two owners. `Io` if a read fails. `NoMemory` if memory can't be allocated.
 pub(crate) fn scan_pairs<D: BlockDevice>(
     alloc: Global,
     device: &mut D,

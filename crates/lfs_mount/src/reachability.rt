@@ -1,4 +1,4 @@
-// The search for the directories that a path from the root leads to.
+// The search for the directories to which a path from the root leads.
 
 ghost use Rattle.std.specs.Prelude.{◌≡◌, ◌++◌, ◌<◌, All, Bool, Err, IfErr, IfOk, IfSome, IsErrOf, None, Ok, Some, false, length, map, slice_get, true};
 ghost use Rattle.lfs_model.specs.format.Slots.{address_view};
@@ -14,19 +14,18 @@ use lfs_model::{NameOrder, Violation};
 use lfs_thread::MountError;
 use std::alloc::Global;
 
-// A directory, as the pass over its pairs found it.
+// A directory, as found by the pass over its pairs.
 #[derive(Drop)]
 pub(crate) struct Directory {
-    // The orders of names in which the names of its entries ascend.
+    // The orders of names in which the directory's entries are sorted.
     pub rises_in: NameOrderSet,
-    // Whether each of its subdirectories is one of the thread's directories.
+    // Whether each entry that points to a directory points to one in the thread.
     pub leads: bool,
-    // The list indices of its subdirectories, in the order of its entries.
+    // The list indices of the subdirectories, in the order of the directory's entries.
     pub branches: Vec<u32>,
 }
 
-// Marks each of these directories as found. Returns the first one that was found before, if there
-// is one.
+// Marks the given directories as found. Returns the first one that was already marked, if any.
 fn mark_branches_found(
     is_found: &mut Vec<bool>,
     found: &mut Vec<u32>,
@@ -50,13 +49,13 @@ fn mark_branches_found(
     Ok(None)
 }
 
-// Returns which directories are reached from the root, the first of the list. The search looks at
-// each directory and at each subdirectory once. `addresses` are those of the directories' first
-// pairs.
+// Returns, for each directory, whether it is reached from the root, which is the first in the list.
+// The search visits each directory and each subdirectory once. `addresses` are the addresses of the
+// directories' first pairs.
 //
-// Errors: `Corrupt` if the names of a reached directory aren't sorted in this order, if an entry of
-// it leads to no directory of the thread, or if a directory is reached twice. `NoMemory` if memory
-// isn't granted.
+// Errors: `Corrupt` if a reached directory isn't sorted in this order, if it has an entry that
+// points to no directory in the thread, or if it is reached twice. `NoMemory` if memory can't be
+// allocated.
 fn reached_directories(
     alloc: Global,
     directories: &[Directory],
@@ -94,7 +93,7 @@ fn reached_directories(
     Ok(is_found)
 }
 
-// Returns the index of the first directory that isn't reached.
+// Returns the index of the first directory that isn't reached, or None if all are reached.
 fn unreached_directory(is_reached: &[bool]) -> Option<usize>
     ensures unreached { IfSome result (λ place. slice_get is_reached.now place ≡ Some false) }
     ensures none { result ≡ None → All (λ reached. reached ≡ true) is_reached.now }
@@ -108,9 +107,9 @@ fn unreached_directory(is_reached: &[bool]) -> Option<usize>
 }
 
 // Returns a rule that the directories of a thread break in an order of names, or None if they break
-// none. The names of each directory that is reached from the root must be sorted, and its entries
-// must lead to directories of the thread. No directory may be reached twice. Unless the sync bit is
-// set, all must be reached.
+// none. The names in each reached directory must be sorted, and its entries must point to
+// directories in the thread. No directory may be reached twice. Each directory must be reached
+// unless the sync bit is set.
 fn find_directory_violation(
     alloc: Global,
     directories: &[Directory],
@@ -140,8 +139,8 @@ fn find_directory_violation(
     }
 }
 
-// Returns for each order of names a rule that the directories of a thread break in it, or None.
-// `addresses` are those of the directories' first pairs.
+// Returns, for each order of names, a rule that the directories of a thread break, or None.
+// `addresses` are the addresses of the directories' first pairs.
 pub(crate) fn find_directory_violations(
     alloc: Global,
     directories: &[Directory],

@@ -1,4 +1,4 @@
-// The superblock's pairs, before the root's first pair.
+// The superblock's pairs, which precede the root's first pair.
 
 ghost use Rattle.std.specs.Prelude.{Err, ◌≡◌, ◌↔◌, ◌⊎◌, ◌<◌, ◌≤◌, ◌+◌, length, IsTrue, IfOk, IfErr, IfSome, IsErrOf, None, Some, map};
 ghost use Rattle.std.specs.Option.{option_map};
@@ -24,7 +24,7 @@ use std::alloc::Global;
 
 const MAGIC: &[u8] = b"littlefs";
 
-// Returns whether the log's first entry is the superblock's name.
+// Returns whether the first entry of the log is the superblock's name.
 fn log_begins_superblock(log: &Log<'_>) -> bool
     ensures { IsTrue result ↔ BeginsWith (Some log.now) superblock_entry }
 {
@@ -58,7 +58,7 @@ fn has_name(slot: &Slot<'_>, bytes: &[u8]) -> bool
     }
 }
 
-// Returns the bytes of an inline struct. None if the slot has no such struct.
+// Returns the bytes of a slot's inline struct, or None if the slot has no inline struct.
 fn inline_bytes_in<'a>(slot: &Slot<'a>) -> Option<&'a [u8]>
     ensures { option_map (λ b. b.now) result ≡ inline_bytes (slot_view slot.now).struct }
 {
@@ -68,8 +68,8 @@ fn inline_bytes_in<'a>(slot: &Slot<'a>) -> Option<&'a [u8]>
     }
 }
 
-// Returns the superblock's struct in the first slot. None if that slot isn't the superblock of a
-// device of this geometry.
+// Returns the superblock's struct in the first slot. Returns None if the first slot isn't the
+// superblock of a device with this geometry.
 fn superblock_in_slots<'a>(geometry: &Geometry, slots: &[Slot<'a>]) -> Option<&'a [u8]>
     ensures { option_map (λ b. b.now) result ≡ first_slot_struct geometry.now.profile.versions geometry.now.block_size geometry.now.block_count (map slot_view slots.now) }
 {
@@ -85,8 +85,8 @@ fn superblock_in_slots<'a>(geometry: &Geometry, slots: &[Slot<'a>]) -> Option<&'
     }
 }
 
-// Returns whether a struct has an accepted version, followed by the same bytes as in the
-// superblock's struct.
+// Returns whether the struct `own` has an accepted version, and otherwise the same bytes as the
+// superblock's struct `bytes`.
 fn repeats_superblock_struct(versions: AcceptedVersions, bytes: &[u8], own: &[u8]) -> bool
     requires { length bytes.now ≡ 24 }
     ensures { result ≡ repeats_superblock_struct versions bytes.now own.now }
@@ -99,8 +99,8 @@ fn repeats_superblock_struct(versions: AcceptedVersions, bytes: &[u8], own: &[u8
     }
 }
 
-// Returns whether the first slot is a superblock's. `Corrupt` exactly if it is one whose struct
-// differs from `bytes` in more than an accepted version.
+// Returns whether the first slot is a superblock's. Returns `Corrupt` if and only if the first slot
+// is a superblock's, but its struct lacks an accepted version or differs from `bytes` elsewhere.
 fn slots_repeat_superblock(
     versions: AcceptedVersions,
     slots: &[Slot<'_>],
@@ -122,8 +122,8 @@ fn slots_repeat_superblock(
     }
 }
 
-// Returns the superblock's struct in slot 0 of a log. `Corrupt` only if there is none, `NoMemory`
-// if memory isn't granted.
+// Returns the superblock's struct in slot 0 of a log. Returns `Corrupt` only if there is no such
+// struct, and `NoMemory` if memory can't be allocated.
 fn superblock_from_log(alloc: Global, geometry: &Geometry, log: &Log<'_>) -> Result<Vec<u8>, Error>
     ensures ok { IfOk result (λ bytes. superblock_in_log geometry.now.profile.versions geometry.now.block_size geometry.now.block_count log.now ≡ Some bytes.items) }
     ensures corrupt { IsErrOf result Error.Corrupt → superblock_in_log geometry.now.profile.versions geometry.now.block_size geometry.now.block_count log.now ≡ None }
@@ -136,9 +136,9 @@ fn superblock_from_log(alloc: Global, geometry: &Geometry, log: &Log<'_>) -> Res
     }
 }
 
-// Returns whether the first slot of a block's log is a superblock's. `Corrupt` only if it is one
-// whose struct differs from `bytes` in more than an accepted version, or if the log is malformed.
-// `NoMemory` if memory isn't granted.
+// Returns whether the first slot in a block's log is a superblock's. Returns `Corrupt` only if the
+// log is malformed, or if the superblock's struct lacks an accepted version or differs from `bytes`
+// elsewhere. Returns `NoMemory` if memory can't be allocated.
 fn block_repeats_superblock(
     alloc: Global,
     versions: AcceptedVersions,
@@ -155,8 +155,8 @@ fn block_repeats_superblock(
     slots_repeat_superblock(versions, &content.slots, bytes)
 }
 
-// Reads the first pair that has a slot, and returns its superblock's struct. `Corrupt` if its log
-// doesn't begin with the superblock's entry, or if slot 0 isn't the superblock's.
+// Reads the first pair that has a slot, and returns the struct of its superblock. Returns `Corrupt`
+// if the pair's log doesn't begin with the superblock's entry, or if slot 0 isn't the superblock's.
 fn read_first_struct<D: BlockDevice>(
     alloc: Global,
     dev: &mut D,
@@ -184,8 +184,9 @@ fn read_first_struct<D: BlockDevice>(
     }
 }
 
-// Reads a pair, and returns whether its first slot is a superblock's. `Corrupt` only if it is one
-// whose struct differs from `bytes` in more than an accepted version, or if the log is malformed.
+// Reads a pair, and returns whether its first slot is a superblock's. Returns `Corrupt` only if the
+// log is malformed, or if the superblock's struct lacks an accepted version or differs from `bytes`
+// elsewhere.
 fn pair_repeats_superblock<D: BlockDevice>(
     alloc: Global,
     dev: &mut D,
@@ -218,8 +219,8 @@ fn can_chain_continue(pair: &Pair) -> bool
     (pair.slot_count == 0 || pair.slot_count == 1) && has_hard_tail(pair.tail)
 }
 
-// Returns the index of the first pair that has a slot. Returns None if there is none, or if a pair
-// before it has no hard tail.
+// Returns the index of the first pair that has a slot. Returns None if no pair has a slot, or if an
+// earlier pair has no hard tail.
 fn first_filled_number(pairs: &[Pair]) -> Option<usize>
     ensures first { result ≡ first_filled pairs.now }
     ensures below { IfSome result (λ index. index < length pairs.now) }
@@ -235,20 +236,21 @@ fn first_filled_number(pairs: &[Pair]) -> Option<usize>
     None
 }
 
-// Returns how many pairs come before the root's first pair in the thread with these headers: the
-// superblock's chain without its last pair (SPEC.md of littlefs, "0x0ff LFS_TYPE_SUPERBLOCK").
+// Returns the number of pairs before the root's first pair. These pairs are the superblock's chain
+// without its last pair (SPEC.md of littlefs, "0x0ff LFS_TYPE_SUPERBLOCK").
 //
-// The log of the first pair that has a slot begins with the superblock's entry. Its slot 0 has the
-// superblock's name, and a struct of an accepted version and the device's geometry. The chain
-// continues behind a pair with a hard tail that has no slot, or the superblock alone, if the next
-// pair that has a slot begins with a superblock. All superblocks have the same struct except for an
-// accepted version. The root begins at the last one.
+// The log of the first pair that has a slot must begin with the superblock's entry. Slot 0 of that
+// pair must have the superblock's name, and a struct with an accepted version and the device's
+// geometry. The chain continues after a pair with a hard tail and at most one slot, the
+// superblock's, if the next pair that has a slot begins with a superblock. The structs of all
+// superblocks in the chain are equal except for their versions, which must be accepted ones. The
+// root begins at the last superblock.
 //
-// Errors: `Corrupt` if the superblock isn't like that, with the rule that the image breaks. `Io` if
-// a read failed, `NoMemory` if memory for a block and its slots isn't granted. Writes nothing.
-// Costs at most one read for each pair of the chain, and one for the pair behind it.
+// Errors: `Corrupt` if the superblock chain is invalid, with the rule that the image breaks. `Io`
+// if a read fails. `NoMemory` if memory for a block and its slots can't be allocated. Writes
+// nothing. Makes at most one read for each pair in the chain, and one for the pair after the chain.
 //
-// Requires that the headers are all those of the device's thread, in its order.
+// Requires that `pairs` are the headers of all pairs of the device's thread, in the thread's order.
 pub(crate) fn superblock_chain_length<D: BlockDevice>(
     alloc: Global,
     dev: &mut D,

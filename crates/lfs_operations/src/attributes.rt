@@ -1,4 +1,4 @@
-// Sets and removes attributes of entries.
+// Changes of entries' attributes.
 
 ghost use Rattle.std.specs.Prelude.{◌≡◌, ◌∷◌, [], false, OnOk};
 ghost use Rattle.lfs_model.specs.layers.Changes.{PutAttribute};
@@ -17,10 +17,11 @@ use lfs_pair::Change;
 use lfs_thread::Thread;
 use std::alloc::Global;
 
-/// Sets an attribute of the entry with the id of a pair, and replaces the one of that type, if
-/// there is one (SPEC.md of littlefs, "0x3xx LFS_TYPE_USERATTR"). If the pair has no room for it,
-/// it is split, and two free blocks are allocated. The attribute must have at most 1,022 bytes, and
-/// the entry with it must use at most half of a pair.
+/// Sets an attribute of the entry with id `id` in the pair with index `pair`. Replaces the entry's
+/// attribute of the same type, if there is one (SPEC.md of littlefs, "0x3xx LFS_TYPE_USERATTR"). If
+/// the attribute doesn't fit, splits the pair, which allocates two free blocks. Requires that the
+/// attribute has at most 1,022 bytes, and that the entry with the attribute uses at most half of a
+/// pair.
 ///
 /// Errors are those of [`create_file`](crate::create_file).
 pub fn set_attribute<D: BlockDevice>(
@@ -47,7 +48,8 @@ pub fn set_attribute<D: BlockDevice>(
     change_or_split(alloc, thread, pair, &changes)
 }
 
-/// Removes the attribute of that type, if there is one, from the entry with the id of a pair.
+/// Removes the attribute of type `kind`, if there is one, from the entry with id `id` in the pair
+/// with index `pair`.
 ///
 /// Errors are those of [`remove_file`](crate::remove_file).
 pub fn remove_attribute<D: BlockDevice>(
@@ -65,6 +67,6 @@ pub fn remove_attribute<D: BlockDevice>(
     ensures survives { (can : CanEditIn thread.old.kept pair id) → SurvivesLossSince thread.old.kept.disk thread.old.kept.history thread.new.kept.history
         (disk_tree thread.old.kept.disk thread.old.kept.pairs) (tree_setting_attributes thread.old.kept can.path can.name (attributes_without kind)) }
 {
-    // What is left fits, so the commit never needs a split.
+    // The remaining content fits, so this commit never needs a split.
     commit_fitting(alloc, thread, pair, &[Change::NoAttr { id, attr: kind }])
 }

@@ -1,4 +1,4 @@
-// Changes of a pair, which is split if the result doesn't fit.
+// Changes of a pair, which is split if the changed content doesn't fit.
 
 ghost use Rattle.std.specs.Prelude.{◌≡◌, ◌≤◌, ◌+◌, false, IfSome, IfNone, OnOk};
 ghost use Rattle.lfs_model.specs.session.History.{read_count};
@@ -15,8 +15,8 @@ use lfs_pair::{Change, Outcome};
 use lfs_thread::Thread;
 use std::alloc::Global;
 
-// Allocates two free blocks, which are then in flight. Returns None, and allocates nothing, if
-// fewer than two are free.
+// Allocates two free blocks, which are in flight afterwards. Returns None, and allocates nothing,
+// if fewer than two blocks are free.
 pub(crate) fn take_two_blocks<D: BlockDevice>(thread: &mut Thread<D>) -> Option<[u32; 2]>
     ensures were_free { IfSome result (λ fresh. AreTwoFree thread.old.kept.map (address_view fresh)) }
     ensures taken { IfSome result (λ fresh. thread.new ≡ record thread.old { kept = record thread.old.kept { map = map_taking_two thread.old.kept.map (address_view fresh) } }) }
@@ -33,7 +33,7 @@ pub(crate) fn take_two_blocks<D: BlockDevice>(thread: &mut Thread<D>) -> Option<
     Some([first, second])
 }
 
-// Allocates these two free blocks, which are then in flight.
+// Allocates the two given free blocks, which are in flight afterwards.
 pub(crate) fn take_these<D: BlockDevice>(thread: &mut Thread<D>, blocks: [u32; 2])
     requires { AreTwoFree thread.old.kept.map (address_view blocks) }
     ensures { thread.new ≡ record thread.old { kept = record thread.old.kept { map = map_taking_two thread.old.kept.map (address_view blocks) } } }
@@ -42,8 +42,8 @@ pub(crate) fn take_these<D: BlockDevice>(thread: &mut Thread<D>, blocks: [u32; 2
     thread.take_at(blocks[1]);
 }
 
-// Splits a pair into itself and a fresh pair in two free blocks. Returns `NoSpace` if fewer than
-// two are free.
+// Commits changes to a pair while splitting it, with two free blocks for the new pair. Returns
+// `NoSpace` if fewer than two blocks are free.
 #[tactic(auto, using(crate::proofs::Putting::read_at_most))]
 fn split_in_two<D: BlockDevice>(
     alloc: Global,
@@ -65,7 +65,7 @@ fn split_in_two<D: BlockDevice>(
     thread.split(alloc, index, fresh, changes)
 }
 
-// Commits changes to a pair, and splits it if the result doesn't fit.
+// Commits changes to a pair, and splits the pair if the changed content doesn't fit.
 #[tactic(auto, using(crate::proofs::Putting::read_at_most))]
 pub(crate) fn change_or_split<D: BlockDevice>(
     alloc: Global,
@@ -87,7 +87,8 @@ pub(crate) fn change_or_split<D: BlockDevice>(
     }
 }
 
-// Commits changes to a pair whose result fits, so the commit never needs a split.
+// Commits changes to a pair. Requires that the changed content fits, so the commit never needs a
+// split.
 pub(crate) fn commit_fitting<D: BlockDevice>(
     alloc: Global,
     thread: &mut Thread<D>,

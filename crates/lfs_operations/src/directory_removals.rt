@@ -1,4 +1,4 @@
-// Removes empty directories.
+// Removals of empty directories.
 
 ghost use Rattle.std.specs.Prelude.{◌≡◌, ◌<◌, ◌-◌, length, false, OnOk};
 ghost use Rattle.lfs_model.specs.crash.PowerLoss.{SurvivesLossSince};
@@ -20,7 +20,7 @@ use lfs_tag::MoveState;
 use lfs_thread::{Thread, gstate_xor_delta};
 use std::alloc::Global;
 
-// Returns the delta that flips the sync bit.
+// Returns the gstate delta that flips the sync bit.
 pub(crate) fn delta_turning_sync() -> MoveState
     ensures { move_view result ≡ sync_bit_delta }
 {
@@ -32,9 +32,9 @@ pub(crate) fn delta_turning_sync() -> MoveState
     }
 }
 
-// Removes the entry with the id of a pair, and flips the sync bit in the same commit, since its
-// directory's pair is then an orphan (DESIGN.md of littlefs, "The move problem"). If the pair has
-// no other slot, and isn't the first of its directory, it is dropped.
+// Removes the entry of a directory from its parent's pair. The same commit flips the sync bit,
+// because the directory's own pair becomes an orphan (DESIGN.md of littlefs, "The move problem").
+// Drops the parent's pair if it has no other slot and isn't the first of its directory.
 fn unlink_directory_entry<D: BlockDevice>(
     alloc: Global,
     thread: &mut Thread<D>,
@@ -55,12 +55,12 @@ fn unlink_directory_entry<D: BlockDevice>(
     } else {
         let state = gstate_xor_delta(&thread.delta(pair), &turn);
         let changes = [Change::Delete { id }, Change::Move { state }];
-        // What is left fits, so the commit never needs a split.
+        // The remaining content fits, so this commit never needs a split.
         commit_fitting(alloc, thread, pair, &changes)
     }
 }
 
-// Returns the index of the pair `gone` after the entry in another pair was removed.
+// Returns the index of the pair `gone` after the removal of an entry in the pair with index `pair`.
 fn number_after_unlinking<D: BlockDevice>(
     thread: &Thread<D>,
     pair: usize,
@@ -78,15 +78,16 @@ fn number_after_unlinking<D: BlockDevice>(
     }
 }
 
-/// Removes the empty directory with the id of a pair from its parent, which begins with the pair of
-/// index `first`. The directory's own pair has index `gone`. The first commit removes the entry and
-/// sets the sync bit, since the directory's own pair is then an orphan. The second drops that pair
-/// and clears the bit (DESIGN.md of littlefs, "The move problem"). If the entry's pair has no other
-/// slot, and isn't the first of the parent, it is dropped with the entry.
+/// Removes an empty directory, whose entry has id `id` in the pair with index `pair`. The parent's
+/// first pair has index `first`, and the directory's own pair has index `gone`. The first commit
+/// removes the entry and sets the sync bit, because the directory's own pair becomes an orphan. The
+/// second commit drops that pair and clears the sync bit (DESIGN.md of littlefs, "The move
+/// problem"). If the entry's pair has no other slot and isn't the parent's first pair, the first
+/// commit drops the entry's pair.
 ///
-/// Errors: `Io` if a device call failed, and `NoMemory` if memory for a pair's slots and its block
-/// can't be allocated. The thread has then failed. The entry, and so the directory, may be removed
-/// by then.
+/// Errors: `Io` if a call of the device fails. `NoMemory` if memory for a pair's slots and its
+/// block can't be allocated. After either error, the thread has failed, and the directory's entry
+/// may already be removed.
 pub fn remove_directory<D: BlockDevice>(
     alloc: Global,
     thread: &mut Thread<D>,

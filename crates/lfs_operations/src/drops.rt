@@ -1,4 +1,4 @@
-// Drops pairs from the thread.
+// Drops of pairs from the thread.
 
 ghost use Rattle.std.specs.Prelude.{◌≡◌, ◌<◌, ◌-◌, Some, length, false, OnOk};
 ghost use Rattle.std.specs.Option.{option_map};
@@ -18,8 +18,8 @@ use lfs_tag::{MoveState, Tail, has_hard_tail};
 use lfs_thread::{Thread, gstate_xor_delta};
 use std::alloc::Global;
 
-// Returns the change that sets a pair's tail, `front`, to that of the dropped pair behind it,
-// `gone`.
+// Returns the change that sets a pair's tail for the drop of the next pair. `front` is the pair's
+// old tail, and `gone` is the tail of the dropped pair.
 fn tail_past_dropped(front: Option<Tail>, gone: Option<Tail>) -> Change<'static>
     ensures { change_view result ≡ tail_change (tail_past_drop (option_map tail_view front) (option_map tail_view gone)) }
 {
@@ -35,8 +35,8 @@ fn tail_past_dropped(front: Option<Tail>, gone: Option<Tail>) -> Change<'static>
     }
 }
 
-// Returns the new delta of the pair before the dropped one, by which the global state becomes
-// `state`.
+// Returns the new gstate delta of the pair before the dropped one. This delta makes the global
+// state `state`.
 fn delta_before_dropped<D: BlockDevice>(
     thread: &Thread<D>,
     index: usize,
@@ -52,7 +52,7 @@ fn delta_before_dropped<D: BlockDevice>(
     gstate_xor_delta(&both, &turned)
 }
 
-// Returns the changes by which the pair before the dropped one gets its tail and its delta.
+// Returns the changes that set the tail and the gstate delta of the pair before the dropped one.
 fn changes_for_drop<D: BlockDevice>(
     thread: &Thread<D>,
     index: usize,
@@ -63,7 +63,8 @@ fn changes_for_drop<D: BlockDevice>(
     ensures are { changes_view result ≡ dropping_changes thread.now.kept (index - 1) (move_view state.now) }
     ensures made { complete_after thread.now.kept (index - 1) (changes_view result) ≡ Some (content_after_drop thread.now.kept (index - 1) (move_view state.now)) }
 {
-    // A proof needs that a device's blocks hold bytes, so the tail of a log can be written again.
+    // The proof needs that a device's blocks consist of bytes, so that the tail can be written
+    // again.
     let _device = thread.device();
     [
         tail_past_dropped(thread.tail_of_pair(index - 1), thread.tail_of_pair(index)),
@@ -73,12 +74,12 @@ fn changes_for_drop<D: BlockDevice>(
     ]
 }
 
-// Drops a pair from the thread by one commit to the pair before it. That pair gets the dropped
-// pair's tail, and the delta by which the global state becomes `state` (DESIGN.md of littlefs, "The
-// move problem"). Frees the dropped pair's blocks.
+// Drops a pair from the thread by one commit to the previous pair. The previous pair gets the
+// dropped pair's tail, and the gstate delta that makes the global state `state` (DESIGN.md of
+// littlefs, "The move problem"). Frees the blocks of the dropped pair.
 //
-// Errors: `Io` if a device call failed. `NoMemory` if memory for the pair's slots and its block
-// can't be allocated; nothing was written then. The thread has failed after either.
+// Errors: `Io` if a call of the device fails. `NoMemory`, with nothing written, if memory for the
+// pair's slots and its block can't be allocated. After either error, the thread has failed.
 pub(crate) fn drop_pair_at<D: BlockDevice>(
     alloc: Global,
     thread: &mut Thread<D>,

@@ -1,5 +1,5 @@
 // SPDX-License-Identifier: BSD-3-Clause
-//! Changes of the tree of an accepted image, by steps that are atomic under power loss.
+//! Changes the tree of an accepted image, in steps that are atomic under power loss.
 #![tactic(auto)]
 
 mod attributes;

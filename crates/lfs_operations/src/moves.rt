@@ -1,4 +1,4 @@
-// Renames across pairs, and the ends of moves.
+// Renames across pairs, and ends of moves.
 
 ghost use Rattle.std.specs.Prelude.{◌≡◌, ◌<◌, ◌-◌, ◌^◌, [], ◌∷◌, ◌++◌, true, false, length, IfOk, OnOk};
 ghost use Rattle.lfs_model.specs.layers.Changes.{PutMove};
@@ -34,19 +34,19 @@ use std::alloc::{AllocError, Global};
 /// The source and the target of a rename across pairs.
 #[derive(Clone, Copy)]
 pub struct Route {
-    /// The index of the entry's pair in the thread.
+    /// The index in the thread of the entry's old pair.
     pub old_pair: usize,
-    /// The entry's id in that pair.
+    /// The entry's id in the old pair.
     pub old_id: u16,
-    /// The index of the first pair of the entry's directory.
+    /// The index of the first pair of the entry's old directory.
     pub first: usize,
-    /// The index of the pair into which the entry moves.
+    /// The index in the thread of the entry's new pair.
     pub new_pair: usize,
-    /// Its id in that pair.
+    /// The entry's id in the new pair.
     pub new_id: u16,
 }
 
-// Returns the delta of a pair by which no move is pending any more.
+// Returns the gstate delta of a pair that ends the pending move.
 fn delta_without_move<D: BlockDevice>(thread: &Thread<D>, pair: usize) -> MoveState
     requires works { thread.now.failed ≡ false }
     requires below { pair < length thread.now.kept.pairs }
@@ -59,7 +59,8 @@ fn delta_without_move<D: BlockDevice>(thread: &Thread<D>, pair: usize) -> MoveSt
     gstate_xor_delta(&state, &delta)
 }
 
-// Deletes the slot that a pending move names from its pair, which isn't dropped, and ends the move.
+// Deletes the slot to which a pending move refers, and ends the move. Keeps the slot's pair in the
+// thread.
 fn end_move_committing<D: BlockDevice>(
     alloc: Global,
     thread: &mut Thread<D>,
@@ -75,7 +76,7 @@ fn end_move_committing<D: BlockDevice>(
         (disk_tree thread.old.kept.disk thread.old.kept.pairs) (disk_tree thread.old.kept.disk thread.old.kept.pairs) }
 {
     let state = delta_without_move(thread, pair);
-    // What is left fits, so the commit never needs a split.
+    // The remaining content fits, so this commit never needs a split.
     let changes = [Change::Delete { id }, Change::Move { state }];
     commit_fitting(alloc, thread, pair, &changes)
 }
@@ -90,7 +91,7 @@ fn moveless_gstate<D: BlockDevice>(thread: &Thread<D>) -> MoveState
     state
 }
 
-// Drops a pair whose only slot is named by a pending move, and ends the move.
+// Drops a pair whose only slot is that of a pending move, and ends the move.
 fn end_move_dropping<D: BlockDevice>(
     alloc: Global,
     thread: &mut Thread<D>,
@@ -109,9 +110,9 @@ fn end_move_dropping<D: BlockDevice>(
     drop_pair_at(alloc, thread, pair, &state)
 }
 
-// Deletes the slot that a pending move names, and ends the move. With `goes` its pair, which has no
-// other slot and may be dropped, is dropped with it. This is the second step of a rename across
-// pairs.
+// Deletes the slot to which a pending move refers, and ends the move. If `goes` is true, drops the
+// slot's pair, which must have no other slot and must not be its directory's first. This is the
+// second step of a rename across pairs.
 pub(crate) fn end_move<D: BlockDevice>(
     alloc: Global,
     thread: &mut Thread<D>,
@@ -134,7 +135,7 @@ pub(crate) fn end_move<D: BlockDevice>(
     }
 }
 
-// Returns the index of a pair after `fresh` pairs were inserted behind the pair `other`.
+// Returns the index of a pair after `fresh` pairs were inserted after the pair `other`.
 fn number_after_inserted(pair: usize, other: usize, fresh: usize) -> usize
     requires { number_after_insertion pair other fresh < 2 ^ 64 }
     ensures { result ≡ number_after_insertion pair other fresh }
@@ -142,8 +143,8 @@ fn number_after_inserted(pair: usize, other: usize, fresh: usize) -> usize
     if pair < other { pair } else { pair + fresh }
 }
 
-// Commits changes that set a move to one pair, and then ends the move in another pair, which has
-// the slot that the move names.
+// Commits changes, which set a move, to the new pair. Then ends the move in the old pair, which has
+// the slot to which the move refers.
 fn put_and_end<D: BlockDevice>(
     alloc: Global,
     thread: &mut Thread<D>,
@@ -165,8 +166,8 @@ fn put_and_end<D: BlockDevice>(
     end_move(alloc, thread, pair, route.old_id, goes)
 }
 
-// Returns the delta of the new pair that sets a move of the old slot. With `sync` it sets the sync
-// bit, too. No move is pending before.
+// Returns the gstate delta of the new pair that sets a move of the old slot. The delta also sets
+// the sync bit if `sync` is true. Requires that no move is pending.
 fn move_setting_delta<D: BlockDevice>(thread: &Thread<D>, route: Route, sync: bool) -> MoveState
     requires works { thread.now.failed ≡ false }
     requires old_below { route.old_pair < length thread.now.kept.pairs }
@@ -185,7 +186,7 @@ fn move_setting_delta<D: BlockDevice>(thread: &Thread<D>, route: Route, sync: bo
     gstate_xor_delta(&state, &delta)
 }
 
-// Appends the change that deletes the slot with an id, if it is replaced.
+// Appends the change that deletes the slot with id `id`, if `replaces` is true.
 pub(crate) fn push_slot_removal<'a>(
     changes: &mut Vec<Change<'a>>,
     replaces: bool,
@@ -199,8 +200,8 @@ pub(crate) fn push_slot_removal<'a>(
     Ok(())
 }
 
-// Returns the changes that set a delta of the global state, and create a copied slot at an id. With
-// `replaces` the slot with that id is deleted first.
+// Returns the changes that set a gstate delta and create a copied slot at id `id`. If `replaces` is
+// true, they delete the slot with that id first.
 fn moving_changes<'a>(
     alloc: Global,
     state: MoveState,
@@ -218,9 +219,9 @@ fn moving_changes<'a>(
     Ok(changes)
 }
 
-// Copies an entry into another pair, and sets a move that names the old slot. Then deletes the old
-// slot, and ends the move. With `replaces` the slot with the new id is deleted first. With `sync`
-// the sync bit is set with the move.
+// Copies an entry into another pair, and sets a move that refers to the old slot. Then deletes the
+// old slot, and ends the move. If `replaces` is true, first deletes the slot with the new id. If
+// `sync` is true, sets the sync bit together with the move.
 fn move_across<D: BlockDevice>(
     alloc: Global,
     thread: &mut Thread<D>,
@@ -244,21 +245,22 @@ fn move_across<D: BlockDevice>(
     put_and_end(alloc, thread, route, goes, &changes)
 }
 
-/// Renames an entry of one pair to a name that belongs at an id of another pair, or with `replaces`
-/// over the file with that id. The pairs are of one directory or of two. The entry keeps its struct
-/// and its attributes (DESIGN.md of littlefs, "The move problem"). The first commit copies the
-/// entry under its new name, and sets a move that names the old slot. From then on the old slot
-/// counts as deleted. The second commit deletes the old slot and ends the move. The blocks of a
-/// replaced file's list stay used in the map; the caller frees them.
+/// Renames an entry to a name that belongs in another pair, in the same directory or in another
+/// one. If `replaces` is true, the entry replaces the file with the new id. The entry keeps its
+/// struct and its attributes (DESIGN.md of littlefs, "The move problem"). The first commit copies
+/// the entry under its new name, and sets a move that refers to the old slot. Until the second
+/// commit, the old slot counts as deleted. The second commit deletes the old slot and ends the
+/// move. The blocks of a replaced file's list stay used in the map until the caller frees them.
 ///
-/// If the old pair has no other slot, and isn't the first of its directory, it is dropped with the
-/// slot. If the new pair has no room, it is split, and two free blocks are allocated.
+/// Drops the old pair if it has no other slot and isn't the first of its directory. If the entry
+/// doesn't fit the new pair, splits the new pair, which allocates two free blocks.
 ///
-/// Errors: `NoSpace` if the new pair has no room and fewer than two blocks are free; nothing was
-/// changed then. `Io` if a device call failed. `NoMemory` if memory for the pairs' slots, a copy of
-/// the entry and the pairs' blocks can't be allocated. After `Io` and `NoMemory` the thread hasn't
-/// failed if the entry couldn't be read. Otherwise it has failed, and the device may be between the
-/// two commits, with the new tree.
+/// Errors: `NoSpace`, with nothing changed, if the new pair must be split and fewer than two blocks
+/// are free. `Io` if a call of the device fails. `NoMemory` if memory can't be allocated for the
+/// pairs' slots, a copy of the entry and the pairs' blocks. After `Io` and `NoMemory`, the thread
+/// hasn't failed if the error occurred before the first commit, while the entry was read. If `Io`
+/// or `NoMemory` occurs later, the thread has failed. The device may then have only the first of
+/// the two commits, and already has the new tree in that case.
 pub fn rename_across<D: BlockDevice>(
     alloc: Global,
     thread: &mut Thread<D>,
@@ -279,10 +281,11 @@ pub fn rename_across<D: BlockDevice>(
     move_across(alloc, thread, route, replaces, false, name)
 }
 
-/// Renames an entry of one pair over an empty directory with an id of another pair, in the same
-/// directory or another one. The replaced directory's own pair has index `gone`. Works as
-/// [`rename_across`] over a file, with two differences: the first commit also sets the sync bit,
-/// and a third one drops the replaced directory's own pair, now an orphan, and clears the bit.
+/// Renames an entry over an empty directory whose entry is in another pair, in the same parent
+/// directory or in another one. The replaced directory's own pair has index `gone`. Works like a
+/// rename over a file by [`rename_across`], except that the first commit also sets the sync bit. A
+/// third commit drops the replaced directory's own pair, which has become an orphan, and clears the
+/// sync bit.
 ///
 /// Errors are those of [`rename_across`].
 pub fn replace_directory_across<D: BlockDevice>(
@@ -304,7 +307,7 @@ pub fn replace_directory_across<D: BlockDevice>(
 {
     let at = thread.blocks_of_pair(gone);
     move_across(alloc, thread, route, true, true, name)?;
-    // Its index may have changed: other pairs may have been inserted or dropped before it.
+    // The pair's index may have changed, because pairs before it may have been inserted or dropped.
     match number_at_address(thread, at) {
         Some(index) => drop_pair_at(alloc, thread, index, &MoveState::none()),
         None => Ok(()),

@@ -1,4 +1,4 @@
-// Makes empty directories.
+// Creation of empty directories.
 
 ghost use Rattle.std.specs.Prelude.{◌≡◌, ◌<◌, ◌^◌, ℕ, false, length, Err, OnOk};
 ghost use Rattle.lfs_device.specs.Bytes.{AreByteBlocks};
@@ -23,7 +23,7 @@ use lfs_tag::{MoveState, pair_bytes};
 use lfs_thread::Thread;
 use std::alloc::Global;
 
-// Gives proofs two facts of any device: its blocks hold bytes, and a block's address has 32 bits.
+// Proves that a device's blocks consist of bytes, and that the number of blocks fits 32 bits.
 pub(crate) fn lemma_device_facts<D: BlockDevice>(thread: &Thread<D>)
     ensures count { block_count thread.now.kept.disk < 2 ^ 32 }
     ensures bytes { AreByteBlocks thread.now.kept.disk.blocks }
@@ -31,8 +31,8 @@ pub(crate) fn lemma_device_facts<D: BlockDevice>(thread: &Thread<D>)
     let _count = thread.device().geometry().block_count;
 }
 
-// Returns the index of a directory's last pair: the last one along hard tails from the pair at
-// `index`.
+// Returns the index of the last pair of a directory, which is found along hard tails from the pair
+// at `index`.
 fn last_directory_pair<D: BlockDevice>(thread: &Thread<D>, index: usize) -> usize
     requires works { thread.now.failed ≡ false }
     requires below { index < length thread.now.kept.pairs }
@@ -45,8 +45,8 @@ fn last_directory_pair<D: BlockDevice>(thread: &Thread<D>, index: usize) -> usiz
     last
 }
 
-// Returns a delta with its sync bit flipped. In its pair, it flips the sync bit of the global
-// state.
+// Returns a gstate delta with its sync bit flipped. A commit of this delta flips the sync bit of
+// the global state.
 fn turned_sync_delta(delta: &MoveState) -> MoveState
     ensures { move_view result ≡ with_sync_inverted (move_view delta.now) }
 {
@@ -58,8 +58,8 @@ fn turned_sync_delta(delta: &MoveState) -> MoveState
     }
 }
 
-// Inserts a fresh pair without slots into the thread, behind the last pair of a directory. Sets the
-// sync bit, since no entry names the pair yet.
+// Inserts a new pair without slots into the thread, after the last pair of a directory. Sets the
+// sync bit, because no entry points to the new pair yet.
 fn link_pair_after<D: BlockDevice>(
     alloc: Global,
     thread: &mut Thread<D>,
@@ -82,7 +82,7 @@ fn link_pair_after<D: BlockDevice>(
             state: turned_sync_delta(&thread.delta(last)),
         },
     ];
-    // The pair reserves room for tail and delta, so the commit never needs a split.
+    // The pair reserves space for a tail and a gstate delta, so this commit never needs a split.
     thread.thread_in(alloc, last, fresh, &changes)?;
     Ok(())
 }
@@ -121,7 +121,7 @@ fn put_directory_entry<'a, D: BlockDevice>(
     change_or_split(alloc, thread, pair, &changes)
 }
 
-// Creates the entry of the directory that begins at an address in a pair, and clears the sync bit.
+// Creates the entry of the directory whose first pair is at address `at`, and clears the sync bit.
 fn put_branch_entry<D: BlockDevice>(
     alloc: Global,
     thread: &mut Thread<D>,
@@ -141,15 +141,16 @@ fn put_branch_entry<D: BlockDevice>(
     put_directory_entry(alloc, thread, pair, id, name, &branch)
 }
 
-/// Makes an empty directory. Its name must belong at the id of the pair (DESIGN.md of littlefs,
-/// "The metadata tree"). The first commit inserts the directory's own pair into the thread, behind
-/// the parent's last pair, and sets the sync bit. The second creates the entry, and clears the bit.
-/// If the pair has no room for the entry, it is split. Four blocks must be free: two for the
+/// Creates an empty directory, with an entry of id `id` in the pair with index `pair`. Requires
+/// that the new name belongs at id `id` in the order of names (DESIGN.md of littlefs, "The metadata
+/// tree"). The first commit inserts the directory's own pair into the thread after the parent's
+/// last pair, and sets the sync bit. The second commit creates the entry and clears the sync bit.
+/// If the entry doesn't fit its pair, that pair is split. Requires four free blocks: two for the
 /// directory, and two for a split.
 ///
-/// Errors: `Io` if a device call failed, and `NoMemory` if memory for a pair's slots and its block
-/// can't be allocated. The thread has then failed. The new pair may be left in the thread as an
-/// orphan, which a recovery drops.
+/// Errors: `Io` if a call of the device fails. `NoMemory` if memory for a pair's slots and its
+/// block can't be allocated. After either error, the thread has failed. After an error, the new
+/// pair may remain in the thread as an orphan, which a recovery drops.
 pub fn make_directory<D: BlockDevice>(
     alloc: Global,
     thread: &mut Thread<D>,

@@ -1,4 +1,4 @@
-// Creates empty files.
+// Creation of empty files.
 
 ghost use Rattle.std.specs.Prelude.{◌≡◌, ◌≤◌, ◌+◌, false, OnOk};
 ghost use Rattle.lfs_model.specs.session.History.{read_count};
@@ -14,14 +14,14 @@ use lfs_tag::kinds::{FILE_NAME, INLINE_STRUCT};
 use lfs_thread::Thread;
 use std::alloc::Global;
 
-/// Creates an empty file, a slot with an inline struct of no bytes. Its name must belong at the id
-/// of the pair. If the pair has no room for the slot, it is split, and two free blocks are
-/// allocated (DESIGN.md of littlefs, "Metadata pairs"). Makes at most six reads.
+/// Creates an empty file, as a slot with id `id` and an inline struct of no bytes in the pair with
+/// index `pair`. Requires that the new name belongs at id `id` in the order of names. If the slot
+/// doesn't fit, splits the pair, which allocates two free blocks (DESIGN.md of littlefs, "Metadata
+/// pairs"). Makes at most six reads.
 ///
-/// Errors: `NoSpace` if the pair has no room and fewer than two blocks are free; nothing was
-/// changed then. `Io` if a device call failed. `NoMemory` if memory for the pair's slots and its
-/// block can't be allocated; nothing was written then. After `Io` and `NoMemory` the thread has
-/// failed.
+/// Errors: `NoSpace`, with nothing changed, if the pair must be split and fewer than two blocks are
+/// free. `Io` if a call of the device fails. `NoMemory`, with nothing written, if memory for the
+/// pair's slots and its block can't be allocated. After `Io` and `NoMemory`, the thread has failed.
 pub fn create_file<D: BlockDevice>(
     alloc: Global,
     thread: &mut Thread<D>,

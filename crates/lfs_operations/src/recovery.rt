@@ -1,4 +1,4 @@
-// The recovery: completes what a power loss left half done.
+// Recovery, which completes the operation that a power loss interrupted.
 
 ghost use Rattle.std.specs.Prelude.{◌≡◌, ◌<◌, ◌+◌, ◌-◌, ◌&&◌, false, OnOk, length, if◌then◌else◌, IfNone, IfSome, Option, Some};
 ghost use Rattle.lfs_model.specs.crash.PowerLoss.{SurvivesLossSince};
@@ -27,7 +27,7 @@ use lfs_tag::kinds::DELETE;
 use lfs_thread::{Thread, gstate_xor_delta, number_at_address};
 use std::alloc::Global;
 
-// Returns the new delta of a pair by which the global state becomes `wanted`.
+// Returns the new gstate delta of a pair. This delta makes the global state `wanted`.
 fn delta_for_gstate<D: BlockDevice>(
     thread: &Thread<D>,
     index: usize,
@@ -41,7 +41,7 @@ fn delta_for_gstate<D: BlockDevice>(
     gstate_xor_delta(&change, &thread.delta(index))
 }
 
-// Returns whether a pair's tail is a hard one.
+// Returns whether a pair's tail is hard.
 fn is_tail_hard<D: BlockDevice>(thread: &Thread<D>, index: usize) -> bool
     requires works { thread.now.failed ≡ false }
     requires below { index < length thread.now.kept.pairs }
@@ -50,7 +50,7 @@ fn is_tail_hard<D: BlockDevice>(thread: &Thread<D>, index: usize) -> bool
     thread.next(index).is_some()
 }
 
-// Changes a pair's delta, so that the global state becomes `wanted`.
+// Commits a new gstate delta to a pair, so that the global state becomes `wanted`.
 fn set_gstate_in<D: BlockDevice>(
     alloc: Global,
     thread: &mut Thread<D>,
@@ -67,12 +67,12 @@ fn set_gstate_in<D: BlockDevice>(
 {
     lemma_device_facts(thread);
     let state = delta_for_gstate(thread, index, wanted);
-    // The pair keeps its slots, so the commit never needs a split.
+    // The pair keeps its slots, so this commit never needs a split.
     commit_fitting(alloc, thread, index, &[Change::Move { state }])
 }
 
-// Returns the global state after an orphan is dropped: zero after the last one, otherwise as
-// before.
+// Returns the global state after the drop of an orphan: zero if the orphan is the last one, or the
+// current state otherwise.
 fn lemma_gstate_zero<D: BlockDevice>(thread: &Thread<D>, is_last: bool) -> MoveState
     requires { thread.now.failed ≡ false }
     ensures { move_view result ≡ gstate_while_dropping thread.now.kept is_last }
@@ -84,7 +84,7 @@ fn lemma_gstate_zero<D: BlockDevice>(thread: &Thread<D>, is_last: bool) -> MoveS
     }
 }
 
-// Clears the sync bit, if it is set. There must be no orphans.
+// Clears the sync bit if it is set. Requires that there are no orphans.
 fn clear_sync_bit<D: BlockDevice>(alloc: Global, thread: &mut Thread<D>) -> Result<(), Error>
     requires works { thread.old.failed ≡ false }
     requires can { CanClearSync thread.old.kept }
@@ -103,17 +103,17 @@ fn clear_sync_bit<D: BlockDevice>(alloc: Global, thread: &mut Thread<D>) -> Resu
     }
 }
 
-/// Drops all orphans, the pairs of directories that no path leads to, each by one commit to the
-/// pair before it (DESIGN.md of littlefs, "The move problem"). The last commit also clears the sync
-/// bit. If there is no orphan, one commit clears the bit, if it is set. Writes nothing if nothing
-/// is to recover.
+/// Drops all orphans, which are the pairs of directories to which no path leads. Each orphan is
+/// dropped by one commit to the previous pair (DESIGN.md of littlefs, "The move problem"). The last
+/// commit also clears the sync bit. If the sync bit is set but there is no orphan, one commit
+/// clears the bit. Writes nothing if the image needs no recovery.
 ///
-/// No move may be pending, and `unreached` must have the indices of all orphans in rising order.
-/// The blocks of the lists that the orphans' slots name stay used in the map; the caller frees
+/// Requires that no move is pending, and that `unreached` contains the indices of all orphans in
+/// ascending order. The blocks of the orphans' files stay used in the map until the caller frees
 /// them.
 ///
-/// Errors: `Io` if a device call failed, and `NoMemory` if memory for a pair's slots and its block
-/// can't be allocated. The thread has then failed.
+/// Errors: `Io` if a call of the device fails. `NoMemory` if memory for a pair's slots and its
+/// block can't be allocated. After either error, the thread has failed.
 pub fn drop_unreached_pairs<D: BlockDevice>(
     alloc: Global,
     thread: &mut Thread<D>,
@@ -136,7 +136,7 @@ pub fn drop_unreached_pairs<D: BlockDevice>(
     clear_sync_bit(alloc, thread)
 }
 
-// Returns the index of the pair whose slot a pending move names. Returns None if no move is
+// Returns the index of the pair that has the slot of a pending move. Returns None if no move is
 // pending.
 fn moved_slot_pair<D: BlockDevice>(thread: &Thread<D>, state: &MoveState) -> Option<usize>
     requires accepted { IsAccepted thread.now.kept.disk thread.now.kept.pairs }
@@ -150,7 +150,7 @@ fn moved_slot_pair<D: BlockDevice>(thread: &Thread<D>, state: &MoveState) -> Opt
     number_at_address(thread, state.pair)
 }
 
-// Returns whether a pair has only one slot, and is behind a hard tail.
+// Returns whether a pair has exactly one slot and follows a hard tail.
 fn drops_if_emptied<D: BlockDevice>(thread: &Thread<D>, index: usize) -> bool
     requires works { thread.now.failed ≡ false }
     requires below { index < length thread.now.kept.pairs }
@@ -159,12 +159,12 @@ fn drops_if_emptied<D: BlockDevice>(thread: &Thread<D>, index: usize) -> bool
     index > 0 && thread.slot_count(index) == 1 && is_tail_hard(thread, index - 1)
 }
 
-/// Ends a pending move by one commit, which deletes the slot that the move names (DESIGN.md of
-/// littlefs, "The move problem"). If it is the only slot of a pair that isn't the first of its
-/// directory, the pair is dropped. Writes nothing if no move is pending.
+/// Ends a pending move by one commit, which deletes the slot to which the move refers (DESIGN.md of
+/// littlefs, "The move problem"). If that slot is the only one of its pair, and the pair isn't the
+/// first of its directory, the commit drops the pair. Writes nothing if no move is pending.
 ///
-/// Errors: `Io` if a device call failed, and `NoMemory` if memory for a pair's slots and its block
-/// can't be allocated. The thread has then failed.
+/// Errors: `Io` if a call of the device fails. `NoMemory` if memory for a pair's slots and its
+/// block can't be allocated. After either error, the thread has failed.
 pub fn end_move<D: BlockDevice>(alloc: Global, thread: &mut Thread<D>) -> Result<(), Error>
     requires works { thread.old.failed ≡ false }
     requires can { CanEndMove thread.old.kept }

@@ -1,4 +1,4 @@
-// Removes files.
+// Removals of files.
 
 ghost use Rattle.std.specs.Prelude.{◌≡◌, ◌<◌, ◌-◌, length, false, true, OnOk};
 ghost use Rattle.lfs_model.specs.crash.PowerLoss.{SurvivesLossSince};
@@ -17,8 +17,8 @@ use lfs_tag::MoveState;
 use lfs_thread::Thread;
 use std::alloc::Global;
 
-// Returns whether a pair is dropped with a deleted slot: it has no other slot, and isn't the first
-// of its directory.
+// Returns whether a pair must be dropped when one of its slots is deleted. That is the case if the
+// pair has no other slot and isn't the first of its directory.
 pub(crate) fn drops_with_slot<D: BlockDevice>(thread: &Thread<D>, pair: usize, first: usize) -> bool
     requires works { thread.now.failed ≡ false }
     requires below { pair < length thread.now.kept.pairs }
@@ -27,13 +27,13 @@ pub(crate) fn drops_with_slot<D: BlockDevice>(thread: &Thread<D>, pair: usize, f
     pair != first && thread.slot_count(pair) == 1
 }
 
-/// Removes the file with the id of a pair from its directory, which begins with the pair of index
-/// `first`. If the pair has no other slot, and isn't that first pair, it is dropped: the pair
-/// before it gets its tail. The blocks of the file's list stay used in the map; the caller frees
-/// them.
+/// Removes the file with id `id` in the pair with index `pair` from its directory, whose first pair
+/// has index `first`. If the pair has no other slot and isn't the directory's first, drops the pair
+/// and gives its tail to the previous pair. The blocks of the file's list stay used in the map
+/// until the caller frees them.
 ///
-/// Errors: `Io` if a device call failed. `NoMemory` if memory for the pair's slots and its block
-/// can't be allocated; nothing was written then. The thread has failed after either.
+/// Errors: `Io` if a call of the device fails. `NoMemory`, with nothing written, if memory for the
+/// pair's slots and its block can't be allocated. After either error, the thread has failed.
 pub fn remove_file<D: BlockDevice>(
     alloc: Global,
     thread: &mut Thread<D>,
@@ -53,7 +53,7 @@ pub fn remove_file<D: BlockDevice>(
     if drops_with_slot(thread, pair, first) {
         drop_pair_at(alloc, thread, pair, &MoveState::none())
     } else {
-        // What is left fits, so the commit never needs a split.
+        // The remaining content fits, so this commit never needs a split.
         commit_fitting(alloc, thread, pair, &[Change::Delete { id }])
     }
 }

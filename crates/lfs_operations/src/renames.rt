@@ -19,7 +19,7 @@ use lfs_pair::Change;
 use lfs_thread::Thread;
 use std::alloc::{AllocError, Global};
 
-// Returns the id `place` after the slot with another id was deleted.
+// Returns what the id `place` becomes when the slot with id `id` is deleted.
 pub(crate) fn id_after_removed(id: u16, place: u16) -> u16
     ensures { result ≡ id_after_removal id place }
 {
@@ -47,23 +47,24 @@ fn renaming_changes<'a>(
 /// The target of a rename within a pair.
 #[derive(Clone, Copy)]
 pub struct PairPlace {
-    /// The new id, counted while the old slot is still there.
+    /// The new id, counted while the old slot still exists.
     pub id: u16,
-    /// Whether it replaces the slot with that id.
+    /// Whether the renamed entry replaces the slot with the new id.
     pub replaces: bool,
 }
 
-/// Renames the entry with the id of a pair to a name that belongs at another id of the same pair,
-/// or over the file with that id. The entry keeps its struct and its attributes. One commit deletes
-/// its slot, and the file's, and creates its copy under the new name (DESIGN.md of littlefs, "The
-/// move problem"). If the pair has no room, it is split, and two free blocks are allocated. The
-/// blocks of a replaced file's list stay used in the map; the caller frees them.
+/// Renames the entry with id `id` to a name that belongs in the same pair, or over a file in the
+/// same pair. The entry keeps its struct and its attributes. One commit deletes the entry's slot
+/// and that of a replaced file, and creates a copy of the entry under the new name (DESIGN.md of
+/// littlefs, "The move problem"). If the copy doesn't fit, splits the pair, which allocates two
+/// free blocks. The blocks of a replaced file's list stay used in the map until the caller frees
+/// them.
 ///
-/// Errors: `NoSpace` if the pair has no room and fewer than two blocks are free; nothing was
-/// changed then. `Io` if a device call failed. `NoMemory` if memory for the pair's slots, a copy of
-/// the entry and the pair's block can't be allocated; nothing was written then. After `Io` and
-/// `NoMemory` the thread has failed, unless the entry couldn't be read and copied; then the thread
-/// is as it was.
+/// Errors: `NoSpace`, with nothing changed, if the pair must be split and fewer than two blocks are
+/// free. `Io` if a call of the device fails. `NoMemory`, with nothing written, if memory can't be
+/// allocated for the pair's slots, a copy of the entry and the pair's block. After `Io` and
+/// `NoMemory`, the thread has failed, unless the error occurred while the entry was read and
+/// copied.
 pub fn rename<D: BlockDevice>(
     alloc: Global,
     thread: &mut Thread<D>,

@@ -1,4 +1,4 @@
-// Renames over a directory of the same pair.
+// Renames over an empty directory whose entry is in the same pair.
 
 ghost use Rattle.std.specs.Prelude.{◌≡◌, ◌-◌, ◌∷◌, IfOk, OnOk, false};
 ghost use Rattle.lfs_model.specs.layers.Changes.{Delete, PutMove};
@@ -25,8 +25,8 @@ use lfs_tag::MoveState;
 use lfs_thread::{Thread, gstate_xor_delta};
 use std::alloc::{AllocError, Global};
 
-// Returns the changes that set a delta, delete the slots with the ids `id` and `place`, and create
-// a copy of the first one at `place`.
+// Returns the changes that set a gstate delta, delete the slots with the ids `id` and `place`, and
+// put a copy of the slot `id` in place of the slot `place`.
 fn changes_replacing_directory<'a>(
     alloc: Global,
     state: MoveState,
@@ -46,13 +46,13 @@ fn changes_replacing_directory<'a>(
     Ok(changes)
 }
 
-// Renames the entry with the id of a pair over a directory of the same pair and parent. `place` is
-// that directory's id. Its own pair stays in the thread as an orphan, so the commit sets the sync
-// bit (DESIGN.md of littlefs, "The move problem").
+// Renames the entry with id `id` over a directory whose entry has id `place` in the same pair. Both
+// entries must have the same parent. The replaced directory's own pair remains in the thread as an
+// orphan, so the commit sets the sync bit (DESIGN.md of littlefs, "The move problem").
 //
-// Errors: `Io` if a device call failed. `NoMemory` if memory for the pair's slots, a copy of the
-// entry and the pair's block can't be allocated; nothing was written then. The thread has failed
-// after either, unless the entry couldn't be read and copied; then the thread is as it was.
+// Errors: `Io` if a call of the device fails. `NoMemory`, with nothing written, if memory can't be
+// allocated for the pair's slots, a copy of the entry and the pair's block. After either error, the
+// thread has failed, unless the error occurred while the entry was read and copied.
 pub(crate) fn rename_over_directory<D: BlockDevice>(
     alloc: Global,
     thread: &mut Thread<D>,
@@ -72,29 +72,30 @@ pub(crate) fn rename_over_directory<D: BlockDevice>(
     let copy = copy_pair_slot(alloc, thread, pair, id)?;
     let state = gstate_xor_delta(&thread.delta(pair), &delta_turning_sync());
     let changes = changes_replacing_directory(alloc, state, id, place, name, &copy)?;
-    // Two slots are replaced by one, with the name of the one and the rest of the other, so the
+    // One slot replaces two: it has the name of one and the other contents of the other, so this
     // commit never needs a split.
     commit_fitting(alloc, thread, pair, &changes)
 }
 
-/// An empty directory among the slots of a pair.
+/// An empty directory whose entry is in a given pair.
 #[derive(Clone, Copy)]
 pub struct EmptyDirectory {
-    /// The id of its entry.
+    /// The id of the directory's entry.
     pub id: u16,
-    /// The index of its own pair in the thread.
+    /// The index in the thread of the directory's own pair.
     pub own_pair: usize,
 }
 
-/// Renames the entry with the id of a pair over an empty directory of the same pair and parent. The
-/// entry gets that directory's name, and keeps its own struct and attributes. The first commit also
-/// sets the sync bit. The second drops the replaced directory's own pair, now an orphan, and clears
-/// the bit (DESIGN.md of littlefs, "The move problem").
+/// Renames the entry with id `id` over an empty directory whose entry is in the same pair and has
+/// the same parent. The renamed entry gets the directory's name, and keeps its struct and
+/// attributes. The first commit also sets the sync bit. The second commit drops the replaced
+/// directory's own pair, which has become an orphan, and clears the sync bit (DESIGN.md of
+/// littlefs, "The move problem").
 ///
-/// Errors: `Io` if a device call failed, and `NoMemory` if memory for a pair's slots, a copy of the
-/// entry and a pair's block can't be allocated. The thread has then failed, unless the entry
-/// couldn't be read and copied; then the thread is as it was. After an error the device may be
-/// between the two commits, with the new tree.
+/// Errors: `Io` if a call of the device fails. `NoMemory` if memory can't be allocated for a pair's
+/// slots, a copy of the entry and a pair's block. After either error, the thread has failed, unless
+/// the error occurred while the entry was read and copied. After an error, the device may have only
+/// the first of the two commits, and then already has the new tree.
 pub fn rename_onto_directory<D: BlockDevice>(
     alloc: Global,
     thread: &mut Thread<D>,

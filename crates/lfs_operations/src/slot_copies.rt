@@ -1,4 +1,4 @@
-// Copies of slots, to be written to another id or pair.
+// Copies of slots, which are written to another id or pair.
 
 ghost use Rattle.std.specs.Prelude.{◌≡◌, ◌<◌, ◌++◌, Some, IfErr, IfOk, IsSome, OnOk, false, length, map};
 ghost use Rattle.lfs_model.specs.format.Content.{RawContent, content_after, empty_raw_content, slot_of_id};
@@ -89,7 +89,7 @@ fn copy_slot(alloc: Global, slot: &Slot<'_>) -> Result<SlotCopy, AllocError>
     })
 }
 
-// Copies the slot with an id of a log, without its name.
+// Copies the slot with id `id` in a log, without the slot's name.
 fn copy_log_slot(alloc: Global, log: &Log<'_>, id: u16) -> Result<SlotCopy, Error>
     requires { (content : ModelContent) × (IsContentLog log.now content × (id < length content.slots)) }
     ensures copied { (raw : RawContent) → content_after empty_raw_content (block_entries log.now) ≡ Some raw → IfOk result (λ copy. slot_copy_view copy ≡ nameless_of (slot_of_id raw.slots id)) }
@@ -100,8 +100,7 @@ fn copy_log_slot(alloc: Global, log: &Log<'_>, id: u16) -> Result<SlotCopy, Erro
     Ok(copy)
 }
 
-// Copies the slot with an id of a pair, without its name. The thread doesn't fail, even after an
-// error.
+// Copies the slot with id `id` in a pair, without the slot's name. No error makes the thread fail.
 pub(crate) fn copy_pair_slot<D: BlockDevice>(
     alloc: Global,
     thread: &mut Thread<D>,
@@ -120,7 +119,7 @@ pub(crate) fn copy_pair_slot<D: BlockDevice>(
     Ok(copy)
 }
 
-// Appends the changes that create a copied slot at an id, under a new name.
+// Appends the changes that create a copied slot with id `id`, under a new name.
 pub(crate) fn push_slot_changes<'a>(
     changes: &mut Vec<Change<'a>>,
     id: u16,

@@ -1,4 +1,4 @@
-// Sets structs of files.
+// Changes of files' structs.
 
 ghost use Rattle.std.specs.Prelude.{◌≡◌, ◌∷◌, [], false, OnOk};
 ghost use Rattle.lfs_model.specs.layers.Changes.{PutStruct};
@@ -13,12 +13,13 @@ use lfs_pair::Change;
 use lfs_thread::Thread;
 use std::alloc::Global;
 
-/// Sets the struct of the file with the id of a pair: its inline bytes, or the head and the size of
-/// a CTZ skip list that is on the device (SPEC.md of littlefs, "0x2xx LFS_TYPE_STRUCT"). If the
-/// pair has no room for it, it is split, and two free blocks are allocated.
+/// Sets the struct of the file with id `id` in the pair with index `pair`. The struct consists of
+/// the file's inline bytes, or of the head and the size of a CTZ skip-list that is already on the
+/// device (SPEC.md of littlefs, "0x2xx LFS_TYPE_STRUCT"). If the struct doesn't fit, splits the
+/// pair, which allocates two free blocks.
 ///
-/// Doesn't settle the lists in the map: the new list's blocks that were in flight stay so, and the
-/// blocks that only the old list has stay used. The caller settles them.
+/// Doesn't update the block map. Blocks of the new list that are in flight stay in flight, and
+/// blocks of the old list stay used until the caller updates the map.
 ///
 /// Errors are those of [`create_file`](crate::create_file).
 pub fn set_struct<D: BlockDevice>(

@@ -1,4 +1,4 @@
-// Wear leveling: relocates worn pairs.
+// Wear leveling, which relocates worn pairs.
 
 ghost use Rattle.std.specs.Prelude.{◌≡◌, ◌<◌, ◌-◌, Any, false, length, IfOk, IfSome, OnOk};
 ghost use Rattle.std.specs.Bool.{OnTrue};
@@ -16,19 +16,20 @@ use lfs_device::{BlockDevice, Error};
 use lfs_thread::{Thread, number_at_address};
 use std::alloc::Global;
 
-/// A plan to relocate a worn pair after an operation, made before it.
+/// A plan to relocate a worn pair, which is made before an operation and carried out after the
+/// operation.
 #[derive(Clone, Copy, Drop)]
 pub struct MovePlan {
     /// Two free blocks for the pair.
     pub fresh: [u32; 2],
-    /// The blocks of the pair to which the relocation commits.
+    /// The address of the pair to which the relocation commits.
     pub at: [u32; 2],
-    /// How many blocks may be used afterwards, if the relocation uses more than before.
+    /// The largest number of blocks that may be used after a relocation that adds a pair.
     pub limit: u32,
 }
 
-// Returns whether a pair is worn: the revision of its log is a multiple of the profile's
-// `pair_cycles`. If that is 0, no pair is worn.
+// Returns whether a pair is worn, which means that its revision count is a multiple of the
+// profile's `pair_cycles`. If `pair_cycles` is 0, no pair is worn.
 fn is_worn_pair<D: BlockDevice>(thread: &Thread<D>, index: usize) -> bool
     requires works { thread.now.failed ≡ false }
     requires below { index < length thread.now.kept.pairs }
@@ -38,7 +39,7 @@ fn is_worn_pair<D: BlockDevice>(thread: &Thread<D>, index: usize) -> bool
     cycles != 0 && thread.revision(index) % cycles == 0
 }
 
-// Returns whether the pair is worn, or with `soon` would be after one more erase.
+// Returns whether the pair is worn or, if `soon` is true, would be worn after one more erase.
 fn is_due<D: BlockDevice>(thread: &Thread<D>, index: usize, soon: bool) -> bool
     requires works { thread.now.failed ≡ false }
     requires below { index < length thread.now.kept.pairs }
@@ -48,8 +49,8 @@ fn is_due<D: BlockDevice>(thread: &Thread<D>, index: usize, soon: bool) -> bool
     cycles != 0 && revision % cycles as u64 == 0
 }
 
-// Returns whether two more blocks may be used within `limit`, so that an eighth of the blocks stays
-// free.
+// Returns whether two more blocks may be used: the number of used blocks then stays within `limit`,
+// and at least an eighth of all blocks stays free.
 fn has_unload_room<D: BlockDevice>(thread: &Thread<D>, limit: u32) -> bool
     ensures { OnTrue result (HasUnloadRoom thread.now.kept limit) }
 {
@@ -57,7 +58,7 @@ fn has_unload_room<D: BlockDevice>(thread: &Thread<D>, limit: u32) -> bool
     used <= limit as u64 && 8 * used <= 7 * thread.geometry().block_count as u64
 }
 
-// Returns whether the pair has slots, and begins a directory other than the root.
+// Returns whether the pair has slots and is the first pair of a directory other than the root.
 fn begins_behind_root<D: BlockDevice>(thread: &Thread<D>, root: usize, index: usize) -> bool
     requires works { thread.now.failed ≡ false }
     requires below { index < length thread.now.kept.pairs }
@@ -67,7 +68,7 @@ fn begins_behind_root<D: BlockDevice>(thread: &Thread<D>, root: usize, index: us
 }
 
 // Returns the index of the pair to which the relocation of the pair at `index` commits. Returns
-// None if that pair can't be relocated.
+// None if the pair at `index` can't be relocated.
 fn committed_by_move<D: BlockDevice>(thread: &Thread<D>, root: usize, index: usize) -> Option<usize>
     requires works { thread.now.failed ≡ false }
     requires below { index < length thread.now.kept.pairs }
@@ -84,8 +85,8 @@ fn committed_by_move<D: BlockDevice>(thread: &Thread<D>, root: usize, index: usi
     }
 }
 
-// Returns the blocks of the pair to which the relocation of a due pair commits. The search begins
-// with the pair of index `start`, modulo the number of pairs.
+// Searches for a pair that is due for relocation, beginning at the index `start` modulo the number
+// of pairs. Returns the address of the pair to which the relocation commits.
 fn find_due<D: BlockDevice>(
     thread: &Thread<D>,
     root: usize,
@@ -118,9 +119,9 @@ fn revisions_sum<D: BlockDevice>(thread: &Thread<D>) -> usize
     sum as usize
 }
 
-// Returns the blocks of the pair to which a relocation commits. Prefers a worn pair. Takes turns
-// among those that would be worn after one more erase, so that one which is never written doesn't
-// keep the others from being relocated.
+// Returns the address of the pair to which a relocation commits. Prefers a worn pair to one that
+// would be worn after one more erase. Rotates among the latter, so that one that is never written
+// doesn't keep the others from being relocated.
 fn find_wearing<D: BlockDevice>(thread: &Thread<D>, root: usize) -> Option<[u32; 2]>
     requires { thread.now.failed ≡ false }
     ensures { IfSome result (λ at. Any (λ p. p.at ≡ address_view at) thread.now.kept.pairs) }
@@ -134,7 +135,7 @@ fn find_wearing<D: BlockDevice>(thread: &Thread<D>, root: usize) -> Option<[u32;
     }
 }
 
-// Finds two free blocks, without allocating them. Returns None if fewer than two are free.
+// Finds two free blocks without allocating them. Returns None if fewer than two blocks are free.
 fn find_two_free<D: BlockDevice>(thread: &mut Thread<D>) -> Option<[u32; 2]>
     ensures free { IfSome result (λ fresh. AreTwoFree thread.old.kept.map (address_view fresh)) }
     ensures same { thread.new ≡ thread.old }
@@ -148,11 +149,11 @@ fn find_two_free<D: BlockDevice>(thread: &mut Thread<D>) -> Option<[u32; 2]>
 }
 
 /// Plans the relocation of a worn pair, before an operation that allocates at most `room` blocks.
-/// Returns None if no pair that can be relocated is worn, or would be after one more erase, or if
-/// fewer than two blocks are free. Does not access the device.
+/// Returns None if fewer than two blocks are free. Also returns None if none of the pairs that can
+/// be relocated is worn or would be worn after one more erase. Doesn't access the device.
 ///
-/// A pair is worn if the revision of its log is a multiple of the profile's `pair_cycles`
-/// (`block_cycles` of littlefs). If that is 0, none is.
+/// A pair is worn if its revision count is a multiple of the profile's `pair_cycles`
+/// (`block_cycles` of littlefs). If `pair_cycles` is 0, no pair is worn.
 pub fn plan_move<D: BlockDevice>(thread: &mut Thread<D>, root: usize, room: u32) -> Option<MovePlan>
     requires works { thread.old.failed ≡ false }
     ensures plan { IfSome result (IsPlanFor thread.old.kept room) }
@@ -168,9 +169,10 @@ pub fn plan_move<D: BlockDevice>(thread: &mut Thread<D>, root: usize, room: u32)
     Some(MovePlan { fresh, at, limit })
 }
 
-// Relocates a worn pair to two free blocks. The pair must be behind a hard tail, which then names
-// the new blocks: it isn't the first pair of its directory, or it is the root's, behind the
-// superblock's pairs. Frees its old blocks, and continues its revision.
+// Relocates a worn pair to two free blocks. Requires that the pair follows a hard tail, which is
+// changed to point to the new blocks. Such a pair isn't its directory's first, or it is the root's
+// first pair after the superblock chain. Frees the pair's old blocks, and continues its revision
+// count.
 fn move_pair<D: BlockDevice>(
     alloc: Global,
     thread: &mut Thread<D>,
@@ -190,9 +192,9 @@ fn move_pair<D: BlockDevice>(
     Ok(())
 }
 
-// Moves all slots of a worn pair to a new pair behind it, in two free blocks. The worn pair must be
-// the first one of a directory other than the root, and stays, without slots. The new pair can be
-// relocated later.
+// Moves all slots of a worn pair into a new pair after it, in two free blocks. Requires that the
+// worn pair is the first one of a directory other than the root. The worn pair stays in the thread
+// without slots, and the new pair can be relocated later.
 fn unload_pair<D: BlockDevice>(
     alloc: Global,
     thread: &mut Thread<D>,
@@ -212,9 +214,10 @@ fn unload_pair<D: BlockDevice>(
     Ok(())
 }
 
-// Extends the superblock chain if the thread's first pair is worn: all slots move to a new pair
-// behind it, in two free blocks, with a copy of the superblock. There the root directory begins
-// then. The first pair keeps only the superblock. The root's new first pair can be relocated later.
+// Extends the superblock chain if the thread's first pair is worn. Moves all slots into a new pair
+// after the first one, in two free blocks, together with a copy of the superblock. The new pair
+// becomes the root directory's first pair, and can be relocated later. The thread's first pair
+// keeps only the superblock.
 fn expand_root<D: BlockDevice>(
     alloc: Global,
     thread: &mut Thread<D>,
@@ -233,15 +236,16 @@ fn expand_root<D: BlockDevice>(
     Ok(())
 }
 
-/// Relocates at most one worn pair, after an operation before which that was planned (DESIGN.md of
-/// littlefs, "Wear leveling"). Returns the index of the root directory's first pair, which is one
-/// more than before if the superblock chain was extended.
+/// Relocates at most one worn pair, as planned before an operation (DESIGN.md of littlefs, "Wear
+/// leveling"). Returns the index of the root directory's first pair, which is one greater than
+/// before if the superblock chain was extended.
 ///
-/// A pair behind a hard tail is relocated to the two blocks. The slots of a directory's first pair,
-/// and of the thread's, move to a new pair there, if an eighth of the blocks stays free.
+/// A pair that follows a hard tail is relocated to the plan's two blocks. If the worn pair is the
+/// first of a directory or of the thread, its slots move into a new pair in these blocks. This
+/// happens only if at least an eighth of all blocks stays free.
 ///
-/// Errors: `Io` if a device call failed, and `NoMemory` if memory for a pair's block can't be
-/// allocated. The thread has then failed, and the image has the same tree.
+/// Errors: `Io` if a call of the device fails. `NoMemory` if memory for a pair's block can't be
+/// allocated. After either error, the thread has failed, and the image still has the same tree.
 pub fn relocate<D: BlockDevice>(
     alloc: Global,
     thread: &mut Thread<D>,

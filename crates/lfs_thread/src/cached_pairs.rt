@@ -1,4 +1,4 @@
-// Commits and splits of a pair whose active block is cached.
+// Commits and splits of pairs whose active blocks are cached.
 
 ghost use Rattle.std.specs.Prelude.{◌≡◌, ◌+◌, IfErr, IfOk, OnOk};
 ghost use Rattle.lfs_device.specs.DeviceCalls.{ReportsFaults};
@@ -28,10 +28,10 @@ pub(crate) fn forget_cached_pair(cache: &mut Cache, blocks: [u32; 2])
     cache.forget(blocks[1]);
 }
 
-// Commits changes to a pair, and reads its active block into the cache first if it isn't cached. At
-// Ok each cached block still has the bytes that the device has.
+// Commits changes to a pair. First reads the pair's active block into the cache if the block isn't
+// cached yet. At Ok, each cached block still has the same bytes as on the device.
 //
-// Errors are those of a commit. The cache may then differ from the device.
+// Errors are those of a commit. After an error, the cache may differ from the device.
 pub(crate) fn commit_cached<D: BlockDevice>(
     alloc: Global,
     dev: &mut D,
@@ -55,10 +55,10 @@ pub(crate) fn commit_cached<D: BlockDevice>(
     }
 }
 
-// Commits changes to a pair and splits it, and reads its active block into the cache first if it
-// isn't cached. Requires that the blocks of the fresh pair aren't cached.
+// Commits changes to a pair and splits it. First reads the pair's active block into the cache if
+// the block isn't cached yet. Requires that the new pair's blocks aren't cached.
 //
-// Errors are those of a split. The cache may then differ from the device.
+// Errors are those of a split. After an error, the cache may differ from the device.
 pub(crate) fn split_cached<D: BlockDevice>(
     alloc: Global,
     dev: &mut D,

@@ -8,8 +8,8 @@ ghost use Rattle.lfs_tag.specs.FieldsView.{move_view};
 use lfs_pair::Pair;
 use lfs_tag::MoveState;
 
-// Returns the global state: the XOR of all pairs' deltas (DESIGN.md of littlefs, "The move
-// problem").
+// Returns the global state, which is the XOR of all pairs' gstate deltas (DESIGN.md of littlefs,
+// "The move problem").
 pub(crate) fn headers_gstate(pairs: &[Pair]) -> MoveState
     ensures { move_view result ≡ fold gstate_xor zero_gstate (map (λ p. move_view p.move_state) pairs.now) }
 {
@@ -20,8 +20,8 @@ pub(crate) fn headers_gstate(pairs: &[Pair]) -> MoveState
     state
 }
 
-/// Returns the XOR of two deltas, or of the global state and a delta. If a pair's delta changes by
-/// `delta` in this way, so does the global state.
+/// Returns the XOR of two gstate deltas, or of the global state and a delta. If one pair's delta is
+/// XORed with `delta`, then so is the global state.
 pub fn gstate_xor_delta(state: &MoveState, delta: &MoveState) -> MoveState
     ensures { move_view result ≡ gstate_xor (move_view state.now) (move_view delta.now) }
 {

@@ -15,9 +15,9 @@ use lfs_device::{BlockDevice, Error};
 use lfs_pair::{Change, Outcome};
 use std::alloc::Global;
 
-// Drops the pair behind the one at `index`. Commits changes to the pair at `index`, after which its
-// tail names what the dropped pair's tail names, and frees the dropped pair's blocks. After an
-// error the headers, the map and the cache are unspecified.
+// Drops the pair after the one at `index`. Commits changes to the pair at `index` that set its tail
+// to the target of the dropped pair's tail, and frees the dropped pair's blocks. After an error,
+// the headers, the map and the cache are unspecified.
 pub(crate) fn drop_next_pair<D: BlockDevice>(
     alloc: Global,
     parts: &mut ThreadParts<D>,

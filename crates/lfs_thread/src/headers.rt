@@ -1,4 +1,4 @@
-// The headers of a thread, read from a device.
+// The headers of a device's metadata pairs, read in the order of its threaded linked-list.
 
 ghost use Rattle.std.specs.Prelude.{◌≡◌, ◌+◌, [], length, sum_by, IfErr, IfOk, List, OnOk};
 ghost use Rattle.std.specs.Option.{option_map};
@@ -21,7 +21,7 @@ use lfs_model::Violation;
 use lfs_pair::{Pair, fetch};
 use std::alloc::Global;
 
-// Reads the headers of the thread's pairs, and marks their blocks as used. After an error the
+// Reads the headers of the thread's pairs, and marks the pairs' blocks as used. After an error, the
 // headers and the map are unspecified.
 pub(crate) fn read_thread_headers<D: BlockDevice>(
     alloc: Global,
@@ -38,7 +38,7 @@ pub(crate) fn read_thread_headers<D: BlockDevice>(
 {
     let block_count = device.geometry().block_count;
     let mut next = Some([0, 1]);
-    // A thread has fewer pairs than the device has blocks, since each pair marks two.
+    // The loop is long enough: each pair marks two blocks, so there are fewer pairs than blocks.
     for _ in 0..block_count {
         match next {
             None => return Ok(()),
@@ -52,7 +52,7 @@ pub(crate) fn read_thread_headers<D: BlockDevice>(
     unreachable!()
 }
 
-// Returns the address that a pair's tail names.
+// Returns the address to which a pair's tail points.
 fn tail_address(pair: &Pair) -> Option<[u32; 2]>
     ensures { option_map address_view result ≡ tail_target (option_map tail_view pair.now.tail) }
 {
@@ -62,8 +62,9 @@ fn tail_address(pair: &Pair) -> Option<[u32; 2]>
     }
 }
 
-// Reads the header of the pair at an address, and marks its blocks as used. `Corrupt` if a block is
-// out of range, is used already or is the other one, or if the pair holds no content.
+// Reads the header of the pair at address `at`, and marks its two blocks as used. Returns `Corrupt`
+// if a block is out of range or already used, if the two blocks are equal, or if the pair has no
+// complete content.
 fn read_pair_header<D: BlockDevice>(
     alloc: Global,
     device: &mut D,

@@ -1,4 +1,4 @@
-// Fresh pairs, put into the thread behind another pair.
+// Insertion of new pairs into the thread, each after an existing pair.
 
 ghost use Rattle.std.specs.Prelude.{◌≡◌, ◌⊎◌, ◌<◌, ◌+◌, IfErr, IfOk, get_or, length};
 ghost use Rattle.std.specs.Option.{option_map};
@@ -25,20 +25,20 @@ use lfs_pair::{Change, Outcome, Pair, copy};
 use lfs_tag::{MoveState, Tail};
 use std::alloc::Global;
 
-// The content of a fresh pair that is put behind another one.
+// The content of a new pair that is inserted after another one.
 #[derive(Clone, Copy, Drop)]
 pub(crate) enum Behind {
-    // no slots, and the tail of the pair before it
+    // No slots, and the tail of the pair before it.
     Empty,
-    // the slots and the tail of the pair before it, without its delta
+    // The slots and the tail of the pair before it, but not its gstate delta.
     Slots,
-    // the whole content of the next pair, which it replaces
+    // All content of the next pair, which the new pair replaces.
     Next,
 }
 
-// Writes a fresh pair into two blocks in flight, then commits the changes to the pair at `index`,
-// whose tail then names the fresh pair. If the changes don't fit, no tail names the fresh pair, and
-// its blocks stay in flight. After an error the headers, the map and the cache are unspecified.
+// Writes a new pair into two blocks in flight. Then commits the changes, which set a tail to the
+// new pair, to the pair at `index`. If the changes don't fit, no tail points to the new pair, and
+// its blocks stay in flight. After an error, the headers, the map and the cache are unspecified.
 pub(crate) fn join_pair<D: BlockDevice>(
     alloc: Global,
     parts: &mut ThreadParts<D>,
@@ -60,7 +60,7 @@ pub(crate) fn join_pair<D: BlockDevice>(
 {
     let mut pair = parts.pairs[index];
     let source = source_of(&parts.pairs, index, behind);
-    // Allocates the room for the fresh pair's header before anything is written.
+    // Allocates memory for the new pair's header before anything is written.
     parts.pairs.insert(index + 1, pair)?;
     forget_cached_pair(&mut parts.cache, fresh);
     let fresh_pair = write_behind(alloc, &mut parts.device, &source, behind, fresh)?;
@@ -83,7 +83,7 @@ pub(crate) fn join_pair<D: BlockDevice>(
     Ok(Outcome::Done)
 }
 
-// Returns the header of the pair that the fresh one is copied from.
+// Returns the header of the pair from which the new one is copied.
 fn source_of(pairs: &Vec<Pair>, index: usize, behind: Behind) -> Pair
     requires { source_index index behind < length pairs.now.items }
     ensures { result ≡ get_or pairs.now.items (source_index index behind) result }
@@ -94,10 +94,10 @@ fn source_of(pairs: &Vec<Pair>, index: usize, behind: Behind) -> Pair
     }
 }
 
-// Writes the fresh pair, and returns its header.
+// Writes the new pair, and returns its header.
 //
-// Errors: `Io` if a call of the device failed, `NoMemory` if memory for two blocks and the slots
-// isn't granted.
+// Errors: `Io` if a call of the device fails. `NoMemory` if memory for two blocks and the slots
+// can't be allocated.
 fn write_behind<D: BlockDevice>(
     alloc: Global,
     dev: &mut D,
@@ -128,8 +128,8 @@ fn write_behind<D: BlockDevice>(
     }
 }
 
-// Removes the header of the pair that the fresh one replaces, if it replaces one, and frees its
-// blocks.
+// Removes the header of the pair that the new one replaces, if it replaces any, and frees the old
+// pair's blocks.
 fn drop_copied(
     pairs: &mut Vec<Pair>,
     map: &mut BlockMap,
@@ -148,7 +148,7 @@ fn drop_copied(
     }
 }
 
-// Returns the change that sets this tail.
+// Returns the change that sets the tail `tail`.
 fn change_setting_tail<'a>(tail: &Option<Tail>) -> Change<'a>
     ensures { change_view result ≡ tail_change (option_map tail_view tail.now) }
 {

@@ -1,6 +1,6 @@
 // SPDX-License-Identifier: BSD-3-Clause
-//! All metadata pairs of a device, in the thread's order, kept in memory from one commit to the
-//! next.
+//! Keeps all metadata pairs of a device in memory, in the order of littlefs's threaded linked-list,
+//! and changes them in atomic steps.
 #![tactic(auto)]
 
 mod cached_pairs;

@@ -12,7 +12,8 @@ use lfs_blocks::Cache;
 use lfs_device::{BlockDevice, Error};
 use lfs_file::BlockPart;
 
-// Reads a range of a block to the start of the buffer, through the cache. Returns its length.
+// Reads a range of a block into the start of the buffer, through the cache. Returns the length of
+// the range.
 pub(crate) fn read_part_cached<D: BlockDevice>(
     device: &mut D,
     cache: &mut Cache,

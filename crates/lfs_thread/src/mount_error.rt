@@ -1,4 +1,4 @@
-// The reason why the image of a device isn't mounted.
+// The reasons for which mounting a device fails.
 
 ghost use Rattle.std.specs.Prelude.{◌≡◌};
 ghost use Rattle.lfs_thread.specs.MountErrors.{mount_error_for};
@@ -7,20 +7,20 @@ use lfs_device::Error;
 use lfs_model::Violation;
 use std::alloc::{AllocError, AllocFailed};
 
-/// The reason why the image of a device isn't mounted.
+/// The reason why a device's image can't be mounted.
 #[derive(Clone, Copy, Debug, PartialEq, Eq)]
 pub enum MountError {
-    /// The image breaks this rule.
+    /// The image breaks the given rule.
     Corrupt(Violation),
     /// A call of the device failed.
     Io,
-    /// Memory wasn't granted.
+    /// Memory couldn't be allocated.
     NoMemory,
 }
 
 impl MountError {
-    /// Returns the reason for the error of a call that reads an image. If the error is `Corrupt`,
-    /// the image breaks the rule `violation`. Any error but `Corrupt` and `Io` becomes `NoMemory`.
+    /// Converts the error of a call that reads an image. `Corrupt` means that the image breaks the
+    /// rule `violation`. Converts any error except `Corrupt` and `Io` to `NoMemory`.
     pub fn of(error: Error, violation: Violation) -> MountError
         ensures { result ≡ mount_error_for error violation }
     {

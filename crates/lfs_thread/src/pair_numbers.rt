@@ -1,4 +1,4 @@
-// Pairs of a thread, found by their addresses.
+// A search for a pair of the thread by its address.
 
 ghost use Rattle.std.specs.Prelude.{◌≡◌, IfNone, IfSome, false};
 ghost use Rattle.std.specs.List.{AllByRecursion};
@@ -9,8 +9,8 @@ use crate::thread::Thread;
 use lfs_device::BlockDevice;
 use lfs_pair::is_same_pair;
 
-/// Returns the index of the pair with these two blocks in the thread, from 0 on. The address may
-/// have the blocks in either order. Returns None if no pair of the thread has them.
+/// Returns the index in the thread of the pair at address `at`, whose two blocks may be in either
+/// order. Returns None if the thread has no such pair.
 pub fn number_at_address<D: BlockDevice>(thread: &Thread<D>, at: [u32; 2]) -> Option<usize>
     ensures there { IfSome result (IsPairAt thread.now.kept.pairs (address_view at)) }
     ensures nowhere { IfNone result (AllByRecursion (λ p. same_pair p.at (address_view at) ≡ false) thread.now.kept.pairs) }

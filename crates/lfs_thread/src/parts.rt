@@ -9,12 +9,12 @@ use lfs_pair::Pair;
 #[derive(Drop)]
 pub struct ThreadParts<D: BlockDevice> {
     pub device: D,
-    /// The order of the names in each directory.
+    /// The order by which the names in each directory are sorted.
     pub order: NameOrder,
-    /// The cache of the blocks that were read last.
+    /// The cache of the blocks that were read most recently.
     pub cache: Cache,
-    /// The headers of the pairs, in the thread's order.
+    /// The headers of the metadata pairs, in the thread's order.
     pub pairs: Vec<Pair>,
-    /// The block map: the state of each block, free, used or in flight.
+    /// The block map, which records whether each block is free, in flight or used.
     pub map: BlockMap,
 }

@@ -1,4 +1,4 @@
-// A list of pairs' addresses, searched without a pass over all of them.
+// A list of pair addresses that can be searched without a pass over the whole list.
 
 ghost use Rattle.std.specs.Prelude.{IfSome, IfNone, ◌≡◌, ◌++◌, ◌∷◌, [], ◌<◌, false, nat_eq, OnOk, OnErr, IfErr, length, map};
 ghost use Rattle.std.specs.List.{AllByRecursion, IsDistinct};
@@ -22,9 +22,9 @@ fn greater_block(pair: [u32; 2]) -> u32
     pair[0].max(pair[1])
 }
 
-/// A list of pairs' addresses, in which a pair is found by its blocks.
+/// A list of pair addresses with an index that finds a pair by its blocks.
 ///
-/// In contracts it is the list of the addresses.
+/// Contracts describe a `PairAddressList` as the sequence of its addresses.
 #[derive(Drop)]
 pub struct PairAddressList {
     addresses: Vec<[u32; 2]>,
@@ -46,7 +46,7 @@ impl Model for PairAddressList {
 }
 
 impl PairAddressList {
-    /// Makes an empty list.
+    /// Creates an empty list.
     pub fn new(alloc: Global) -> PairAddressList
         ensures { result ≡ [] }
     {
@@ -56,10 +56,10 @@ impl PairAddressList {
         }
     }
 
-    /// Appends the address of a pair to the list. Requires that no two pairs of the list share a
-    /// block.
+    /// Appends the address of a pair to the list. Requires that no two pairs in the resulting list
+    /// share a block.
     ///
-    /// Errors: `NoMemory` if memory isn't granted. The list is then unchanged.
+    /// Errors: `NoMemory` if memory can't be allocated. After an error, the list is unchanged.
     pub fn add(&mut self, pair: [u32; 2]) -> Result<(), Error>
         requires { IsDistinct nat_eq (blocks_of_addresses (self.old ++ address_view pair ∷ [])) }
         ensures added { OnOk result (self.new ≡ self.old ++ address_view pair ∷ []) }
@@ -83,8 +83,8 @@ impl PairAddressList {
         &self.addresses
     }
 
-    /// Returns the list index of the pair with these two blocks, in either order. Returns None if
-    /// no pair of the list has them.
+    /// Returns the list index of the address whose two blocks, in either order, are those of
+    /// `pair`. Returns None if the list has no such address.
     pub fn find(&self, pair: [u32; 2]) -> Option<u32>
         ensures value { result ≡ address_index self.now (address_view pair) }
         ensures within { IfSome result (λ place. place < length self.now) }

@@ -16,8 +16,9 @@ use lfs_device::{BlockDevice, Error};
 use lfs_pair::Change;
 use std::alloc::Global;
 
-// Splits the pair at `index`. The fresh pair follows it in the thread, in two blocks that are in
-// flight and used afterwards. After an error the headers, the map and the cache are unspecified.
+// Splits the pair at `index`. The new pair follows it in the thread, in two blocks that must be in
+// flight and are used afterwards. After an error, the headers, the map and the cache are
+// unspecified.
 pub(crate) fn split_pair<D: BlockDevice>(
     alloc: Global,
     parts: &mut ThreadParts<D>,
@@ -35,7 +36,7 @@ pub(crate) fn split_pair<D: BlockDevice>(
         (LossLeavesThreadSplit (kept_parts D.BlockDevice parts.old) index (address_view fresh) (changes_view changes.now)) }
 {
     let mut pair = parts.pairs[index];
-    // Allocates the room for the fresh pair's header before anything is written.
+    // Allocates memory for the new pair's header before anything is written.
     parts.pairs.insert(index + 1, pair)?;
     forget_cached_pair(&mut parts.cache, fresh);
     let fresh_pair = split_cached(

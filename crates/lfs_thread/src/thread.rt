@@ -44,16 +44,17 @@ use lfs_tag::{Log, MoveState, Tail, has_hard_tail};
 use std::alloc::Global;
 use std::marker::Model;
 
-/// All metadata pairs of a device, in the thread's order, kept in memory from one commit to the
-/// next. A block map and a cache of the blocks read last are kept with them.
+/// Keeps a device's metadata pairs in memory, in the order of littlefs's threaded linked-list (the
+/// *thread*). Also owns the device, a block map, and a cache of the blocks that were read most
+/// recently.
 ///
-/// A pair's index is its position in the thread, from 0 on and below [`len`](Thread::len). Most
-/// calls require a thread that hasn't failed. After an error of a step the thread has failed: the
-/// device may differ from what is kept, so the caller reads the thread again. In contracts a thread
-/// that hasn't failed is what the device holds.
+/// A pair's index is its position in the thread, counted from 0. Most methods require that the
+/// thread hasn't failed. The thread fails if a method that writes metadata returns an error. The
+/// device may then differ from the pairs in memory, so the caller must read the thread again.
+/// Contracts model a thread that hasn't failed as the metadata pairs that its device stores.
 #[derive(Drop)]
 pub struct Thread<D: BlockDevice> {
-    // Nothing here depends on the order of the names.
+    // No part except `order` depends on the order of names.
     parts: ThreadParts<D>,
     has_failed: bool,
 }
@@ -74,18 +75,18 @@ impl<D: BlockDevice> Model for Thread<D> {
 }
 
 impl<D: BlockDevice> Thread<D> {
-    /// Reads the thread of a device: the pair of blocks 0 and 1, then each pair that the tail
-    /// before it names (SPEC.md of littlefs, "The metadata tree"). Each pair is fetched once, and
-    /// nothing is written. In the new map the pairs' blocks are used, and all others are free.
+    /// Reads a device's thread: the pair of blocks 0 and 1, then each pair that the previous pair's
+    /// tail points to (SPEC.md of littlefs, "The metadata tree"). Fetches each pair once and writes
+    /// nothing. The new block map marks the pairs' blocks as used and all other blocks as free.
     ///
-    /// The order of the names is that of littlefs's own code until [`set_order`](Thread::set_order)
+    /// The order of names is that of littlefs's own code until [`set_order`](Thread::set_order)
     /// changes it.
     ///
-    /// Errors: `Corrupt` only if the device has no thread, with the rule that it breaks: an address
-    /// is out of range (`OutOfRange`), a block occurs twice (`OneBlock`, `TwoPairs`), or a pair
-    /// holds no content in which each slot has a name and a struct (`NoContent`). `Io` if a read
-    /// failed. `NoMemory` if memory for the headers, the map, or a block and its slots isn't
-    /// granted. The device is returned with the error.
+    /// Errors: `Corrupt` only if the device's thread is invalid. The error contains the rule that
+    /// the device breaks. An address is out of range (`OutOfRange`), a block occurs twice
+    /// (`OneBlock`, `TwoPairs`), or a pair has no valid log whose slots all have a name and a
+    /// struct (`NoContent`). `Io` if a read fails. `NoMemory` if memory can't be allocated for the
+    /// headers, the map, or a block and its slots. Every error also returns the device.
     pub fn read(alloc: Global, mut device: D) -> Result<Thread<D>, (D, MountError)>
         ensures read { IfOk result (IsReadThread D.BlockDevice device) }
         ensures broken { IfErr result (λ e. IsThreadViolation (disk_of_device D.BlockDevice device) e.1) }
@@ -112,8 +113,9 @@ impl<D: BlockDevice> Thread<D> {
         }
     }
 
-    /// Takes the thread apart, for work on all of its parts at once. [`Thread::from_parts`] puts
-    /// them together again. Requires a thread that hasn't failed.
+    /// Splits the thread into its parts, so that the caller can work on all of them at once.
+    /// [`Thread::from_parts`] puts the parts together again. Requires that the thread hasn't
+    /// failed.
     pub fn into_parts(self) -> ThreadParts<D>
         requires works { self.failed ≡ false }
         ensures kept { IsKept D.BlockDevice result.device result.pairs.items result.map }
@@ -124,9 +126,9 @@ impl<D: BlockDevice> Thread<D> {
         self.parts
     }
 
-    /// Puts a thread together from its parts. Requires that the headers were at some time those of
-    /// the device's thread, and that the device was only read since then. The map must have the
-    /// pairs' blocks as used. Each cached block must have the bytes that the device has.
+    /// Builds a thread from its parts. Requires that the headers were once those of the device's
+    /// thread, and that the device has only been read since then. Requires that the map marks the
+    /// pairs' blocks as used. Requires that each cached block has the same bytes as on the device.
     pub fn from_parts(parts: ThreadParts<D>) -> Thread<D>
         requires kept { WasKeptOnDevice D.BlockDevice parts.device parts.pairs.items parts.map }
         requires current { IsCacheCurrent (D.blocks parts.device) parts.cache }
@@ -140,7 +142,7 @@ impl<D: BlockDevice> Thread<D> {
         }
     }
 
-    /// Returns the device, as the last call left it, also if the thread has failed.
+    /// Returns a reference to the device, even if the thread has failed.
     pub fn device(&self) -> &D
         ensures disk { ordered_disk self.now.kept.disk.order (disk_of_device D.BlockDevice result.now) ≡ self.now.kept.disk }
         ensures history { D.history result.now ≡ self.now.kept.history }
@@ -148,22 +150,22 @@ impl<D: BlockDevice> Thread<D> {
         &self.parts.device
     }
 
-    /// Returns the order of the names in each directory.
+    /// Returns the order by which the names in each directory are sorted.
     pub fn order(&self) -> NameOrder
         ensures { result ≡ self.now.kept.disk.order }
     {
         self.parts.order
     }
 
-    /// Sets the order of the names. Nothing else of the thread depends on it.
+    /// Sets the order by which the names in each directory are sorted. The order of names doesn't
+    /// affect any other part of the thread.
     pub fn set_order(&mut self, order: NameOrder)
         ensures { self.new ≡ record self.old { kept = record self.old.kept { disk = ordered_disk order self.old.kept.disk } } }
     {
         self.parts.order = order;
     }
 
-    /// Ends the thread, and returns the device as the last call left it, also if the thread has
-    /// failed.
+    /// Consumes the thread and returns its device, even if the thread has failed.
     pub fn into_device(self) -> D
         ensures disk { ordered_disk self.kept.disk.order (disk_of_device D.BlockDevice result) ≡ self.kept.disk }
         ensures history { D.history result ≡ self.kept.history }
@@ -171,8 +173,8 @@ impl<D: BlockDevice> Thread<D> {
         self.parts.device
     }
 
-    /// Returns the global state: the XOR of all pairs' deltas (DESIGN.md of littlefs, "The move
-    /// problem").
+    /// Returns the global state, which is the XOR of all pairs' gstate deltas (DESIGN.md of
+    /// littlefs, "The move problem").
     pub fn state(&self) -> MoveState
         requires works { self.now.failed ≡ false }
         ensures { move_view result ≡ pairs_gstate self.now.kept.pairs }
@@ -180,14 +182,15 @@ impl<D: BlockDevice> Thread<D> {
         headers_gstate(&self.parts.pairs)
     }
 
-    /// Returns the number of pairs.
+    /// Returns the number of metadata pairs.
     pub fn len(&self) -> usize
         ensures { result ≡ length self.now.kept.pairs }
     {
         self.parts.pairs.len()
     }
 
-    /// Returns the two blocks of the pair at `index`, in the order of the tail that names them.
+    /// Returns the two blocks of the pair at `index`, in the order of the tail that points to the
+    /// pair.
     pub fn blocks_of_pair(&self, index: usize) -> [u32; 2]
         requires { index < length self.now.kept.pairs }
         ensures { address_view result ≡ (thread_pair self.now.kept index).at }
@@ -195,7 +198,7 @@ impl<D: BlockDevice> Thread<D> {
         self.parts.pairs[index].blocks
     }
 
-    /// Returns the number of slots of the pair at `index`.
+    /// Returns the number of slots (littlefs's file ids) in the pair at `index`.
     pub fn slot_count(&self, index: usize) -> usize
         requires works { self.now.failed ≡ false }
         requires below { index < length self.now.kept.pairs }
@@ -204,7 +207,7 @@ impl<D: BlockDevice> Thread<D> {
         self.parts.pairs[index].slot_count
     }
 
-    /// Returns the revision of the pair at `index`: that of its active block.
+    /// Returns the revision count of the active block of the pair at `index`.
     pub fn revision(&self, index: usize) -> u32
         requires works { self.now.failed ≡ false }
         requires below { index < length self.now.kept.pairs }
@@ -213,9 +216,9 @@ impl<D: BlockDevice> Thread<D> {
         self.parts.pairs[index].revision
     }
 
-    /// Returns the index of the next pair of the same directory, which a hard tail names (SPEC.md
-    /// of littlefs, "0x601 LFS_TYPE_HARDTAIL"). Returns None if the pair's tail is soft, or if it
-    /// has none.
+    /// Returns the index of the next pair of the same directory if the pair at `index` has a hard
+    /// tail (SPEC.md of littlefs, "0x601 LFS_TYPE_HARDTAIL"). Returns None if the pair's tail is
+    /// soft or missing.
     pub fn next(&self, index: usize) -> Option<usize>
         requires works { self.now.failed ≡ false }
         requires below { index < length self.now.kept.pairs }
@@ -229,8 +232,8 @@ impl<D: BlockDevice> Thread<D> {
         }
     }
 
-    /// Returns the tail of the pair at `index`: the next pair of the thread, and whether it
-    /// continues the same directory. Returns None at the thread's end.
+    /// Returns the tail of the pair at `index`. The tail points to the next pair, and is hard if
+    /// that pair continues the same directory. Returns None for the last pair of the thread.
     pub fn tail_of_pair(&self, index: usize) -> Option<Tail>
         requires works { self.now.failed ≡ false }
         requires below { index < length self.now.kept.pairs }
@@ -239,7 +242,7 @@ impl<D: BlockDevice> Thread<D> {
         self.parts.pairs[index].tail
     }
 
-    /// Returns the delta of the global state of the pair at `index`.
+    /// Returns the gstate delta that the pair at `index` stores.
     pub fn delta(&self, index: usize) -> MoveState
         requires works { self.now.failed ≡ false }
         requires below { index < length self.now.kept.pairs }
@@ -248,11 +251,12 @@ impl<D: BlockDevice> Thread<D> {
         self.parts.pairs[index].move_state
     }
 
-    /// Reads the active block of the pair at `index` into the cache, with one read, or none if it
-    /// is cached. The least recent of eight blocks then leaves the cache.
+    /// Reads the active block of the pair at `index` into the cache, unless the block is already
+    /// cached. Makes at most one read. The cache keeps the eight blocks that were loaded most
+    /// recently.
     ///
-    /// Errors: `Io` if the read failed, `NoMemory` if memory for the block isn't granted. The
-    /// thread doesn't fail by either, and its pairs and map stay as they are.
+    /// Errors: `Io` if the read fails. `NoMemory` if memory for the block can't be allocated.
+    /// Neither error makes the thread fail, and neither changes the pairs or the map.
     pub fn load_pair(&mut self, index: usize) -> Result<(), Error>
         requires works { self.old.failed ≡ false }
         requires below { index < length self.old.kept.pairs }
@@ -262,15 +266,15 @@ impl<D: BlockDevice> Thread<D> {
         ensures few { read_count self.new.kept.history ≤ read_count self.old.kept.history + 1 }
         ensures works { self.new.failed ≡ false }
         ensures errors { ThreadReportsErrors self.old.kept self.new.kept result }
-        // The eight blocks that were loaded last stay cached.
+        // The cache keeps the eight blocks that were loaded most recently.
         ensures recent { OnOk result (self.new.cache ≡ loaded_cache self.old index) }
     {
         let block = self.parts.pairs[index].active;
         self.parts.cache.fill(&mut self.parts.device, block)
     }
 
-    /// Borrows the log of the pair at `index`. Its checksums aren't computed again. Returns None if
-    /// the pair's active block isn't cached.
+    /// Borrows the log of the pair at `index` from the cache, without computing the log's checksums
+    /// again. Returns None if the pair's active block isn't cached.
     pub fn lend(&self, index: usize) -> Option<Log<'_>>
         requires works { self.now.failed ≡ false }
         requires below { index < length self.now.kept.pairs }
@@ -285,12 +289,12 @@ impl<D: BlockDevice> Thread<D> {
         }
     }
 
-    /// Reads a file's bytes from position `pos` on into the buffer, as many as the buffer and the
-    /// file's `size` allow. Returns how many. The file's list has its last block at `head`.
-    /// Requires a well-formed list, as each file's list is in an accepted image. The cache stays as
-    /// it is.
+    /// Reads bytes of a CTZ skip-list from offset `pos` into the buffer, until the buffer is full
+    /// or the list ends. Returns the number of bytes read. The list's last block is `head`, and its
+    /// size in bytes is `size`. Requires a well-formed list; every list in an accepted image is
+    /// well formed. Doesn't use the cache.
     ///
-    /// Errors: `Io` if a read failed. The buffer may then hold any bytes.
+    /// Errors: `Io` if a read fails. The contents of the buffer are then unspecified.
     pub fn read_list(
         &mut self,
         head: u32,
@@ -309,15 +313,17 @@ impl<D: BlockDevice> Thread<D> {
         read_at(&mut self.parts.device, head, size, pos, buf)
     }
 
-    /// Reads a file's bytes as [`read_list`](Thread::read_list) does, starting the walk at the
-    /// nearest block of the index cache `known`. Adds the blocks on the walk to it, and notes where
-    /// the read ends. The index cache must be of that list.
+    /// Reads bytes of a CTZ skip-list as [`read_list`](Thread::read_list) does, but starts its walk
+    /// at the nearest block in `known`. `known` is the list's index cache, which maps indices of
+    /// the list to block numbers. Adds the blocks on the walk to the index cache, and records where
+    /// the read ends.
     ///
-    /// A read that begins where the last one ended, within one block of the index cache, reads that
-    /// block whole into the thread's cache, if memory for it is granted. Further reads within a
-    /// cached block don't call the device.
+    /// A read that begins where the previous one ended, and stays within one block of the index
+    /// cache, loads that whole block into the thread's cache. If memory for the block can't be
+    /// allocated, reads only the requested bytes. A read within a cached block doesn't call the
+    /// device.
     ///
-    /// Errors: `Io` if a read failed. The buffer may then hold any bytes.
+    /// Errors: `Io` if a read fails. The contents of the buffer are then unspecified.
     pub fn read_known_list(
         &mut self,
         head: u32,
@@ -347,8 +353,8 @@ impl<D: BlockDevice> Thread<D> {
         known.read_at(&mut self.parts.device, head, size, pos, buf)
     }
 
-    /// Allocates a free block, which is then in flight, and returns its number. Returns None
-    /// exactly if no block is free.
+    /// Allocates a free block and returns its number. An allocated block is in flight until a
+    /// commit refers to it. Returns None if and only if no block is free.
     pub fn take(&mut self) -> Option<u32>
         ensures was_free { IfSome result (IsFree self.old.kept.map) }
         ensures taken { IfSome result (λ block. self.new ≡ record self.old { kept = record self.old.kept { map = slice_set self.old.kept.map block InFlight } }) }
@@ -361,7 +367,7 @@ impl<D: BlockDevice> Thread<D> {
         }
     }
 
-    /// Allocates this free block, which is then in flight.
+    /// Allocates the free block `block` and marks it as in flight.
     pub fn take_at(&mut self, block: u32)
         requires { IsFree self.old.kept.map block }
         ensures { self.new ≡ record self.old { kept = record self.old.kept { map = slice_set self.old.kept.map block InFlight } } }
@@ -369,7 +375,7 @@ impl<D: BlockDevice> Thread<D> {
         self.parts.map.take_at(block);
     }
 
-    /// Makes a block in flight free again. Callers release blocks that no commit names.
+    /// Frees a block that is in flight. Callers release only blocks to which no commit refers.
     pub fn release(&mut self, block: u32)
         requires { IsInFlight self.old.kept.map block }
         ensures { self.new ≡ record self.old { kept = record self.old.kept { map = slice_set self.old.kept.map block Free } } }
@@ -377,16 +383,16 @@ impl<D: BlockDevice> Thread<D> {
         self.parts.map.release(block);
     }
 
-    /// Commits changes to the pair at `index`. Requires that its tail still names the same pair
-    /// afterwards. The changes may change the pair's delta of the global state, and whether its
-    /// tail is hard. If the active block is cached, it isn't read. If the changes were appended to
-    /// it, it is cached afterwards.
+    /// Commits changes to the pair at `index`. The changes may alter the pair's gstate delta, and
+    /// whether its tail is hard. Requires that the tail still points to the same pair afterwards.
+    /// Doesn't read the active block if it is cached. A block to which the changes are appended is
+    /// cached afterwards.
     ///
-    /// Returns `Full` if the changed content doesn't fit the pair. Then nothing is written.
+    /// Returns `Full`, and writes nothing, if the changed content doesn't fit the pair.
     ///
-    /// Errors: `Io` if a call of the device failed. `NoMemory` if memory for the slots and for two
-    /// blocks isn't granted, of which one may be cached; then nothing is written. After either the
-    /// thread has failed.
+    /// Errors: `Io` if a call of the device fails. `NoMemory`, with nothing written, if memory
+    /// can't be allocated for the slots and for up to two blocks. After either error, the thread
+    /// has failed.
     pub fn commit_pair_changes(
         &mut self,
         alloc: Global,
@@ -414,10 +420,11 @@ impl<D: BlockDevice> Thread<D> {
         outcome
     }
 
-    /// Commits changes to the pair at `index` and splits it in two. The pair keeps the first slots
-    /// and its delta of the global state. The fresh pair, in the two blocks `fresh`, follows it in
-    /// the thread. It gets the other slots and the tail, which must still name the same pair. The
-    /// two blocks must be in flight, and are used afterwards.
+    /// Commits changes to the pair at `index` and splits it in two. The old pair keeps the first
+    /// slots and its gstate delta. The new pair, in the two blocks `fresh`, follows the old one in
+    /// the thread and gets the other slots and the tail. Requires that the tail still points to the
+    /// same pair after the changes. Requires that both new blocks are in flight, and marks them as
+    /// used.
     ///
     /// Errors are those of [`commit_pair_changes`](Thread::commit_pair_changes).
     pub fn split(
@@ -440,16 +447,16 @@ impl<D: BlockDevice> Thread<D> {
         result
     }
 
-    /// Puts a fresh pair into the thread behind the pair at `index`, in the two blocks `fresh`. The
-    /// fresh pair has no slots, and the old tail of the pair at `index`. Then the changes are
-    /// committed to the pair at `index`; its tail must then name the fresh pair. The two blocks
-    /// must be in flight, and are used afterwards.
+    /// Inserts an empty pair into the thread after the pair at `index`, in the two blocks `fresh`.
+    /// The new pair gets the old tail of the pair at `index`. Then commits the changes to the pair
+    /// at `index`. The changes must set this pair's tail to the new pair. Requires that both new
+    /// blocks are in flight, and marks them as used.
     ///
-    /// Returns `Full` if the changed content doesn't fit the pair at `index`. Then no tail names
-    /// the fresh pair, and its blocks stay in flight.
+    /// Returns `Full` if the changed content doesn't fit the pair at `index`. In that case, no tail
+    /// points to the new pair, and its blocks stay in flight.
     ///
-    /// Errors are those of [`commit_pair_changes`](Thread::commit_pair_changes), except that at
-    /// `NoMemory` the two blocks may have been written.
+    /// Errors are those of [`commit_pair_changes`](Thread::commit_pair_changes), except that
+    /// `NoMemory` may be returned after the two new blocks were written.
     pub fn thread_in(
         &mut self,
         alloc: Global,
@@ -469,10 +476,10 @@ impl<D: BlockDevice> Thread<D> {
         self.join(alloc, index, Behind::Empty, fresh, changes)
     }
 
-    // Writes a fresh pair into the two blocks `fresh`, with the content that `behind` says, and
-    // commits the changes to the pair at `index`, whose tail then names the fresh pair.
+    // Writes a new pair into the two blocks `fresh`, with the content that `behind` selects. Then
+    // commits the changes, which set the tail to the new pair, to the pair at `index`.
     //
-    // Returns `Full` and errors as `thread_in` does.
+    // Returns `Full` and errors in the same cases as `thread_in`.
     fn join(
         &mut self,
         alloc: Global,
@@ -496,11 +503,12 @@ impl<D: BlockDevice> Thread<D> {
         outcome
     }
 
-    /// Drops the pair behind the one at `index` from the thread. The changes are committed to the
-    /// pair at `index`; its tail must then name what the dropped pair's tail names. The dropped
-    /// pair's blocks are free afterwards.
+    /// Drops the pair after the one at `index` from the thread. Commits the changes to the pair at
+    /// `index`. The changes must set this pair's tail to the target of the dropped pair's tail.
+    /// Frees the blocks of the dropped pair.
     ///
-    /// Returns `Full` and errors as [`commit_pair_changes`](Thread::commit_pair_changes) does.
+    /// Returns `Full` and errors in the same cases as
+    /// [`commit_pair_changes`](Thread::commit_pair_changes).
     pub fn drop_next(
         &mut self,
         alloc: Global,
@@ -521,12 +529,13 @@ impl<D: BlockDevice> Thread<D> {
         outcome
     }
 
-    /// Relocates the pair behind the one at `index` to the two blocks `fresh`. It keeps its slots,
-    /// tail and delta, with the next revision. Then a tail that names it there is committed to the
-    /// pair at `index`, whose tail must be a hard one. The two blocks must be in flight, and are
-    /// used afterwards; the old ones are free.
+    /// Relocates the pair after the one at `index` to the two blocks `fresh`. The relocated pair
+    /// keeps its slots, tail and gstate delta, and gets the next revision count. Then commits to
+    /// the pair at `index` a hard tail that points to the relocated pair. Requires that the pair at
+    /// `index` already has a hard tail. Requires that both new blocks are in flight. Marks the new
+    /// blocks as used and frees the old ones.
     ///
-    /// Requires also that the slots of both pairs fit a pair each.
+    /// Also requires that each of the two pairs still fits into a block after a compaction.
     ///
     /// Errors are those of [`thread_in`](Thread::thread_in).
     pub fn move_next(&mut self, alloc: Global, index: usize, fresh: [u32; 2]) -> Result<(), Error>
@@ -542,7 +551,7 @@ impl<D: BlockDevice> Thread<D> {
             hard: true,
             pair: Some(fresh),
         };
-        // Tells the proof what is kept of the pairs.
+        // Lets the proof use the invariant of the thread.
         let _ = &self.parts;
         match self.join(alloc, index, Behind::Next, fresh, &[tail]) {
             Ok(Outcome::Done) => Ok(()),
@@ -551,12 +560,14 @@ impl<D: BlockDevice> Thread<D> {
         }
     }
 
-    /// Unloads the pair at `index` to a fresh pair behind it, in the two blocks `fresh`. First the
-    /// fresh pair gets all slots of that pair and its tail, with the next revision. Then that pair
-    /// keeps only its first `keep` slots and its delta, and gets a hard tail to the fresh pair. The
-    /// two blocks must be in flight, and are used afterwards.
+    /// Moves slots of the pair at `index` into a new pair after it, in the two blocks `fresh`.
+    /// First writes all slots and the tail of the old pair to the new pair, with the next revision
+    /// count. Then changes the old pair by one commit, so that it keeps only its first `keep` slots
+    /// and its gstate delta, and has a hard tail to the new pair. Requires that both new blocks are
+    /// in flight, and marks them as used.
     ///
-    /// Requires also that the pair has at least `keep` slots, and that its slots fit a pair.
+    /// Also requires that the old pair has at least `keep` slots, and that it still fits into a
+    /// block after a compaction.
     ///
     /// Errors are those of [`thread_in`](Thread::thread_in).
     pub fn unload(
@@ -574,7 +585,7 @@ impl<D: BlockDevice> Thread<D> {
         ensures device { ChangesWithinReads (4 + reads_unless_cached (cached_log self.old index)) (addresses_blocks (thread_pair self.old.kept index).at (address_view fresh)) self.old.kept self.new.kept }
         ensures stops { CleanLossLeaves self.old.kept.history self.new.kept.history (LossLeavesUnloaded self.old.kept index (address_view fresh) keep) }
     {
-        // Tells the proof what is kept of the pairs.
+        // Lets the proof use the invariant of the thread.
         let _ = &self.parts;
         let count = self.slot_count(index) - usize::from(keep);
         let changes = match unload_changes(alloc, fresh, keep, count) {
@@ -591,10 +602,10 @@ impl<D: BlockDevice> Thread<D> {
         }
     }
 
-    /// Calls `work` with the device and the map, and returns its result. Such work writes a file's
-    /// list into free blocks or blocks in flight, or settles it in the map. Requires that it
-    /// changes no used block, and that the pairs' blocks stay used. Blocks that weren't used before
-    /// aren't cached afterwards.
+    /// Calls `work` with the device and the block map, and returns the result of `work`. Callers
+    /// use this method to write a file's list into blocks that aren't used, or to mark a committed
+    /// list's blocks as used. Requires that `work` changes no used block, and that the pairs'
+    /// blocks stay used. Removes blocks that aren't used from the cache before it calls `work`.
     pub fn run_work<X, F: FnOnce(&mut D, &mut BlockMap) -> X>(&mut self, work: F) -> X
         requires works { self.old.failed ≡ false }
         requires can { (device : D) (map : BlockMap) → BelongToThread D.BlockDevice self.old.kept device map → CanRunWork F.FnOnce work device map }
@@ -609,7 +620,7 @@ impl<D: BlockDevice> Thread<D> {
         work(&mut self.parts.device, &mut self.parts.map)
     }
 
-    /// Marks the thread as failed, for callers whose work on its parts went wrong.
+    /// Marks the thread as failed, for callers whose work on the thread's parts went wrong.
     pub fn fail(&mut self)
         ensures { self.new ≡ record self.old { failed = true } }
     {
@@ -623,7 +634,7 @@ impl<D: BlockDevice> Thread<D> {
         self.has_failed
     }
 
-    /// Makes a failed thread of its parts. Nothing is required of what its device holds.
+    /// Builds a failed thread from its parts. The device may have any contents.
     pub fn failed_thread(parts: ThreadParts<D>) -> Thread<D>
         ensures failed { result.failed ≡ true }
         ensures kept { result.kept ≡ kept_in_order D.BlockDevice parts.order parts.device parts.pairs.items parts.map }
@@ -648,9 +659,8 @@ impl<D: BlockDevice> Thread<D> {
         self.parts.map.used_count()
     }
 
-    /// Sets where the search of [`take`](Thread::take) begins: at the first free block from
-    /// `number` on, modulo the number of blocks. Returns that block, or None exactly if no block is
-    /// free.
+    /// Makes [`take`](Thread::take) begin its search at the first free block from `number` on,
+    /// modulo the number of blocks. Returns that block, or None if and only if no block is free.
     pub fn start_search_at(&mut self, number: u32) -> Option<u32>
         ensures begins { BeginsAt self.old.kept.map number result }
         ensures same { self.new ≡ self.old }
@@ -658,14 +668,14 @@ impl<D: BlockDevice> Thread<D> {
         self.parts.map.start_search_at(number)
     }
 
-    /// Returns the number at which the search of [`take`](Thread::take) begins, modulo the number
-    /// of blocks.
+    /// Returns the block number, modulo the number of blocks, at which [`take`](Thread::take)
+    /// begins its search.
     pub fn next_start(&self) -> u32 {
         self.parts.map.next_start()
     }
 
-    /// Returns whether a block is free: neither used nor in flight. Requires a block below the
-    /// device's number of blocks.
+    /// Returns whether `block` is free, that is, neither used nor in flight. Requires that `block`
+    /// is less than the device's number of blocks.
     pub fn is_free(&self, block: u32) -> bool
         requires { block < length self.now.kept.map }
         ensures { IsTrue result ↔ IsFree self.now.kept.map block }
@@ -673,8 +683,8 @@ impl<D: BlockDevice> Thread<D> {
         self.parts.map.is_free(block)
     }
 
-    /// Returns whether a block is used. A block in flight isn't. Requires a block below the
-    /// device's number of blocks.
+    /// Returns whether `block` is used. A block in flight isn't used. Requires that `block` is less
+    /// than the device's number of blocks.
     pub fn is_used(&self, block: u32) -> bool
         requires { block < length self.now.kept.map }
         ensures { IsTrue result ↔ IsUsedBlock self.now.kept.map block }
@@ -683,7 +693,7 @@ impl<D: BlockDevice> Thread<D> {
     }
 }
 
-// Makes an empty cache, and a map of `block_count` free blocks.
+// Creates an empty cache, and a map of `block_count` free blocks.
 fn cache_and_map(alloc: Global, block_count: u32) -> Result<(Cache, BlockMap), Error>
     ensures empty { IfOk result (λ parts. parts.0 ≡ []) }
     ensures free { IfOk result (λ parts. parts.1 ≡ replicate block_count Free) }
@@ -694,8 +704,8 @@ fn cache_and_map(alloc: Global, block_count: u32) -> Result<(Cache, BlockMap), E
     Ok((cache, map))
 }
 
-// Returns the changes that delete `count` slots behind the first `keep`, and set a hard tail to the
-// fresh pair.
+// Returns the changes that delete the `count` slots after the first `keep` slots, and set a hard
+// tail to the new pair.
 fn unload_changes<'a>(
     alloc: Global,
     fresh: [u32; 2],

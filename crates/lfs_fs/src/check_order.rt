@@ -1,4 +1,4 @@
-// Checks in order: the first that fails is the refusal.
+// Checks in order. The first check that fails determines the refusal.
 
 ghost use Rattle.std.specs.Prelude.{◌≡◌, ◌&&◌};
 ghost use Rattle.lfs_model.specs.session.Session.{first_refusal};
@@ -19,7 +19,7 @@ pub(crate) fn find_first_refusal(checks: &[Option<Refusal>]) -> Option<Refusal>
     None
 }
 
-// Returns the value, or the error of the first check that fails.
+// Returns `value`, or the error of the first check that fails.
 pub(crate) fn value_or_refusal<T: Drop>(checks: &[Option<Refusal>], value: T) -> Result<T, Error>
     ensures { result ≡ result_unless_refused (first_refusal checks.now) value }
 {
@@ -29,7 +29,7 @@ pub(crate) fn value_or_refusal<T: Drop>(checks: &[Option<Refusal>], value: T) ->
     }
 }
 
-// Returns whether both are true.
+// Returns whether both arguments are true.
 pub(crate) fn are_both_true(first: bool, second: bool) -> bool
     ensures { result ≡ (first && second) }
 {

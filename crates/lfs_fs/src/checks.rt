@@ -29,7 +29,8 @@ use lfs_lookup::{
 use lfs_tree::Tree;
 use std::alloc::Global;
 
-// Returns whether a new entry with a name of that length would need too much of its metadata pair.
+// Returns whether a new entry with a name of `name_len` bytes would be too large for its metadata
+// pair.
 fn new_entry_overflows<D: BlockDevice>(tree: &Tree<D>, name_len: usize) -> bool
     requires { name_len < 2 ^ 63 }
     ensures { (name : List ℕ) → length name ≡ name_len → result ≡ exceeds_charge (tree_summary tree.now) name [] }
@@ -37,8 +38,8 @@ fn new_entry_overflows<D: BlockDevice>(tree: &Tree<D>, name_len: usize) -> bool
     entry_overflows(tree, name_len, 0)
 }
 
-// Returns whether an entry would need too much of its metadata pair, by the lengths in bytes of its
-// name and its attributes.
+// Returns whether an entry would be too large for its metadata pair, given the lengths in bytes of
+// its name and its attributes.
 pub(crate) fn entry_overflows<D: BlockDevice>(
     tree: &Tree<D>,
     name_len: usize,
@@ -52,14 +53,14 @@ pub(crate) fn entry_overflows<D: BlockDevice>(
     u64::from(geometry.entry_size_limit()) < entry.saturating_add(attributes_len as u64)
 }
 
-// Returns whether a name of that length is longer than the profile allows.
+// Returns whether the profile doesn't allow a name of `name_len` bytes.
 pub(crate) fn name_is_long<D: BlockDevice>(tree: &Tree<D>, name_len: usize) -> bool
     ensures { result ≡ nat_lt (profile_name_max tree.now.disk.profile) name_len }
 {
     name_len > tree.geometry().name_max() as usize
 }
 
-// Returns whether a file of that size is longer than the profile allows.
+// Returns whether the profile doesn't allow a file of `size` bytes.
 fn file_is_long<D: BlockDevice>(tree: &Tree<D>, size: u64) -> bool
     ensures longer { result ≡ nat_lt (profile_file_max tree.now.disk.profile) size }
     ensures small { result ≡ false → size < 2 ^ 31 }
@@ -67,14 +68,14 @@ fn file_is_long<D: BlockDevice>(tree: &Tree<D>, size: u64) -> bool
     size > u64::from(tree.geometry().file_max())
 }
 
-// Returns whether an attribute of that length is longer than the profile allows.
+// Returns whether the profile doesn't allow an attribute of `len` bytes.
 fn attribute_is_long<D: BlockDevice>(tree: &Tree<D>, len: usize) -> bool
     ensures { result ≡ nat_lt (profile_attr_max tree.now.disk.profile) len }
 {
     len > tree.geometry().attr_max() as usize
 }
 
-// Returns whether fewer than `need` blocks are free, besides those reserved for a writer.
+// Returns whether fewer than `need` blocks are free, apart from those reserved for a writer.
 pub(crate) fn lacks_blocks<D: BlockDevice>(tree: &Tree<D>, files: &Files, need: u32) -> bool
     requires works { tree.now.failed ≡ false }
     requires small { need < 16 }
@@ -85,7 +86,7 @@ pub(crate) fn lacks_blocks<D: BlockDevice>(tree: &Tree<D>, files: &Files, need: 
     (geometry.block_count as u64) < tree.used_count() as u64 + held + need as u64
 }
 
-/// Returns the kind and size of the entry at a path, or the first check's refusal.
+/// Returns the kind and size of the entry at a path, or the refusal of the first check that fails.
 pub fn check_and_stat<D: BlockDevice>(
     alloc: Global,
     tree: &mut Tree<D>,
@@ -111,7 +112,8 @@ pub fn check_and_stat<D: BlockDevice>(
     value_or_refusal(&checks, Stat::from_size(found.node.size()))
 }
 
-/// Returns the parsed path of a directory that may be made, or the first check's refusal.
+/// Returns the parsed path of a directory that may be made, or the refusal of the first check that
+/// fails.
 pub fn check_mkdir<'a, D: BlockDevice>(
     alloc: Global,
     tree: &mut Tree<D>,
@@ -141,7 +143,7 @@ pub fn check_mkdir<'a, D: BlockDevice>(
     value_or_refusal(&checks, path)
 }
 
-/// Checks whether the open file of that number may be set to the position.
+/// Checks whether the position of the open file `fd` may be set to `position`.
 pub fn check_seek<D: BlockDevice>(
     tree: &Tree<D>,
     files: &Files,
@@ -162,7 +164,8 @@ pub fn check_seek<D: BlockDevice>(
     Ok(())
 }
 
-/// Returns the contents of a file that may be opened for reading, or the first check's refusal.
+/// Returns the contents of a file that may be opened for reading, or the refusal of the first check
+/// that fails.
 pub fn check_open_reader<D: BlockDevice>(
     alloc: Global,
     tree: &mut Tree<D>,
@@ -198,13 +201,13 @@ pub fn check_open_reader<D: BlockDevice>(
 #[derive(Drop)]
 pub struct WritableFile<'a> {
     pub path: Path<'a>,
-    /// The file's size in bytes. None if it is to be created.
+    /// The file's size in bytes, or None if the file is to be created.
     pub size: Option<u32>,
-    /// The result of the look-up. None if a recovery has to come first.
+    /// The result of looking up the path, or None if the image must be recovered first.
     pub target: Option<PathLookup>,
 }
 
-// Returns whether too few blocks are free to truncate a file of that size to no bytes.
+// Returns whether too few blocks are free to truncate a file of `size` bytes to 0 bytes.
 fn lacks_truncate_room<D: BlockDevice>(tree: &Tree<D>, size: Option<u32>) -> bool
     requires { tree.now.failed ≡ false }
     ensures { result ≡ nat_lt (block_count tree.now.disk) (length (tree_summary tree.now).used + (if nat_lt 0 (unwrap_or size 0) then 2 else 0)) }
@@ -213,7 +216,7 @@ fn lacks_truncate_room<D: BlockDevice>(tree: &Tree<D>, size: Option<u32>) -> boo
     (tree.geometry().block_count as u64) < tree.used_count() as u64 + need
 }
 
-// Returns the refusal of an open for writing at a path without an entry, if any.
+// Returns the refusal, if any, of opening a path without an entry for writing.
 fn creation_refusal<D: BlockDevice>(
     tree: &Tree<D>,
     files: &Files,
@@ -240,7 +243,7 @@ fn creation_refusal<D: BlockDevice>(
     find_first_refusal(&checks)
 }
 
-// Returns the refusal of an open for writing of an entry, if any.
+// Returns the refusal, if any, of opening an existing entry for writing.
 fn reopening_refusal<D: BlockDevice>(
     tree: &Tree<D>,
     files: &Files,
@@ -267,8 +270,8 @@ fn reopening_refusal<D: BlockDevice>(
     find_first_refusal(&checks)
 }
 
-/// Checks whether a file may be opened or created for writing, and returns the result of its
-/// look-up.
+/// Checks whether a file may be opened or created for writing, and returns the result of looking up
+/// its path.
 pub fn check_open_writer<'a, D: BlockDevice>(
     alloc: Global,
     tree: &mut Tree<D>,
@@ -310,7 +313,7 @@ pub fn check_open_writer<'a, D: BlockDevice>(
     value_or_refusal(&[refusal], file)
 }
 
-// Parses a path. Returns None if it isn't well formed, or is the root's.
+// Parses a path. Returns None if the path isn't well formed, or is the root.
 pub(crate) fn parse_entry_path<'a>(bytes: &'a [u8]) -> Option<Path<'a>>
     ensures { result ≡ entry_path bytes.now }
 {
@@ -321,7 +324,7 @@ pub(crate) fn parse_entry_path<'a>(bytes: &'a [u8]) -> Option<Path<'a>>
     }
 }
 
-/// Returns the entries of a directory in name order, or the first check's refusal.
+/// Returns the entries of a directory in name order, or the refusal of the first check that fails.
 pub fn check_and_list<D: BlockDevice>(
     alloc: Global,
     tree: &mut Tree<D>,
@@ -348,7 +351,7 @@ pub fn check_and_list<D: BlockDevice>(
     value_or_refusal(&checks, listing.items)
 }
 
-/// Returns an attribute's bytes, or the first check's refusal.
+/// Returns the bytes of an attribute, or the refusal of the first check that fails.
 pub fn check_get_attr<D: BlockDevice>(
     alloc: Global,
     tree: &mut Tree<D>,
@@ -375,8 +378,8 @@ pub fn check_get_attr<D: BlockDevice>(
     value_or_refusal(&checks, found.bytes.unwrap_or(Vec::new(alloc)))
 }
 
-/// Returns the parsed path of an entry whose attribute may be removed, or the first check's
-/// refusal.
+/// Returns the parsed path of an entry whose attribute may be removed, or the refusal of the first
+/// check that fails.
 pub fn check_remove_attr<'a, D: BlockDevice>(
     alloc: Global,
     tree: &mut Tree<D>,
@@ -404,7 +407,8 @@ pub fn check_remove_attr<'a, D: BlockDevice>(
     value_or_refusal(&checks, path)
 }
 
-/// Returns the parsed path of an entry that may be removed, or the first check's refusal.
+/// Returns the parsed path of an entry that may be removed, or the refusal of the first check that
+/// fails.
 pub fn check_remove<'a, D: BlockDevice>(
     alloc: Global,
     tree: &mut Tree<D>,
@@ -432,8 +436,8 @@ pub fn check_remove<'a, D: BlockDevice>(
     value_or_refusal(&checks, path)
 }
 
-// Returns how many bytes the attributes will need, each with its tag, once one of `len` bytes
-// replaces `replaced`.
+// Returns how many bytes an entry's attributes and their tags will need after an attribute of `len`
+// bytes replaces `replaced`.
 fn replaced_attributes_size(taken: usize, replaced: &Option<Vec<u8>>, len: usize) -> usize
     requires { IncludesReplaced taken replaced.now len }
     ensures { result + replaced_size replaced.now ≡ taken + (4 + len) }
@@ -445,7 +449,8 @@ fn replaced_attributes_size(taken: usize, replaced: &Option<Vec<u8>>, len: usize
     taken + (4 + len) - gone
 }
 
-/// Returns the parsed path of an entry whose attribute may be set, or the first check's refusal.
+/// Returns the parsed path of an entry whose attribute may be set, or the refusal of the first
+/// check that fails.
 pub fn check_set_attr<'a, D: BlockDevice>(
     alloc: Global,
     tree: &mut Tree<D>,
@@ -482,7 +487,7 @@ pub fn check_set_attr<'a, D: BlockDevice>(
     value_or_refusal(&checks, path)
 }
 
-// Returns whether too few blocks are free to reserve those of a writer with `size` bytes.
+// Returns whether too few blocks are free to reserve those for a writer with `size` bytes.
 fn lacks_writer_room<D: BlockDevice>(tree: &Tree<D>, has_turned: bool, size: u32) -> bool
     requires { tree.now.failed ≡ false }
     ensures { result ≡ nat_lt (block_count tree.now.disk) (length (tree_summary tree.now).used + contents_reserve tree.now.disk.profile tree.now.disk.block_size has_turned size) }
@@ -492,7 +497,7 @@ fn lacks_writer_room<D: BlockDevice>(tree: &Tree<D>, has_turned: bool, size: u32
     (geometry.block_count as u64) < tree.used_count() as u64 + held
 }
 
-/// Checks whether the writer of that number may write the bytes.
+/// Checks whether the writer `fd` may write the bytes.
 pub fn check_write<D: BlockDevice>(
     tree: &Tree<D>,
     files: &Files,
@@ -522,7 +527,7 @@ pub fn check_write<D: BlockDevice>(
     Ok(())
 }
 
-/// Checks whether the writer of that number may be resized to `size` bytes.
+/// Checks whether the contents of the writer `fd` may be resized to `size` bytes.
 pub fn check_truncate<D: BlockDevice>(
     tree: &Tree<D>,
     files: &Files,
@@ -547,7 +552,7 @@ pub fn check_truncate<D: BlockDevice>(
     Ok(())
 }
 
-/// Checks whether a file is open under the number.
+/// Checks whether a file is open under the number `fd`.
 pub fn check_is_open<D: BlockDevice>(tree: &Tree<D>, files: &Files, fd: u32) -> Result<(), Error>
     ensures { IsReadlessResult (session_view tree.now files.now) (ops.Close fd) (λ _. is_some (open_file_at files.now fd) ≡ true) result }
 {
@@ -560,7 +565,7 @@ pub fn check_is_open<D: BlockDevice>(tree: &Tree<D>, files: &Files, fd: u32) -> 
     Ok(())
 }
 
-/// Checks whether a file is open under the number, for a sync.
+/// Checks whether the file `fd` may be synced, which requires only that it is open.
 pub fn check_sync_file<D: BlockDevice>(tree: &Tree<D>, files: &Files, fd: u32) -> Result<(), Error>
     ensures { IsReadlessResult (session_view tree.now files.now) (ops.Sync fd) (λ _. is_some (open_file_at files.now fd) ≡ true) result }
 {

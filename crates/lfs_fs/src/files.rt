@@ -26,7 +26,7 @@ use lfs_tree::Tree;
 use std::alloc::Global;
 use std::marker::Model;
 
-/// The number of an open file. An operation may carry a number that no `open` returned.
+/// The number of an open file. An operation may be passed a number that no `open` returned.
 pub type Fd = u32;
 
 /// A file that is open for reading.
@@ -34,9 +34,9 @@ pub type Fd = u32;
 pub struct Reader {
     pub path: OwnedPath,
     pub position: u32,
-    /// The contents that the file's entry names. They don't change while the file is open.
+    /// The contents of the file according to its entry, which don't change while the file is open.
     pub contents: FileContents,
-    /// The blocks of the file's CTZ skip list that reads have found.
+    /// The blocks of the file's CTZ skip-list that reads have found.
     pub known: KnownBlocks,
 }
 
@@ -47,21 +47,20 @@ pub struct Writer {
     pub position: u32,
     /// The length of the contents in bytes.
     pub size: u32,
-    /// Whether the writer writes at the end only.
+    /// Whether the writer writes only at the end of the file.
     pub appends: bool,
-    /// The draft: contents with changes that aren't synced. None if the contents are those of the
-    /// file.
+    /// The contents with changes that aren't synced, or None if there are no such changes.
     pub unsaved: Option<UnsavedContents>,
 }
 
-/// A writer's draft: contents with changes that aren't synced.
+/// The contents of a writer with changes that aren't synced.
 #[derive(Drop)]
 pub struct UnsavedContents {
     pub contents: WriterContents,
-    /// Whether a change didn't begin where the last one ended. The writer is then nonsequential,
-    /// and needs the blocks of a second list.
+    /// Whether a change began at another offset than the end of the previous change. Such a writer
+    /// is nonsequential, and needs the blocks of a second CTZ skip-list.
     pub has_turned: bool,
-    /// The end of the last change, in bytes from the beginning.
+    /// The end of the last change, in bytes from the beginning of the file.
     pub last_end: Option<u32>,
 }
 
@@ -72,7 +71,7 @@ pub enum OpenFile {
 }
 
 impl Writer {
-    /// Returns the position at which the next write begins, in bytes.
+    /// Returns the position in bytes at which the next write begins.
     pub fn place(&self) -> u32
         ensures { result ≡ (if self.now.appends then self.now.size else self.now.position) }
     {
@@ -83,7 +82,7 @@ impl Writer {
         }
     }
 
-    /// Returns whether the writer will be nonsequential after a change that begins at `begin`.
+    /// Returns whether the writer will be nonsequential after a change that begins at byte `begin`.
     pub fn turns_by_change(&self, begin: u32) -> bool
         ensures { result ≡ (is_unsaved_turned self.now.unsaved || turns_writer (last_change_end self.now.unsaved) begin) }
     {
@@ -103,7 +102,7 @@ impl Writer {
         }
     }
 
-    /// Returns the new `last_end` after a change of the size to `new_size`.
+    /// Returns the new value of `last_end` after the size is changed to `new_size`.
     pub fn change_end_resized(&self, new_size: u32) -> Option<u32>
         ensures { result ≡ (if nat_lt self.now.size new_size then Some new_size else last_change_end self.now.unsaved) }
     {
@@ -113,7 +112,7 @@ impl Writer {
         }
     }
 
-    // Returns how many free blocks are reserved for the writer.
+    // Returns the number of free blocks that are reserved for the writer.
     fn reserved_block_count(&self, geometry: Geometry) -> u64
         ensures held { result ≡ writer_reserve geometry.profile geometry.block_size self.now }
         ensures few { result < 2 ^ 34 }
@@ -144,7 +143,7 @@ fn begins_elsewhere(last_end: Option<u32>, begin: u32) -> bool
     }
 }
 
-/// The open files by number: at most 16 readers, and at most one writer.
+/// The open files by number: at most 16 readers and at most one writer.
 #[derive(Drop)]
 pub struct Files {
     entries: Vec<Option<OpenFile>>,
@@ -170,7 +169,7 @@ impl Files {
         }
     }
 
-    // Returns how many free blocks are reserved for the open writer.
+    // Returns the number of free blocks that are reserved for the open writer.
     pub(crate) fn reserved_block_count(&self, geometry: Geometry) -> u64
         ensures held { result ≡ writers_reserve geometry.profile geometry.block_size self.now }
         ensures few { result < 2 ^ 34 }
@@ -178,7 +177,8 @@ impl Files {
         blocks_reserved_among(&self.entries, geometry)
     }
 
-    // Returns whether no reader may be opened at the path: it has a writer, or 16 readers are open.
+    // Returns whether no reader may be opened at the path, because it has a writer or 16 readers
+    // are open.
     pub(crate) fn prevents_reader_at(&self, path: &[u8]) -> bool
         requires { is_some (parse_path path.now) ≡ true }
         ensures { result ≡ (list_any (λ w. same_path (path_or_root path.now) w.path) (writers_among self.now) || nat_le 16 (length (readers_among self.now))) }
@@ -186,7 +186,7 @@ impl Files {
         writers_have_path(&self.entries, path) || reader_count(&self.entries) >= 16
     }
 
-    /// Adds a reader at position 0, and returns its number: the least that is free.
+    /// Adds a reader at position 0. Returns the reader's number, which is the lowest free number.
     ///
     /// Errors: `NoMemory` if memory for the file can't be allocated.
     pub fn add_reader(
@@ -213,7 +213,7 @@ impl Files {
         Ok(number as u32)
     }
 
-    /// Borrows the reader of that number, if there is one.
+    /// Returns a reference to the reader with the number `fd`, if there is one.
     pub fn reader(&self, fd: u32) -> Option<&Reader>
         ensures { option_map (λ r. r.now) result ≡ reader_if_any (open_file_at self.now fd) }
     {
@@ -223,7 +223,7 @@ impl Files {
         }
     }
 
-    // Borrows the writer of that number, if there is one.
+    // Returns a reference to the writer with the number `fd`, if there is one.
     pub(crate) fn writer(&self, fd: u32) -> Option<&Writer>
         ensures { option_map (λ w. w.now) result ≡ writer_if_any (open_file_at self.now fd) }
     {
@@ -233,7 +233,7 @@ impl Files {
         }
     }
 
-    // Returns the position of the file of that number.
+    // Returns the position of the open file `fd`.
     pub(crate) fn position(&self, fd: u32) -> Option<u32>
         ensures { result ≡ option_map own_position (open_file_at self.now fd) }
     {
@@ -251,7 +251,8 @@ impl Files {
         is_writing(&self.entries)
     }
 
-    // Returns whether no writer may be opened at the path: a writer is open, or the file is.
+    // Returns whether no writer may be opened at the path, because a writer is open or the path's
+    // file is open.
     pub(crate) fn prevents_writer_at(&self, path: &[u8]) -> bool
         requires { is_some (parse_path path.now) ≡ true }
         ensures { (t : TreeState) → result ≡ (nat_lt 0 (length (writers_among self.now)) || has_open_file (same_path (path_or_root path.now)) (files_view t self.now)) }
@@ -259,7 +260,8 @@ impl Files {
         self.is_writing() || self.is_open_at(path)
     }
 
-    /// Allocates an entry for one more open file. Returns its number: the least that is free.
+    /// Allocates an entry for one more open file. Returns the file's number, which is the lowest
+    /// free number.
     pub fn reserve_number(&mut self) -> Result<u32, Error>
         requires { writers_among self.old ≡ [] }
         ensures number { IfOk result (λ fd. fd ≡ lowest_free self.old) }
@@ -282,10 +284,10 @@ impl Files {
         set_in_table(&mut self.entries, fd as usize, OpenFile::Writing(writer));
     }
 
-    // Writes bytes, at least one, by the writer of that number.
+    // Writes bytes, at least one, by the writer `fd`.
     //
-    // Errors: `Io` if a device call failed. `NoMemory` if memory can't be allocated. The tree has
-    // failed after either, and the writer can't be used.
+    // Errors: `Io` if a device call fails, or `NoMemory` if memory can't be allocated. After an
+    // error the tree has failed, and the writer can't be used.
     pub(crate) fn write<D: BlockDevice>(
         &mut self,
         alloc: Global,
@@ -303,10 +305,10 @@ impl Files {
         write_in_table(alloc, tree, &mut self.entries, fd as usize, bytes)
     }
 
-    // Sets the size of the contents of the writer of that number.
+    // Sets the size of the contents of the writer `fd`.
     //
-    // Errors: `Io` if a device call failed. `NoMemory` if memory can't be allocated. The tree has
-    // failed after either, and the writer can't be used.
+    // Errors: `Io` if a device call fails, or `NoMemory` if memory can't be allocated. After an
+    // error the tree has failed, and the writer can't be used.
     pub(crate) fn truncate<D: BlockDevice>(
         &mut self,
         alloc: Global,
@@ -324,10 +326,10 @@ impl Files {
         truncate_in_table(alloc, tree, &mut self.entries, fd as usize, new_size)
     }
 
-    // Commits the changes of the writer of that number to the tree.
+    // Commits the changes of the writer `fd` to the tree.
     //
-    // Errors: `Io` if a device call failed. `NoMemory` if memory can't be allocated. The tree has
-    // failed after either, and the writer can't be used.
+    // Errors: `Io` if a device call fails, or `NoMemory` if memory can't be allocated. After an
+    // error the tree has failed, and the writer can't be used.
     pub(crate) fn save<D: BlockDevice>(
         &mut self,
         alloc: Global,
@@ -353,7 +355,7 @@ impl Files {
         }
     }
 
-    /// Returns whether the file of that number has unsynced changes.
+    /// Returns whether the open file `fd` has changes that aren't synced.
     pub fn is_unsaved_at(&self, fd: u32) -> bool
         ensures { result ≡ is_unsaved_writer (open_file_at self.now fd) }
     {
@@ -363,7 +365,7 @@ impl Files {
         }
     }
 
-    /// Returns whether the writer of that number has contents of that size in bytes.
+    /// Returns whether the contents of the writer `fd` have `size` bytes.
     pub fn writer_has_size(&self, fd: u32, size: u32) -> bool
         ensures { (w : _) → writer_if_any (open_file_at self.now fd) ≡ Some w → result ≡ (size == w.size) }
     {
@@ -373,7 +375,7 @@ impl Files {
         }
     }
 
-    // Returns whether a file is open at the path of these bytes.
+    // Returns whether a file is open at the path `path`.
     pub(crate) fn is_open_at(&self, path: &[u8]) -> bool
         requires { is_some (parse_path path.now) ≡ true }
         ensures { (t : TreeState) → result ≡ has_open_file (same_path (path_or_root path.now)) (files_view t self.now) }
@@ -381,8 +383,8 @@ impl Files {
         files_have_path(&self.entries, path)
     }
 
-    // Returns whether an open file prevents a rename: one at the old path or beneath it, or one at
-    // the new path.
+    // Returns whether an open file prevents a rename. The file may be at the old path, beneath it,
+    // or at the new path.
     pub(crate) fn prevents_rename_of(&self, from: &[u8], to: &[u8]) -> bool
         requires entry { path_unusable (parse_path from.now) ≡ false }
         requires given { is_some (parse_path to.now) ≡ true }
@@ -399,7 +401,7 @@ impl Files {
         seek_in_table(&mut self.entries, fd as usize, position);
     }
 
-    /// Stores which blocks of its list an open reader has found.
+    /// Stores which blocks of its CTZ skip-list an open reader has found.
     pub fn note_known(&mut self, fd: u32, known: KnownBlocks)
         requires { is_some (open_file_at self.old fd) ≡ true }
         ensures { self.new ≡ slice_set self.old fd (option_map (file_with_known known) (open_file_at self.old fd)) }
@@ -445,8 +447,8 @@ fn note_in_table(entries: &mut Vec<Option<OpenFile>>, index: usize, known: Known
     }
 }
 
-// Writes bytes by the writer in an entry. Changes it in place, since moving it out costs a third of
-// a short write.
+// Writes bytes by the writer in an entry. Changes the entry in place, since moving the writer out
+// costs a third of a short write.
 fn write_in_table<D: BlockDevice>(
     alloc: Global,
     tree: &mut Tree<D>,
@@ -468,8 +470,8 @@ fn write_in_table<D: BlockDevice>(
     }
 }
 
-// Sets the size of the contents of the writer in an entry. Changes it in place, as `write_in_table`
-// does.
+// Sets the size of the contents of the writer in an entry. Changes the entry in place, as
+// `write_in_table` does.
 fn truncate_in_table<D: BlockDevice>(
     alloc: Global,
     tree: &mut Tree<D>,
@@ -491,7 +493,7 @@ fn truncate_in_table<D: BlockDevice>(
     }
 }
 
-// Commits the changes of the writer in an entry to the tree. Changes it in place.
+// Commits the changes of the writer in an entry to the tree. Changes the entry in place.
 fn save_in_table<D: BlockDevice>(
     alloc: Global,
     tree: &mut Tree<D>,
@@ -528,7 +530,7 @@ fn close_in_table(entries: &mut Vec<Option<OpenFile>>, index: usize)
     entries[index] = None;
 }
 
-// Returns how many free blocks are reserved for the writer; 0 if there is none.
+// Returns the number of free blocks that are reserved for the writer, or 0 if there is no writer.
 fn blocks_reserved_among(entries: &[Option<OpenFile>], geometry: Geometry) -> u64
     requires { length (writers_among entries.now) ≤ 1 }
     ensures held { result ≡ writers_reserve geometry.profile geometry.block_size entries.now }
@@ -542,7 +544,7 @@ fn blocks_reserved_among(entries: &[Option<OpenFile>], geometry: Geometry) -> u6
     0
 }
 
-// Returns how many free blocks are reserved for a draft of `size` bytes.
+// Returns the number of free blocks that are reserved for unsynced contents of `size` bytes.
 pub(crate) fn reserved_for_bytes(geometry: Geometry, has_turned: bool, size: u32) -> u64
     ensures held { result ≡ contents_reserve geometry.profile geometry.block_size has_turned size }
     ensures few { result < 2 ^ 34 }
@@ -578,7 +580,7 @@ fn is_writing(entries: &[Option<OpenFile>]) -> bool
     false
 }
 
-// Returns whether a writer is open at the path of these bytes.
+// Returns whether a writer is open at the path `path`.
 fn writers_have_path(entries: &[Option<OpenFile>], path: &[u8]) -> bool
     requires { is_some (parse_path path.now) ≡ true }
     ensures { result ≡ list_any (λ w. same_path (path_or_root path.now) w.path) (writers_among entries.now) }
@@ -624,7 +626,7 @@ fn is_path_open(entry: &Option<OpenFile>, path: &[u8]) -> bool
     }
 }
 
-// Returns how many readers are open.
+// Returns the number of open readers.
 fn reader_count(entries: &[Option<OpenFile>]) -> usize
     ensures { result ≡ length (readers_among entries.now) }
 {
@@ -643,7 +645,7 @@ fn is_reader(entry: &Option<OpenFile>) -> bool
     matches!(entry, Some(OpenFile::Reading(_)))
 }
 
-// Returns the least number that isn't open.
+// Returns the lowest free number.
 fn free_number(entries: &[Option<OpenFile>]) -> usize
     ensures { result ≡ lowest_free entries.now }
 {
@@ -657,7 +659,7 @@ fn free_number(entries: &[Option<OpenFile>]) -> usize
     number
 }
 
-// Allocates an entry under a free number, which is at most the length of the table.
+// Allocates an entry for a free number, which is at most the length of the table.
 fn reserve_in_table(entries: &mut Vec<Option<OpenFile>>, number: usize) -> Result<(), Error>
     requires inside { number ≤ vec_len entries.old }
     requires few { number < 17 }
@@ -673,7 +675,7 @@ fn reserve_in_table(entries: &mut Vec<Option<OpenFile>>, number: usize) -> Resul
     Ok(())
 }
 
-// Stores an entry under a number, which is at most the length of the table.
+// Stores an entry under a number that is at most the length of the table.
 fn set_table_entry(
     entries: &mut Vec<Option<OpenFile>>,
     number: usize,
@@ -696,8 +698,8 @@ fn set_table_entry(
     }
 }
 
-// Returns whether an open file prevents a rename: one at the old path or beneath it, or one at the
-// new path.
+// Returns whether an open file prevents a rename. The file may be at the old path, beneath it, or
+// at the new path.
 fn files_prevent_rename(entries: &[Option<OpenFile>], from: &[u8], to: &[u8]) -> bool
     requires entry { path_unusable (parse_path from.now) ≡ false }
     requires given { is_some (parse_path to.now) ≡ true }

@@ -1,4 +1,4 @@
-// The global state (gstate), as a caller gets it.
+// The global state (gstate) in the form that a caller receives.
 
 ghost use Rattle.std.specs.Prelude.{◌≡◌};
 ghost use Rattle.lfs_tag.specs.FieldsView.{move_view};
@@ -7,14 +7,14 @@ ghost use Rattle.lfs_fs.specs.GstateView.{returned_gstate_reply, disk_reply_gsta
 use lfs_tag::MoveState;
 use lfs_tag::kinds::DELETE;
 
-/// The global state (DESIGN.md of littlefs, "The move problem").
+/// The global state (see "The move problem" in littlefs's DESIGN.md).
 #[derive(Clone, Copy, Debug, PartialEq, Eq)]
 pub struct Gstate {
-    /// Whether there may be an orphan: a metadata pair in the threaded list to which no directory
-    /// leads.
+    /// Whether there may be an orphan: a metadata pair in the threaded list that belongs to no
+    /// directory in the tree.
     pub sync: bool,
-    /// The pair and the id of a slot that counts as deleted, because its move isn't complete. None
-    /// if no move is pending.
+    /// The pair and the id of a slot that counts as deleted because its move isn't complete, or
+    /// None if no move is pending.
     pub moving: Option<([u32; 2], u16)>,
 }
 

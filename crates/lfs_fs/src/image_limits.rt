@@ -16,7 +16,7 @@ use crate::session::{Session, mount};
 use lfs_device::{BlockDevice, Error, Profile, Profiled};
 use std::alloc::Global;
 
-// Returns whether both profiles have the same limits of names, files and attributes.
+// Returns whether two profiles have the same limits on names, files and attributes.
 fn have_same_limits(one: &Profile, other: &Profile) -> bool
     ensures { IsTrue result ↔ ((one.now.name_max ≡ other.now.name_max) × (one.now.file_max ≡ other.now.file_max) × (one.now.attr_max ≡ other.now.attr_max)) }
 {
@@ -25,7 +25,7 @@ fn have_same_limits(one: &Profile, other: &Profile) -> bool
         && one.attr_max == other.attr_max
 }
 
-// Mounts the image of a device by the given profile.
+// Mounts the image on a device with the given profile.
 fn mount_with_profile<D: BlockDevice>(
     alloc: Global,
     device: D,
@@ -44,17 +44,18 @@ fn mount_with_profile<D: BlockDevice>(
     }
 }
 
-/// Mounts the image of a device, as [`mount`] does, by a profile whose limits are replaced by the
-/// image's. So an image that was made with lower limits may be changed, and stays within them.
+/// Mounts the image on a device as [`mount`] does, with a profile whose limits are replaced by the
+/// image's. An image that was made with lower limits may therefore be changed, and stays within its
+/// limits. Only reads the device.
 ///
-/// A limit in the superblock that can't be used, 0 or above the format's own, is ignored: the
-/// profile's limit stays, and the image isn't in the writing profile. Only reads the device.
+/// A limit in the superblock is ignored if it is 0 or above the format's own limit. If a limit is
+/// ignored, the profile's limit stays, and the image isn't in the writing profile.
 ///
 /// # Errors
 ///
-/// `Corrupt` exactly if the device has no accepted image in either order of names, of the versions
-/// that the profile accepts. `Io` if a read failed. `NoMemory` if memory can't be allocated. An
-/// error returns the device, too.
+/// `Corrupt` if the device has no accepted image in either order of names, in a version that the
+/// profile accepts. `Io` if a read fails. `NoMemory` if memory can't be allocated. An error also
+/// returns the device.
 pub fn mount_with_limits<D: BlockDevice>(
     alloc: Global,
     device: D,

@@ -1,5 +1,6 @@
 // SPDX-License-Identifier: BSD-3-Clause
-//! Sessions over a littlefs image: open files, the checks of each operation in order, and runs.
+//! Sessions over a littlefs image: open files, the checks of each operation in order, and runs,
+//! which perform lists of operations.
 #![tactic(auto)]
 
 mod check_order;

@@ -1,4 +1,5 @@
-// Calls and runs of a session as turns of its life.
+// Calls and runs of a session as turns of its life. A life is a sequence of calls (turns), each of
+// which was answered or failed.
 
 ghost use Rattle.std.specs.Prelude.{◌≡◌, List, [], ◌∷◌, ◌++◌, None, Result, Ok};
 ghost use Rattle.lfs_device.specs.declared.error.Error.{Error};
@@ -18,9 +19,10 @@ ghost use Rattle.lfs_fs.specs.SessionView.{BeginsByMount, FailsRun, SessionView,
 ghost use Rattle.lfs_fs.specs.Starts.{LivesOn};
 ghost use Rattle.lfs_fs.specs.Turns.{turn_of};
 
-/// A call is one turn of its session's life, so calls make a life, in any order, and also where
-/// some of them failed. A run that failed is one, too. Of lives the laws of `lfs_model` say what
-/// the session is, and what a loss of power leaves.
+/// Proves that each call is a turn of its session's life, where a life is a sequence of calls that
+/// were answered or failed. Calls in any order therefore form a life, and so does a run that
+/// failed. The laws of lives in `lfs_model` say what the state of the session is, and what a power
+/// loss leaves.
 pub fn calls_are_turns()
     ensures call { (old : SessionView) (op : Operation) (r : Result Reply Error) (new : SessionView) → IsCall old op r new → IsTurn (system_state old) (turn_of op r (system_state new)) }
     ensures further { (from : SystemState) (turns : List Turn) (a b : SessionView) (op : Operation) (r : Result Reply Error) → IsLife from turns (system_state a) → IsCall a op r b
@@ -29,16 +31,16 @@ pub fn calls_are_turns()
     ensures failed_run { (e : Error) (from : SystemState) (operations : List Operation) (to : SystemState) → FailsRun e from operations to → (turns : List Turn) × IsRunInTurns from operations turns to }
 {}
 
-/// A call that was answered is performed as in a run: it keeps to the bounds on reads, also behind
-/// another one.
+/// Proves that a call that returns a reply meets the contract of a run, even if it follows another
+/// call. In particular, the bounds on the reads of a run apply to single calls.
 pub fn calls_are_performed()
     ensures first { (old : SessionView) (op : Operation) (reply : Reply) (new : SessionView) → IsCall old op (Ok reply) new → IsPerformed None (system_state old) op reply (system_state new) }
     ensures next { (a b c : SessionView) (op next : Operation) (reply answer : Reply) → IsCall a op (Ok reply) b → IsCall b next (Ok answer) c
         → IsPerformed (accepted_operation op reply) (system_state b) next answer (system_state c) }
 {}
 
-/// Where a life may begin: a session that may write meets the premises on power loss. A loss of
-/// power in a mount leaves the disk as it was.
+/// Proves that a session that may write meets the premises of the laws on power loss, and that a
+/// power loss during a mount leaves the disk unchanged.
 pub fn lives_begin_by_mount()
     ensures writable { (h : SessionView) → MayWrite h → MayLosePower (system_state h) }
     ensures stopped { (disk : Disk) (history : List CallEvent) (h : SessionView) (blocks : Blocks) → BeginsByMount disk history h → LeftInCall history h.tree.history blocks → blocks ≡ disk.blocks }

@@ -1,4 +1,4 @@
-// What changes of the tree leave of the open files.
+// How changes of the tree affect open files.
 
 ghost use Rattle.std.specs.Prelude.{◌≤◌};
 ghost use Rattle.lfs_model.specs.layers.BlockSets.{in_flight_count};
@@ -12,8 +12,8 @@ ghost use Rattle.lfs_fs.specs.OpenFilesStay.{StayReady, KeepsWriters, ConcernsNo
 use lfs_file::lemma_reserve_suffices;
 use lfs_tree::{lemma_contents_stay, lemma_few_blocks};
 
-// No more blocks are in flight than the session reserves. An operation leaves the contents of a
-// writer as they are.
+// Proves that at most as many blocks are allocated without a commit as the session reserves. Also
+// proves that an operation on other entries doesn't change the contents of a writer.
 pub(crate) fn lemma_files_stay()
     ensures few { (t : TreeState) (files : RuntimeFiles) → IsReady t files → in_flight_count t.map ≤ reserved_for_writers t.disk.profile t.disk.block_size (files_view t files) }
     ensures stay { (old new : TreeState) (op : Operation) (files : RuntimeFiles) → IsReady old files → ConcernsNoFile old op files → KeepsWriters old new (writers_among files) → IsApplied old op new → StayReady old new files }

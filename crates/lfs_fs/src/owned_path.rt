@@ -12,7 +12,7 @@ use lfs_lookup::Path;
 use std::alloc::Global;
 use std::marker::Model;
 
-/// The bytes of a well-formed path. In contracts it is the list of its names.
+/// The bytes of a well-formed path. In contracts, the value is the list of the path's names.
 #[derive(Drop)]
 pub struct OwnedPath {
     bytes: Vec<u8>,
@@ -34,7 +34,7 @@ impl Model for OwnedPath {
 impl OwnedPath {
     /// Copies the bytes of a well-formed path.
     ///
-    /// Errors: `NoMemory` if memory for them can't be allocated.
+    /// Errors: `NoMemory` if memory for the copy can't be allocated.
     pub fn of(alloc: Global, bytes: &[u8]) -> Result<OwnedPath, Error>
         requires { is_some (parse_path bytes.now) ≡ true }
         ensures path { IfOk result (λ path. path ≡ path_or_root bytes.now) }
@@ -46,14 +46,14 @@ impl OwnedPath {
         }
     }
 
-    /// Borrows the parsed path.
+    /// Returns the parsed path, which borrows the bytes.
     pub fn lend(&self) -> Path<'_>
         ensures { result ≡ self.now }
     {
         Path::parse(self.bytes.as_slice()).unwrap()
     }
 
-    // Returns whether this is the path `bytes`.
+    // Returns whether the bytes of the path are `bytes`.
     pub(crate) fn path_has_bytes(&self, bytes: &[u8]) -> bool
         requires { is_some (parse_path bytes.now) ≡ true }
         ensures { result ≡ same_path (path_or_root bytes.now) self.now }
@@ -61,7 +61,7 @@ impl OwnedPath {
         same_path_bytes(self.bytes.as_slice(), bytes)
     }
 
-    // Returns whether this is the entry's path `bytes`, or is beneath it.
+    // Returns whether the path is the entry's path `bytes`, or is beneath it.
     pub(crate) fn is_within(&self, bytes: &[u8]) -> bool
         requires { path_unusable (parse_path bytes.now) ≡ false }
         ensures { result ≡ is_some (without_prefix (path_or_root bytes.now) self.now) }

@@ -16,9 +16,9 @@ use lfs_file::KnownBlocks;
 use lfs_tree::Tree;
 use std::alloc::Global;
 
-// Returns at most `count` bytes of a reader's file from its position on. Looks nothing up, and
-// allocates memory for these bytes only. `known` has the blocks of the list that the reader has
-// found, and gets those that this read finds.
+// Returns at most `count` bytes of a reader's file from the reader's position. Looks up no path,
+// and allocates memory only for these bytes. `known` has the blocks of the CTZ skip-list that the
+// reader has found, and receives the blocks that this read finds.
 pub(crate) fn bytes_for_reader<D: BlockDevice>(
     alloc: Global,
     tree: &mut Tree<D>,

@@ -40,7 +40,7 @@ pub(crate) fn at_or_beneath(bytes: &[u8], other: &[u8]) -> bool
     is_path_prefix(bytes, other)
 }
 
-// Returns whether both are the same path.
+// Returns whether the two paths are the same.
 fn is_same_path(bytes: &[u8], other: &[u8]) -> bool
     requires given { is_some (parse_path bytes.now) ≡ true }
     requires other { is_some (parse_path other.now) ≡ true }
@@ -58,7 +58,8 @@ fn is_strictly_beneath(bytes: &[u8], other: &[u8]) -> bool
     at_or_beneath(bytes, other) && !is_same_path(bytes, other)
 }
 
-// Checks the entry at the new path. A rename to the same path always passes.
+// Returns the refusal `error` if the entry at the new path can't be replaced. Never refuses a
+// rename to the same path.
 fn check_replacement(is_same: bool, is_bad: bool, error: Error) -> Option<Refusal>
     requires { is_refusal error ≡ true }
     ensures { result ≡ refuse_if (not is_same && is_bad) (error_refusal error) }
@@ -71,21 +72,21 @@ fn check_replacement(is_same: bool, is_bad: bool, error: Error) -> Option<Refusa
 pub struct PermittedRename<'a> {
     pub from: Path<'a>,
     pub to: Path<'a>,
-    /// Whether both paths are the same.
+    /// Whether the two paths are the same.
     pub is_same: bool,
-    /// The results of the look-ups. None if a recovery has to come first.
+    /// The results of the look-ups, or None if the image must be recovered first.
     pub targets: Option<RenameTargets>,
 }
 
-/// The two paths of a rename that passes the checks before the look-ups.
+/// The two paths of a rename that passes all checks before the look-ups.
 #[derive(Drop)]
 pub struct RenamePaths<'a> {
-    // The bytes of the old path, and of the new one.
+    // The bytes of the old path and of the new one.
     old: &'a [u8],
     new: &'a [u8],
     from: Path<'a>,
     to: Path<'a>,
-    // Whether both paths are the same.
+    // Whether the two paths are the same.
     is_same: bool,
 }
 
@@ -123,8 +124,8 @@ fn check_rename_paths<'a, D: BlockDevice>(
     })
 }
 
-// Returns the refusal of a rename, if any: by the entries at its two paths, the open files and the
-// free blocks.
+// Returns the refusal of a rename, if any. The checks concern the entries at the two paths, the
+// open files and the free blocks.
 fn rename_refusal_of<D: BlockDevice>(
     tree: &Tree<D>,
     files: &Files,
@@ -158,7 +159,7 @@ fn rename_refusal_of<D: BlockDevice>(
     find_first_refusal(&checks)
 }
 
-/// Checks a rename, and returns the results of the look-ups of its two paths.
+/// Checks a rename, and returns the results of looking up its two paths.
 pub fn check_rename<'a, D: BlockDevice>(
     alloc: Global,
     tree: &mut Tree<D>,

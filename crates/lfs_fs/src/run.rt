@@ -14,44 +14,45 @@ use crate::gstate::Gstate;
 use lfs_device::Error;
 use lfs_lookup::{ListItem as Item, Stat};
 
-/// An operation of a session. It is named after the call, and its fields are the call's arguments.
+/// An operation of a session. Each variant has the name of a call, and its fields are the call's
+/// arguments.
 #[derive(Clone, Copy)]
 pub enum Op<'a> {
-    /// A path, and how the file is opened.
+    /// The path of a file, and the flags with which it is opened.
     Open(&'a [u8], OpenFlags),
-    /// An open file's number, and the largest number of bytes.
+    /// The number of an open file, and the maximum number of bytes to read.
     Read(Fd, u32),
-    /// An open file's number, and the bytes.
+    /// The number of an open file, and the bytes to write.
     Write(Fd, &'a [u8]),
-    /// An open file's number, and its new position in bytes.
+    /// The number of an open file, and its new position in bytes.
     Seek(Fd, u32),
-    /// An open file's number, and its new size in bytes.
+    /// The number of an open file, and its new size in bytes.
     Truncate(Fd, u32),
-    /// An open file's number.
+    /// The number of an open file.
     Sync(Fd),
-    /// An open file's number.
+    /// The number of an open file.
     Close(Fd),
     /// The path of the new directory.
     Mkdir(&'a [u8]),
-    /// A directory's path.
+    /// The path of a directory.
     List(&'a [u8]),
-    /// A path.
+    /// The path of an entry.
     Stat(&'a [u8]),
-    /// A path, and the attribute's type.
+    /// The path of an entry, and the type of the attribute.
     GetAttr(&'a [u8], u8),
-    /// A path.
+    /// The path of an entry.
     Remove(&'a [u8]),
-    /// The old path, and the new one.
+    /// The old path and the new path.
     Rename(&'a [u8], &'a [u8]),
-    /// A path, the attribute's type, and its bytes.
+    /// The path of an entry, the type of the attribute, and its bytes.
     SetAttr(&'a [u8], u8, &'a [u8]),
-    /// A path, and the attribute's type.
+    /// The path of an entry, and the type of the attribute.
     RemoveAttr(&'a [u8], u8),
     /// Returns the global state.
     Gstate,
-    /// A block's number.
+    /// The number of a block.
     IsUsed(u32),
-    /// Returns how many blocks are used.
+    /// Returns the number of used blocks.
     UsedCount,
     /// Completes what a power loss left half done.
     Recover,
@@ -62,17 +63,17 @@ pub enum Op<'a> {
 /// The reply to an operation.
 #[derive(Drop)]
 pub enum Reply {
-    /// The operation was applied, and returns nothing.
+    /// The operation was performed, and has no result.
     Done,
-    /// The number under which a file was opened.
+    /// The number of the file that was opened.
     Fd(Fd),
-    /// The bytes that were read, or those of an attribute.
+    /// The bytes that were read, or the bytes of an attribute.
     Bytes(Vec<u8>),
-    /// How many bytes were written, or how many blocks are used.
+    /// The number of bytes written, or the number of used blocks.
     Count(u32),
     /// The entries of a directory.
     Items(Vec<Item>),
-    /// An entry's kind, and its size in bytes.
+    /// The kind and the size in bytes of an entry.
     Stat(Stat),
     /// The global state.
     Gstate(Gstate),
@@ -83,7 +84,7 @@ pub enum Reply {
     Refused(Error),
 }
 
-// Returns whether the error is a refusal, after which the session works on.
+// Returns whether the error is a refusal, after which the session can be used further.
 fn is_refusal(error: Error) -> bool
     ensures { result ≡ is_refusal error }
 {

@@ -64,15 +64,15 @@ use std::marker::Model;
 
 /// A mounted file system and its open files.
 ///
-/// A path is `/`, or names with a `/` before each. Names are bytes. A call may be refused or may
-/// fail. A refusal writes nothing and changes nothing. A call fails with `Io` if a device call
-/// failed, and with `NoMemory` if memory can't be allocated. A session that has failed returns
-/// `Failed` from each call except [`remount`](Session::remount).
+/// A path is `/`, or a sequence of names with a `/` before each name. Names are bytes. A call may
+/// be refused or may fail. A refused call writes nothing and changes nothing. A call fails with
+/// `Io` if a device call fails, and with `NoMemory` if memory can't be allocated. After a call has
+/// failed, each call except [`remount`](Session::remount) returns `Failed`.
 ///
-/// Each call lists its refusals in the order of its checks. A limit in bytes is the format's, and
-/// the device's profile may lower it. `ReadOnly`, `BadFile`, `Invalid` and `Failed` are returned
-/// without a device call, and so are all refusals of [`write`](Session::write) and
-/// [`truncate`](Session::truncate).
+/// The documentation of each call lists its refusals in the order of the call's checks. Each limit
+/// in bytes is the format's limit, which the device's profile may lower. A call that returns
+/// `ReadOnly`, `BadFile`, `Invalid` or `Failed` hasn't called the device. A refused
+/// [`write`](Session::write) or [`truncate`](Session::truncate) hasn't called the device either.
 #[derive(Drop)]
 pub struct Session<D: BlockDevice> {
     tree: Tree<D>,
@@ -91,47 +91,48 @@ impl<D: BlockDevice> Model for Session<D> {
 }
 
 impl<D: BlockDevice> Session<D> {
-    /// Returns the kind of the entry at a path, and a file's size in bytes. Makes at most one read
-    /// for each metadata pair of the directories above it.
+    /// Returns the kind of the entry at a path, and the size in bytes if the entry is a file. Makes
+    /// at most one read for each metadata pair of the path's parent directories.
     ///
     /// # Errors
     ///
-    /// `Invalid` if the path isn't well formed; `NoEnt` or `NotDir` if a parent is missing or is a
-    /// file; `NoEnt` if there is no entry.
+    /// `Invalid` if the path isn't well formed. `NoEnt` if a parent is missing, or `NotDir` if it
+    /// is a file. `NoEnt` if the path has no entry.
     pub fn stat(&mut self, alloc: Global, path: &[u8]) -> Result<Stat, Error>
         ensures { IsCall self.old (ops.Stat path.now) (reply_from (λ stat. ops.StatIs (stat_view stat)) result) self.new }
     {
         check_and_stat(alloc, &mut self.tree, &self.files, path)
     }
 
-    /// Returns the entries of a directory, in name order. Makes at most one read for each metadata
-    /// pair of the directory and of those above it.
+    /// Returns the entries of a directory in name order. Makes at most one read for each metadata
+    /// pair of the directory and of its parent directories.
     ///
     /// # Errors
     ///
-    /// `Invalid` if the path isn't well formed; `NoEnt` or `NotDir` if a parent is missing or is a
-    /// file; `NoEnt` if there is no entry; `NotDir` if the entry is a file.
+    /// `Invalid` if the path isn't well formed. `NoEnt` if a parent is missing, or `NotDir` if it
+    /// is a file. `NoEnt` if the path has no entry. `NotDir` if the entry is a file.
     pub fn list(&mut self, alloc: Global, path: &[u8]) -> Result<Vec<Item>, Error>
         ensures { IsCall self.old (ops.ListAll path.now) (reply_from (λ items. ops.Items (map listed_item_view items.items)) result) self.new }
     {
         check_and_list(alloc, &mut self.tree, &self.files, path)
     }
 
-    /// Returns the bytes of an entry's attribute. Its type is 0 to 255. Makes at most one read for
-    /// each metadata pair of the directories above the entry.
+    /// Returns the bytes of an entry's attribute of type `kind`. Makes at most one read for each
+    /// metadata pair of the path's parent directories.
     ///
     /// # Errors
     ///
-    /// `Invalid` if the path isn't well formed or is the root's; `NoEnt` or `NotDir` if a parent is
-    /// missing or is a file; `NoEnt` if there is no entry; `NoAttr` if the entry has no attribute
-    /// of that type.
+    /// `Invalid` if the path isn't well formed, or is the root. `NoEnt` if a parent is missing, or
+    /// `NotDir` if it is a file. `NoEnt` if the path has no entry. `NoAttr` if the entry has no
+    /// attribute of this type.
     pub fn get_attr(&mut self, alloc: Global, path: &[u8], kind: u8) -> Result<Vec<u8>, Error>
         ensures { IsCall self.old (ops.GetAttr path.now kind) (reply_from (λ v. ops.Bytes v.items) result) self.new }
     {
         check_get_attr(alloc, &mut self.tree, &self.files, path, kind)
     }
 
-    /// Returns the global state. Does not access the device; refused only in a failed session.
+    /// Returns the global state. Doesn't access the device. Is refused only if the session has
+    /// failed.
     pub fn gstate(&self) -> Result<Gstate, Error>
         ensures { IsCall self.now ops.AskGstate (reply_from returned_gstate_reply result) self.now }
     {
@@ -141,7 +142,7 @@ impl<D: BlockDevice> Session<D> {
         Ok(gstate_from_move(&self.tree.gstate()))
     }
 
-    /// Returns whether the image uses a block. Does not access the device.
+    /// Returns whether the image uses a block. Doesn't access the device.
     ///
     /// # Errors
     ///
@@ -158,8 +159,8 @@ impl<D: BlockDevice> Session<D> {
         Ok(self.tree.is_used(block))
     }
 
-    /// Returns how many blocks the image uses. Does not access the device; refused only in a failed
-    /// session.
+    /// Returns the number of blocks that the image uses. Doesn't access the device. Is refused only
+    /// if the session has failed.
     pub fn used_count(&self) -> Result<u32, Error>
         ensures { IsCall self.now ops.UsedCount (reply_from ops.Count result) self.now }
     {
@@ -169,15 +170,15 @@ impl<D: BlockDevice> Session<D> {
         Ok(self.tree.used_count())
     }
 
-    /// Makes an empty directory. Recovers first, as by [`recover`](Session::recover).
+    /// Makes an empty directory. Recovers first, as [`recover`](Session::recover) does.
     ///
     /// # Errors
     ///
-    /// `ReadOnly` if the image isn't in the writing profile; `Invalid` if the path isn't well
-    /// formed; `NoEnt` or `NotDir` if a parent is missing or is a file; `NameTooLong` if the name
-    /// has more than 255 bytes, or more than the profile allows; `Exist` if there is an entry
-    /// already; `EntryFull` if the name needs too much of a metadata pair; `NoSpace` if fewer than
-    /// four blocks are free.
+    /// `ReadOnly` if the image isn't in the writing profile. `Invalid` if the path isn't well
+    /// formed. `NoEnt` if a parent is missing, or `NotDir` if it is a file. `NameTooLong` if the
+    /// name has more than 255 bytes, or more than the profile allows. `Exist` if the path already
+    /// has an entry. `EntryFull` if the name is too long for a metadata pair. `NoSpace` if fewer
+    /// than four blocks are free.
     pub fn mkdir(&mut self, alloc: Global, path: &[u8]) -> Result<(), Error>
         ensures { IsCall self.old (ops.Mkdir path.now) (reply_from (λ _. ops.Done) result) self.new }
     {
@@ -188,13 +189,14 @@ impl<D: BlockDevice> Session<D> {
         answer
     }
 
-    /// Removes a file, or a directory without entries. Recovers first.
+    /// Removes a file or an empty directory. Recovers first, as [`recover`](Session::recover) does.
     ///
     /// # Errors
     ///
-    /// `ReadOnly` if the image isn't in the writing profile; `Invalid` if the path isn't well
-    /// formed or is the root's; `NoEnt` or `NotDir` if a parent is missing or is a file; `NoEnt` if
-    /// there is no entry; `NotEmpty` if a directory has entries; `Busy` if the file is open.
+    /// `ReadOnly` if the image isn't in the writing profile. `Invalid` if the path isn't well
+    /// formed, or is the root. `NoEnt` if a parent is missing, or `NotDir` if it is a file. `NoEnt`
+    /// if the path has no entry. `NotEmpty` if the directory has entries. `Busy` if the file is
+    /// open.
     pub fn remove(&mut self, alloc: Global, path: &[u8]) -> Result<(), Error>
         ensures { IsCall self.old (ops.Remove path.now) (reply_from (λ _. ops.Done) result) self.new }
     {
@@ -205,20 +207,21 @@ impl<D: BlockDevice> Session<D> {
         answer
     }
 
-    /// Renames or moves an entry. Replaces a file or an empty directory at the new path. The
-    /// entries beneath a directory move with it. Recovers first. Does nothing if both paths are the
-    /// same.
+    /// Renames or moves an entry, and replaces a file or an empty directory at the new path. A
+    /// directory moves with all entries beneath it. Recovers first, as
+    /// [`recover`](Session::recover) does. If the two paths are the same, checks the call but
+    /// changes nothing.
     ///
     /// # Errors
     ///
-    /// `ReadOnly` if the image isn't in the writing profile; `Invalid` if a path isn't well formed
-    /// or is the root's, or the new one is beneath the old one; `NoEnt` or `NotDir` if a parent is
-    /// missing or is a file, of the old path first; `NameTooLong` if the new name has more than 255
-    /// bytes, or more than the profile allows; `NoEnt` if the old path has no entry; `NotDir` if a
-    /// directory would replace a file; `IsDir` if a file would replace a directory; `NotEmpty` if
-    /// the replaced directory has entries; `Busy` if a file at the old path, beneath it or at the
-    /// new path is open; `EntryFull` if the new name and the attributes need too much of a metadata
-    /// pair; `NoSpace` if fewer than two blocks are free.
+    /// `ReadOnly` if the image isn't in the writing profile. `Invalid` if a path isn't well formed
+    /// or is the root, or if the new path is beneath the old one. `NoEnt` if a parent is missing,
+    /// or `NotDir` if it is a file, where the old path is checked first. `NameTooLong` if the new
+    /// name has more than 255 bytes, or more than the profile allows. `NoEnt` if the old path has
+    /// no entry. `NotDir` if a directory would replace a file. `IsDir` if a file would replace a
+    /// directory. `NotEmpty` if the replaced directory has entries. `Busy` if a file at the old
+    /// path, beneath it or at the new path is open. `EntryFull` if the new name and the attributes
+    /// are too large for a metadata pair. `NoSpace` if fewer than two blocks are free.
     pub fn rename(&mut self, alloc: Global, from: &[u8], to: &[u8]) -> Result<(), Error>
         ensures { IsCall self.old (ops.Rename from.now to.now) (reply_from (λ _. ops.Done) result) self.new }
     {
@@ -234,16 +237,16 @@ impl<D: BlockDevice> Session<D> {
         answer
     }
 
-    /// Sets an attribute of an entry, and replaces the one of that type, if there is one. The type
-    /// is 0 to 255. The value has at most 1,022 bytes, or fewer if the profile says so. Recovers
-    /// first.
+    /// Sets an entry's attribute of type `kind`, and replaces its old value, if there is one. The
+    /// value has at most 1,022 bytes, or fewer if the profile has a lower limit. Recovers first, as
+    /// [`recover`](Session::recover) does.
     ///
     /// # Errors
     ///
-    /// `ReadOnly` if the image isn't in the writing profile; `Invalid` if the path isn't well
-    /// formed or is the root's; `NoEnt` or `NotDir` if a parent is missing or is a file; `NoEnt` if
-    /// there is no entry; `TooBig` if the value is longer; `EntryFull` if the name and the
-    /// attributes need too much of a metadata pair; `NoSpace` if fewer than two blocks are free.
+    /// `ReadOnly` if the image isn't in the writing profile. `Invalid` if the path isn't well
+    /// formed, or is the root. `NoEnt` if a parent is missing, or `NotDir` if it is a file. `NoEnt`
+    /// if the path has no entry. `TooBig` if the value is too long. `EntryFull` if the name and the
+    /// attributes are too large for a metadata pair. `NoSpace` if fewer than two blocks are free.
     pub fn set_attr(
         &mut self,
         alloc: Global,
@@ -260,13 +263,14 @@ impl<D: BlockDevice> Session<D> {
         answer
     }
 
-    /// Removes an attribute of an entry. Recovers first.
+    /// Removes an entry's attribute of type `kind`. Recovers first, as
+    /// [`recover`](Session::recover) does.
     ///
     /// # Errors
     ///
-    /// `ReadOnly` if the image isn't in the writing profile; `Invalid` if the path isn't well
-    /// formed or is the root's; `NoEnt` or `NotDir` if a parent is missing or is a file; `NoEnt` if
-    /// there is no entry; `NoAttr` if the entry has no attribute of that type.
+    /// `ReadOnly` if the image isn't in the writing profile. `Invalid` if the path isn't well
+    /// formed, or is the root. `NoEnt` if a parent is missing, or `NotDir` if it is a file. `NoEnt`
+    /// if the path has no entry. `NoAttr` if the entry has no attribute of this type.
     pub fn remove_attr(&mut self, alloc: Global, path: &[u8], kind: u8) -> Result<(), Error>
         ensures { IsCall self.old (ops.RemoveAttr path.now kind) (reply_from (λ _. ops.Done) result) self.new }
     {
@@ -277,8 +281,9 @@ impl<D: BlockDevice> Session<D> {
         answer
     }
 
-    /// Completes what a power loss left half done: a move, and orphans, the directories that no
-    /// path leads to. The tree stays as it is. Writes nothing if nothing is left.
+    /// Completes a move that a power loss left half done, and drops orphans: directories that no
+    /// path leads to. The tree of files and directories doesn't change. Writes nothing if nothing
+    /// is left to recover.
     ///
     /// # Errors
     ///
@@ -341,22 +346,24 @@ impl<D: BlockDevice> Session<D> {
         Ok(number)
     }
 
-    /// Opens a file for reading or for writing. Returns the file's number, the least one that isn't
-    /// open. At most one file is open for writing, and 16 for reading. An open for writing recovers
-    /// first. A new file is committed to the tree at once.
+    /// Opens a file for reading or for writing. Returns the file's number: the lowest one that
+    /// isn't in use. At most one file may be open for writing, and at most 16 for reading. Opening
+    /// a file for writing recovers first, as [`recover`](Session::recover) does. A new file is
+    /// committed to the tree at once.
     ///
     /// # Errors
     ///
-    /// `ReadOnly` if the file is opened for writing and the image isn't in the writing profile;
-    /// `Invalid` if the path isn't well formed or the flags aren't allowed together; `NoEnt` or
-    /// `NotDir` if a parent is missing or is a file; `NameTooLong` if the name of a new file has
-    /// more than 255 bytes, or more than the profile allows; `NoEnt` if there is no entry and none
-    /// is created; `Exist` if there is an entry already, with [`EXCLUSIVE`](OpenFlags::EXCLUSIVE);
-    /// `IsDir` if the entry is a directory; `Busy` for writing if a file is open for writing, or
-    /// this one is open at all; `Busy` for reading if this file is open for writing, or 16 files
-    /// are open for reading; `EntryFull` if the name of a new file needs too much of a metadata
-    /// pair; `NoSpace` if fewer than two blocks are free, for a new file, or with
-    /// [`TRUNCATE`](OpenFlags::TRUNCATE) for one that isn't empty.
+    /// `ReadOnly` if the file is opened for writing and the image isn't in the writing profile.
+    /// `Invalid` if the path isn't well formed, or the flags aren't allowed together. `NoEnt` if a
+    /// parent is missing, or `NotDir` if it is a file. `NameTooLong` if the name of a new file has
+    /// more than 255 bytes, or more than the profile allows. `NoEnt` if the path has no entry and
+    /// the flags don't include [`CREATE`](OpenFlags::CREATE). `Exist` if the path already has an
+    /// entry and the flags include [`EXCLUSIVE`](OpenFlags::EXCLUSIVE). `IsDir` if the entry is a
+    /// directory. `Busy`, for writing, if any file is open for writing, or this file is open for
+    /// reading. `Busy`, for reading, if this file is open for writing, or 16 files are open for
+    /// reading. `EntryFull` if the name of a new file is too long for a metadata pair. `NoSpace` if
+    /// fewer than two blocks are free, and the call creates a file or truncates a file that isn't
+    /// empty.
     pub fn open(&mut self, alloc: Global, path: &[u8], flags: OpenFlags) -> Result<Fd, Error>
         ensures { IsCall self.old (ops.Open path.now (flags_view flags)) (reply_from ops.Opened result) self.new }
     {
@@ -367,16 +374,16 @@ impl<D: BlockDevice> Session<D> {
         }
     }
 
-    /// Writes bytes at the position of a file that is open for writing, or at its end if it
-    /// appends. Returns the number of bytes, always all of them. Fills a gap before them with
-    /// zeros, and sets the position after them. A sync or a close of the file commits them to the
-    /// tree.
+    /// Writes bytes at the position of a file that is open for writing, or at its end if the file
+    /// was opened with [`APPEND`](OpenFlags::APPEND). Returns the number of bytes written, which is
+    /// the length of `bytes`. Fills a gap before the bytes with zeros, and sets the position to
+    /// their end. The bytes are committed to the tree when the file is synced or closed.
     ///
     /// # Errors
     ///
-    /// `BadFile` if no file is open for writing under the number; `TooBig` if the file would have
-    /// more than 2,147,483,647 bytes, or more than the profile allows; `NoSpace` if too few blocks
-    /// are free for the file's new contents.
+    /// `BadFile` if no file is open for writing under the number `fd`. `TooBig` if the file would
+    /// have more than 2,147,483,647 bytes, or more than the profile allows. `NoSpace` if too few
+    /// blocks are free for the file's new contents.
     pub fn write(&mut self, alloc: Global, fd: Fd, bytes: &[u8]) -> Result<u32, Error>
         ensures { IsCall self.old (ops.Write fd bytes.now) (reply_from ops.Count result) self.new }
     {
@@ -390,14 +397,14 @@ impl<D: BlockDevice> Session<D> {
         Ok(bytes.len() as u32)
     }
 
-    /// Sets the size in bytes of a file open for writing: truncates it, or extends it with zeros.
-    /// The position stays as it is.
+    /// Sets the size in bytes of a file that is open for writing: truncates the file, or extends it
+    /// with zeros. The file's position doesn't change.
     ///
     /// # Errors
     ///
-    /// `BadFile` if no file is open for writing under the number; `TooBig` if the size is above
-    /// 2,147,483,647, or above the profile's longest file; `NoSpace` if too few blocks are free for
-    /// the file's new contents.
+    /// `BadFile` if no file is open for writing under the number `fd`. `TooBig` if the size is
+    /// above 2,147,483,647, or above the profile's limit for files. `NoSpace` if too few blocks are
+    /// free for the file's new contents.
     pub fn truncate(&mut self, alloc: Global, fd: Fd, size: u32) -> Result<(), Error>
         ensures { IsCall self.old (ops.Truncate fd size) (reply_from (λ _. ops.Done) result) self.new }
     {
@@ -410,12 +417,12 @@ impl<D: BlockDevice> Session<D> {
         answer
     }
 
-    /// Commits the changes of an open file to the tree. Does nothing if there are none, or if the
-    /// file is open for reading.
+    /// Commits the changes of an open file to the tree. Does nothing if there are no changes, or if
+    /// the file is open for reading.
     ///
     /// # Errors
     ///
-    /// `BadFile` if no file is open under the number.
+    /// `BadFile` if no file is open under the number `fd`.
     pub fn sync(&mut self, alloc: Global, fd: Fd) -> Result<(), Error>
         ensures { IsCall self.old (ops.Sync fd) (reply_from (λ _. ops.Done) result) self.new }
     {
@@ -428,17 +435,17 @@ impl<D: BlockDevice> Session<D> {
         answer
     }
 
-    /// Returns at most `count` bytes of an open file, from its position on: fewer at the file's
-    /// end, and none after it. Advances the position by their number.
+    /// Reads at most `count` bytes of an open file from its position. Returns fewer bytes at the
+    /// end of the file, and none after it. Advances the position by the number of bytes read.
     ///
-    /// An open file remembers which blocks of its CTZ skip list its reads have found. A read that
-    /// ends in the same block as the last one reads no pointer. A read that begins where the last
-    /// one ended, within that block, reads the whole block into the cache. Further reads of a
-    /// cached block don't access the device.
+    /// An open file remembers the blocks of its CTZ skip-list that its reads have found. A read
+    /// that ends in the same block as the previous read follows no pointer. A read that begins
+    /// where the previous one ended, within a block, reads the whole block into the cache. Further
+    /// reads of a cached block don't access the device.
     ///
     /// # Errors
     ///
-    /// `BadFile` if no file is open for reading under the number.
+    /// `BadFile` if no file is open for reading under the number `fd`.
     pub fn read(&mut self, alloc: Global, fd: Fd, count: u32) -> Result<Vec<u8>, Error>
         ensures call { IsCall self.old (ops.Read fd count) (reply_from (λ v. ops.Bytes v.items) result) self.new }
         ensures few { OnOk result (ReadsFew self.old fd count self.new) }
@@ -457,15 +464,16 @@ impl<D: BlockDevice> Session<D> {
         Ok(bytes)
     }
 
-    /// Fills a buffer with the bytes of an open file from its position on, or a part of it if the
-    /// file ends earlier. Returns how many bytes these are; the rest of the buffer stays as it was.
-    /// Advances the position by their number. Otherwise as [`read`](Session::read), but allocates
-    /// at most memory to cache a block, and does without it if that fails. A refusal leaves the
-    /// buffer as it was. After `Io` its bytes are unspecified.
+    /// Reads bytes of an open file from its position into a buffer, up to the end of the buffer or
+    /// of the file. Returns the number of bytes read, and advances the position by this number.
+    /// Leaves the rest of the buffer unchanged. Makes the same reads of the device as
+    /// [`read`](Session::read). Allocates memory only to cache a block, and succeeds without the
+    /// cache if memory can't be allocated. A refused call leaves the buffer unchanged. After `Io`
+    /// the contents of the buffer are unspecified.
     ///
     /// # Errors
     ///
-    /// `BadFile` if no file is open for reading under the number.
+    /// `BadFile` if no file is open for reading under the number `fd`.
     pub fn read_into(&mut self, fd: Fd, buf: &mut [u8]) -> Result<usize, Error>
         ensures call { IsCall self.old (ops.Read fd (length buf.old)) (reply_from (λ n. ops.Bytes (take n buf.new)) result) self.new }
         ensures stays { MatchResult result (λ n. (n ≤ length buf.old) × (drop n buf.new ≡ drop n buf.old)) (λ e. is_refusal e ≡ true → buf.new ≡ buf.old) }
@@ -487,13 +495,13 @@ impl<D: BlockDevice> Session<D> {
         Ok(count)
     }
 
-    /// Sets the position of an open file, in bytes from its beginning. It may be after the file's
-    /// end.
+    /// Sets the position of an open file, in bytes from its beginning. The position may be after
+    /// the end of the file.
     ///
     /// # Errors
     ///
-    /// `BadFile` if no file is open under the number; `Invalid` if the position is above
-    /// 2,147,483,647, or above the profile's longest file.
+    /// `BadFile` if no file is open under the number `fd`. `Invalid` if the position is above
+    /// 2,147,483,647, or above the profile's limit for files.
     pub fn seek(&mut self, fd: Fd, position: u32) -> Result<(), Error>
         ensures { IsCall self.old (ops.Seek fd position) (reply_from (λ _. ops.Done) result) self.new }
     {
@@ -502,12 +510,12 @@ impl<D: BlockDevice> Session<D> {
         Ok(())
     }
 
-    /// Returns the position of an open file, in bytes from its beginning. Does not access the
+    /// Returns the position of an open file, in bytes from its beginning. Doesn't access the
     /// device.
     ///
     /// # Errors
     ///
-    /// `BadFile` if no file is open under the number.
+    /// `BadFile` if no file is open under the number `fd`.
     pub fn position(&self, fd: Fd) -> Result<u32, Error>
         ensures { FileAnswersOf file_position self.now fd result }
     {
@@ -520,12 +528,12 @@ impl<D: BlockDevice> Session<D> {
         }
     }
 
-    /// Returns the size of an open file in bytes. The size of a file open for writing includes what
-    /// isn't synced. Does not access the device.
+    /// Returns the size of an open file in bytes. The size of a file that is open for writing
+    /// includes changes that aren't synced. Doesn't access the device.
     ///
     /// # Errors
     ///
-    /// `BadFile` if no file is open under the number.
+    /// `BadFile` if no file is open under the number `fd`.
     pub fn size(&self, fd: Fd) -> Result<u32, Error>
         ensures { FileAnswersOf file_size self.now fd result }
     {
@@ -541,11 +549,11 @@ impl<D: BlockDevice> Session<D> {
         }
     }
 
-    /// Commits the changes of an open file to the tree, closes it, and frees its number.
+    /// Commits the changes of an open file to the tree, closes the file, and frees its number.
     ///
     /// # Errors
     ///
-    /// `BadFile` if no file is open under the number.
+    /// `BadFile` if no file is open under the number `fd`.
     pub fn close(&mut self, alloc: Global, fd: Fd) -> Result<(), Error>
         ensures { IsCall self.old (ops.Close fd) (reply_from (λ _. ops.Done) result) self.new }
     {
@@ -561,13 +569,13 @@ impl<D: BlockDevice> Session<D> {
         Ok(())
     }
 
-    /// Closes all files and mounts the device again, also after an error. Unsynced changes are
-    /// lost. Finds the order of names again, as [`mount`] does.
+    /// Closes all files and mounts the device again, even after an error. Changes that aren't
+    /// synced are lost. Infers the order of names again, as [`mount`] does.
     ///
     /// # Errors
     ///
-    /// `Corrupt` exactly if the device has no accepted image in either order. `Io` if a read
-    /// failed. `NoMemory` if memory can't be allocated. After any error the session has failed.
+    /// `Corrupt` if the device has no accepted image in either order of names. `Io` if a read
+    /// fails. `NoMemory` if memory can't be allocated. After an error the session has failed.
     pub fn remount(&mut self, alloc: Global) -> Result<(), Error>
         ensures { IsCall self.old ops.Remount (reply_from (λ _. ops.Done) result) self.new }
     {
@@ -577,7 +585,7 @@ impl<D: BlockDevice> Session<D> {
         answer
     }
 
-    /// Borrows the device, as the last call left it.
+    /// Returns a reference to the device in the state that the last call left.
     pub fn device(&self) -> &D
         ensures disk { ordered_disk self.now.tree.disk.order (disk_of_device D.BlockDevice result.now) ≡ self.now.tree.disk }
         ensures history { D.history result.now ≡ self.now.tree.history }
@@ -585,7 +593,8 @@ impl<D: BlockDevice> Session<D> {
         self.tree.device()
     }
 
-    /// Ends the session and returns the device. Writes nothing, so unsynced changes are lost.
+    /// Ends the session and returns the device. Writes nothing, so changes that aren't synced are
+    /// lost.
     pub fn unmount(self) -> D
         ensures disk { ordered_disk self.tree.disk.order (disk_of_device D.BlockDevice result) ≡ self.tree.disk }
         ensures history { D.history result ≡ self.tree.history }
@@ -593,23 +602,23 @@ impl<D: BlockDevice> Session<D> {
         self.tree.into_device()
     }
 
-    /// Returns the order of names in the image's directories: whether a name that is a prefix of
-    /// another one comes before or after it. [`list`](Session::list) doesn't depend on it, and
-    /// always returns the shorter one first.
+    /// Returns the order of names in the image's directories: whether a name comes before or after
+    /// the longer names that begin with it. The result of [`list`](Session::list) doesn't depend on
+    /// the order of names, since `list` always returns the shorter name first.
     pub fn order(&self) -> NameOrder
         ensures { result ≡ self.now.tree.disk.order }
     {
         self.tree.order()
     }
 
-    /// Returns the image's superblock: the version, the block size and count, and the image's
-    /// limits. Makes at most one read. An image whose limits differ from those of the session's
-    /// profile isn't in the writing profile; [`mount_with_limits`](crate::mount_with_limits) adopts
-    /// them.
+    /// Returns the image's superblock: its version, its block size and count, and its limits. Makes
+    /// at most one read. An image whose limits differ from those of the session's profile isn't in
+    /// the writing profile. [`mount_with_limits`](crate::mount_with_limits) adopts the limits of an
+    /// image.
     ///
     /// # Errors
     ///
-    /// `Io` if the read failed, `NoMemory` if memory can't be allocated. After either the session
+    /// `Io` if the read fails. `NoMemory` if memory can't be allocated. After an error the session
     /// has failed.
     pub fn superblock(&mut self, alloc: Global) -> Result<Superblock, Error>
         ensures is { IfOk result (λ f. image_fields self.old.tree.pairs ≡ Some (superblock_view f)) }
@@ -625,17 +634,17 @@ impl<D: BlockDevice> Session<D> {
         superblock
     }
 
-    /// Returns whether the session has failed. If so, each call except
-    /// [`remount`](Session::remount) is refused as `Failed`. Does not access the device.
+    /// Returns whether the session has failed. Each call of a failed session, except
+    /// [`remount`](Session::remount), is refused as `Failed`. Doesn't access the device.
     pub fn has_failed(&self) -> bool
         ensures { result ≡ self.now.tree.failed }
     {
         self.tree.has_failed()
     }
 
-    /// Returns whether the session may write: it hasn't failed, and its image is in the writing
-    /// profile. Then no operation is refused as `ReadOnly`, and [`run`](Session::run) survives a
-    /// power loss. Does not access the device.
+    /// Returns whether the session may write, which means that it hasn't failed and its image is in
+    /// the writing profile. If the session may write, no operation is refused as `ReadOnly`, and
+    /// [`run`](Session::run) survives a power loss. Doesn't access the device.
     pub fn is_writable(&self) -> bool
         ensures { IsTrue result ↔ MayWrite self.now }
     {
@@ -646,16 +655,16 @@ impl<D: BlockDevice> Session<D> {
     }
 
     /// Returns why the image is read only: a rule of the writing profile that the image breaks, and
-    /// where. Returns None exactly if the session may write, and then makes no device call.
-    /// Otherwise reads the metadata pairs. Writes nothing.
+    /// where it breaks it. Returns None, without a device call, if and only if the session may
+    /// write. Only reads the metadata pairs, and writes nothing.
     ///
-    /// If the image breaks several rules, another limit is named first, then long inline contents,
-    /// an empty pair, and what is too large.
+    /// If the image breaks several rules, returns the first of these: a limit that differs from the
+    /// profile's, inline contents that are too long, an empty pair, and a pair that is too large.
     ///
     /// # Errors
     ///
-    /// `Failed` in a failed session. `Io` if a read failed, and `NoMemory` if memory can't be
-    /// allocated; the session has failed after either.
+    /// `Failed` if the session has failed. `Io` if a read fails. `NoMemory` if memory can't be
+    /// allocated. After `Io` or `NoMemory` the session has failed.
     pub fn read_only_reason(&mut self, alloc: Global) -> Result<Option<ProfileBreach>, Error>
         ensures is { IfOk result (IsReadOnlyReason self.old) }
         ensures read { OnOk result (OnlyReadsSession self.old self.new) }
@@ -673,7 +682,7 @@ impl<D: BlockDevice> Session<D> {
         breach
     }
 
-    // Performs one operation. A refusal is a reply. After an error the session has failed.
+    // Performs one operation. Returns a refusal as a reply. After an error the session has failed.
     fn perform(&mut self, alloc: Global, op: Op<'_>) -> Result<Reply, Error>
         ensures call { IsCall self.old (op_view op.entry) (result_view result) self.new }
         ensures named { IfOk result HasRefusalError }
@@ -711,12 +720,13 @@ impl<D: BlockDevice> Session<D> {
         self.tree.fail();
     }
 
-    /// Performs operations in order, and returns a reply for each. A refusal is a reply, too.
+    /// Performs operations in order, and returns a reply for each. A refusal is a reply, too, and
+    /// the run continues after it.
     ///
     /// # Errors
     ///
-    /// `Io`, `NoMemory` and, from a remount, `Corrupt`. The operations before the one that failed
-    /// were applied, and the session has failed.
+    /// Returns `Io`, `NoMemory` or, from a remount, `Corrupt`. After an error the session has
+    /// failed. All operations before the failed one have been performed.
     pub fn run(&mut self, alloc: Global, ops: &[Op<'_>]) -> Result<Vec<Reply>, Error>
         ensures performed { IfOk result (λ replies. ArePerformed None (system_state self.old) (map op_view ops.now) (map reply_view replies.items) (system_state self.new)) }
         ensures named { IfOk result (λ replies. All HasRefusalError replies.items) }
@@ -741,16 +751,16 @@ impl<D: BlockDevice> Session<D> {
     }
 }
 
-/// Mounts the image of a device, and finds the order of names that the image has. If both orders
-/// fit, it is littlefs's own, `LongerFirst`. Only reads the device.
+/// Mounts the image on a device, and infers the order of names in its directories. If both orders
+/// fit the names, the order is littlefs's own, `LongerFirst`. Only reads the device.
 ///
 /// An image whose limits differ from those of the device's profile isn't in the writing profile.
 /// [`mount_with_limits`](crate::mount_with_limits) adopts the image's limits.
 ///
 /// # Errors
 ///
-/// `Corrupt` exactly if the device has no accepted image in either order. `Io` if a read failed.
-/// `NoMemory` if memory can't be allocated. An error returns the device, too.
+/// `Corrupt` if the device has no accepted image in either order of names. `Io` if a read fails.
+/// `NoMemory` if memory can't be allocated. An error also returns the device.
 pub fn mount<D: BlockDevice>(alloc: Global, device: D) -> Result<Session<D>, (D, Error)>
     ensures begun { IfOk result (λ s. BeginsByMount (ordered_disk s.tree.disk.order (disk_of_device D.BlockDevice device)) (D.history device) s) }
     ensures state { IfOk result (λ s. IsMounted (ordered_disk s.tree.disk.order (disk_of_device D.BlockDevice device)) (system_state s)) }
@@ -771,12 +781,12 @@ pub fn mount<D: BlockDevice>(alloc: Global, device: D) -> Result<Session<D>, (D,
     }
 }
 
-/// Makes an empty file system on a device, as [`format_ordered`] does, with littlefs's own order of
+/// Makes an empty file system on a device as [`format_ordered`] does, with littlefs's own order of
 /// names, `LongerFirst`.
 ///
 /// # Errors
 ///
-/// Errors are those of [`format_ordered`].
+/// Returns the same errors as [`format_ordered`].
 pub fn format<D: BlockDevice>(alloc: Global, device: D) -> Result<Session<D>, (D, Error)>
     ensures formatted { IfOk result (λ s. IsFormatted (kept_thread s.tree)) }
     ensures state { IfOk result (λ s. (system_state s).state ≡ Healthy (mounted_session empty_tree)) }
@@ -787,14 +797,15 @@ pub fn format<D: BlockDevice>(alloc: Global, device: D) -> Result<Session<D>, (D
     format_ordered(alloc, device, NameOrder::LongerFirst)
 }
 
-/// Makes an empty file system on a device, and begins a session over it (SPEC.md of littlefs,
-/// "0x0ff LFS_TYPE_SUPERBLOCK"). Erases the blocks 0 and 1, and writes no other. Directories will
-/// have their names in the given order, which isn't stored: a mount infers it from the names.
+/// Makes an empty file system on a device, and returns a session over it. Erases blocks 0 and 1,
+/// and writes no other block (see "0x0ff LFS_TYPE_SUPERBLOCK" in littlefs's SPEC.md). Directories
+/// will store their names in the order `order`. The image doesn't record the order of names, but a
+/// mount infers it.
 ///
 /// # Errors
 ///
-/// `Io` if a device call failed; the two blocks may then hold any bytes. `NoMemory` if memory can't
-/// be allocated; nothing is written then. An error returns the device, too.
+/// `Io` if a device call fails; the two blocks may then contain any bytes. `NoMemory` if memory
+/// can't be allocated; in this case nothing is written. An error also returns the device.
 pub fn format_ordered<D: BlockDevice>(
     alloc: Global,
     device: D,

@@ -1,4 +1,4 @@
-// The calls of a writer.
+// The calls of a writer, which is a file that is open for writing.
 
 ghost use Rattle.std.specs.Prelude.{ℕ, List, [], true, ◌≡◌, length, IfErr, IfOk, IfSome, IsSome, OnErr, OnOk};
 ghost use Rattle.lfs_model.specs.session.Writers.{opened_writer, synced_writer, truncated_writer, written_writer};
@@ -29,7 +29,8 @@ use lfs_lookup::PathLookup;
 use lfs_tree::{Tree, lemma_contents_stay, lemma_few_blocks};
 use std::alloc::Global;
 
-// Returns the contents of a writer of a file of `size` bytes: the draft, or else those of the file.
+// Returns the contents of a writer whose file has `size` bytes: its unsynced contents, or the
+// file's contents if there are no unsynced changes.
 fn contents_of_writer<D: BlockDevice>(
     alloc: Global,
     tree: &mut Tree<D>,
@@ -136,7 +137,7 @@ pub(crate) fn save_writer<D: BlockDevice>(
     Ok(())
 }
 
-// Opens a writer of an existing file, at position 0. Recovers first.
+// Opens a writer of an existing file at position 0. Recovers first.
 pub(crate) fn open_existing_file<D: BlockDevice>(
     alloc: Global,
     tree: &mut Tree<D>,
@@ -179,8 +180,8 @@ pub(crate) fn open_existing_file<D: BlockDevice>(
     })
 }
 
-// Creates an empty file and opens a writer of it. `known` is the result of the path's look-up, or
-// None if a recovery has to come first.
+// Creates an empty file and opens a writer of it. `known` is the result of looking up the path, or
+// None if the image must be recovered first.
 pub(crate) fn create_and_open<D: BlockDevice>(
     alloc: Global,
     tree: &mut Tree<D>,

@@ -1,4 +1,4 @@
-// Compares a session with another one, mounted from given bytes.
+// Compares a session with a session on a device with given bytes.
 
 use crate::script_device::{Device, device_without_fault};
 use lfs_device::{BlockDevice, Error, Geometry, RamDevice};
@@ -6,7 +6,7 @@ use lfs_fs::{Item, Kind, OpenFlags, Reply, Session, mount};
 use lfs_script_lines::{Answer, ComparisonScope, SessionDifference};
 use std::alloc::{AllocError, Global};
 
-// A session, the one that it is compared with, and the scope of the comparison.
+// A session, the session that it is compared with, and the scope of the comparison.
 #[derive(Drop)]
 struct Comparison<'a> {
     alloc: Global,
@@ -15,7 +15,7 @@ struct Comparison<'a> {
     scope: ComparisonScope,
 }
 
-// Mounts a device in memory that holds these bytes.
+// Mounts a device in memory that contains these bytes.
 fn mount_bytes(
     alloc: Global,
     geometry: Geometry,
@@ -34,7 +34,7 @@ fn is_same_item(item: &Item, other: &Item) -> bool {
         && item.size == other.size
 }
 
-// Returns the least index at which two listings differ.
+// Returns the lowest index at which two listings differ.
 fn first_different_index(items: &[Item], others: &[Item]) -> Option<usize> {
     for (index, (item, other)) in items.iter().zip(others).enumerate() {
         if !is_same_item(item, other) {
@@ -57,7 +57,7 @@ fn first_different_name<'a>(items: &'a [Item], others: &'a [Item]) -> Option<&'a
     }
 }
 
-// Returns the path of a name in a directory. The root's own path is one byte.
+// Returns the path of a name in a directory. The root's own path has only one byte.
 fn join_path(alloc: Global, directory: &[u8], name: &[u8]) -> Result<Vec<u8>, AllocError> {
     let mut path = Vec::new(alloc);
     if directory.len() > 1 {
@@ -68,7 +68,7 @@ fn join_path(alloc: Global, directory: &[u8], name: &[u8]) -> Result<Vec<u8>, Al
     Ok(path)
 }
 
-// Reads a file. Returns None if the session can't open it, because of the files that are open.
+// Reads a file. Returns None if the session can't open the file because of other open files.
 fn read_file(
     alloc: Global,
     session: &mut Session<Device>,
@@ -85,7 +85,7 @@ fn read_file(
     }
 }
 
-// Reads an attribute, or returns None if there is none.
+// Reads an attribute. Returns None if the entry doesn't have it.
 fn read_attribute(
     alloc: Global,
     session: &mut Session<Device>,
@@ -100,8 +100,8 @@ fn read_attribute(
 }
 
 impl Comparison<'_> {
-    // Returns the first block that one session uses and the other doesn't, or says that their
-    // counts differ.
+    // Returns the first block that only one of the sessions uses, or reports that the numbers of
+    // used blocks differ.
     fn compare_blocks(&self, block_count: u32) -> Result<Option<SessionDifference>, Error> {
         let mut count = 0u32;
         for block in 0..block_count {
@@ -139,7 +139,7 @@ impl Comparison<'_> {
         }
     }
 
-    // Returns the first type from `first` to `last` of which the attributes differ.
+    // Returns the first type, from `first` to `last`, of an attribute that differs.
     fn compare_attributes(
         &mut self,
         path: &[u8],
@@ -154,7 +154,7 @@ impl Comparison<'_> {
         Ok(None)
     }
 
-    // Returns the first difference of an entry that both list as of this kind.
+    // Returns the first difference of an entry for which the two sessions list the same kind.
     fn compare_entry(
         &mut self,
         path: &[u8],
@@ -214,7 +214,7 @@ impl Comparison<'_> {
         Ok(None)
     }
 
-    // Returns the first difference.
+    // Returns the first difference of the two sessions.
     fn compare(&mut self) -> Result<Option<SessionDifference>, Error> {
         if self.session.gstate()? != self.other.gstate()? {
             return Ok(Some(SessionDifference::Gstate));
@@ -228,7 +228,7 @@ impl Comparison<'_> {
     }
 }
 
-// Returns the first difference from a session on these bytes.
+// Returns the first difference between a session and a session on a device with these bytes.
 fn compare_with_bytes(
     alloc: Global,
     session: &mut Session<Device>,
@@ -246,10 +246,11 @@ fn compare_with_bytes(
     .compare()
 }
 
-/// Compares a session with one on a device with these bytes. Only queries the session.
+/// Compares a session with a session on a device with the given bytes. Doesn't change the session's
+/// files.
 ///
-/// The answer is the session's refusal if the session had failed before, or an error if the bytes
-/// aren't those of a device or can't be mounted, or if one of the sessions fails.
+/// If the session failed earlier, the answer is its refusal. If the bytes aren't those of a device,
+/// if they can't be mounted or if one of the sessions fails, the answer is an error.
 pub fn compare_with_image(
     alloc: Global,
     session: &mut Session<Device>,
@@ -264,7 +265,7 @@ pub fn compare_with_image(
     }
 }
 
-/// Compares a session with one on a copy of its device.
+/// Compares a session with a session on a copy of its device.
 pub fn compare_with_copy(
     alloc: Global,
     session: &mut Session<Device>,

@@ -14,7 +14,7 @@ impl<D: BlockDevice> CountedDevice<D> {
         CountedDevice { inner, failed: 0 }
     }
 
-    /// Borrows the device below.
+    /// Returns a reference to the inner device.
     pub fn inner(&self) -> &D {
         &self.inner
     }

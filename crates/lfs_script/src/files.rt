@@ -1,4 +1,4 @@
-// Reads and writes files with the bytes of devices.
+// Reads and writes files that contain the bytes of devices.
 
 use std::rt::Files;
 use std::{fs, str};
@@ -11,7 +11,7 @@ pub fn read_file<R: Files + AllocGlobal>(rt: &R, path: &[u8]) -> Option<Vec<u8>>
     }
 }
 
-/// Writes bytes to a file, and returns whether that succeeded.
+/// Writes bytes to a file, and returns whether this succeeded.
 pub fn write_file<R: Files>(rt: &R, path: &[u8], bytes: &[u8]) -> bool {
     match str::from_utf8(path) {
         Ok(path) => fs::write(rt, path, bytes).is_ok(),

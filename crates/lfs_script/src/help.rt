@@ -1,6 +1,6 @@
 // The program's help.
 
-/// The text of `--help`: the lines that a script is made of.
+/// The text of `--help`, which describes the lines of a script.
 pub const HELP: &str = "\
 Performs the operations of standard input, one a line, on a littlefs file system
 in memory, and prints one line for each.

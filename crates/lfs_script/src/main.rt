@@ -1,6 +1,6 @@
 // SPDX-License-Identifier: BSD-3-Clause
-//! lfs_script: performs the operations of standard input, one per line, on a littlefs file system
-//! in memory, and prints the answer to each.
+//! lfs_script performs operations on a littlefs file system in memory. The program reads the
+//! operations from standard input, one per line, and prints an answer to each.
 #![tactic(auto)]
 
 mod comparison;
@@ -32,17 +32,17 @@ fn report_end(rt: &HostRuntime, end: ScriptEnd) -> ExitCode {
     ExitCode::from(status)
 }
 
-/// What a command line requests.
+/// The request of a command line.
 #[derive(Clone, Copy, PartialEq, Eq)]
 enum Request {
-    /// Perform the lines of standard input.
+    /// The program performs the lines of standard input.
     Script,
     Help,
     /// The command line has unknown words.
     Unknown,
 }
 
-// Parses the words of a command line, the program's name first.
+// Parses the words of a command line. The first word is the program's name.
 fn parse_request(words: &[String]) -> Request {
     match words {
         [] | [_] => Request::Script,

@@ -5,7 +5,7 @@ use lfs_fs::{Op, Session};
 use lfs_script_lines::{Answer, Operation};
 use std::alloc::Global;
 
-// Converts an operation of a script to one of a session.
+// Converts an operation of a script to an operation of a session.
 fn session_op(operation: &Operation) -> Op<'_> {
     match operation {
         Operation::Open(path, flags) => Op::Open(path, *flags),
@@ -33,7 +33,7 @@ fn session_op(operation: &Operation) -> Op<'_> {
 
 /// Performs an operation.
 ///
-/// The answer is the session's reply, which may be a refusal, or the error by which the session
+/// The answer is the session's reply, which may be a refusal, or the error with which the session
 /// failed.
 pub fn perform_operation<D: BlockDevice>(
     alloc: Global,

@@ -13,7 +13,7 @@ use lfs_script_lines::{Answer, Command, ComparisonScope};
 use std::mem;
 use std::rt::Files;
 
-// Makes a device that holds these bytes, with this profile.
+// Makes a device that contains these bytes and has this profile.
 fn device_of_bytes(
     bytes: Vec<u8>,
     block_size: u32,
@@ -32,25 +32,27 @@ fn device_of_bytes(
     }
 }
 
-// Returns the range, among the bytes of the device, of `count` bytes at an offset in a block.
+// Returns the range of `count` bytes at an offset in a block, as indices into the bytes of the
+// device.
 fn block_range(block_size: u32, block: u32, offset: u32, count: usize) -> (usize, usize) {
     let start = (block_size as usize * block as usize).saturating_add(offset as usize);
     (start, start.saturating_add(count))
 }
 
-/// A script that is being performed: its device, and the profile of devices to come.
+/// A script that is being performed: its device, and the profile of the devices that later commands
+/// make.
 #[derive(Drop)]
 pub struct Script<'a, R: Files> {
     rt: &'a R,
     device: ScriptDevice,
     // The profile of the devices that the script makes.
     profile: Profile,
-    // whether the devices that the script makes say which bytes are blank
+    // Whether the devices that the script makes report which bytes are blank.
     checks_blanks: bool,
 }
 
 impl<'a, R: Files + AllocGlobal> Script<'a, R> {
-    /// Begins a script.
+    /// Begins a script that has no device.
     pub fn new(rt: &'a R) -> Script<'a, R> {
         Script {
             rt,
@@ -60,7 +62,7 @@ impl<'a, R: Files + AllocGlobal> Script<'a, R> {
         }
     }
 
-    // Returns a device that was made, as the script makes them.
+    // Returns a new device with the script's settings for erases and blank bytes.
     fn prepared(&self, device: RamDevice, erased: Erased) -> RamDevice {
         let device = device.with_erased(erased);
         if self.checks_blanks {
@@ -262,7 +264,7 @@ impl<'a, R: Files + AllocGlobal> Script<'a, R> {
 
     /// Performs a command.
     ///
-    /// Operations are performed on the session. Without a session the answer to an operation or a
+    /// Performs operations on the session. If there is no session, the answer to an operation or a
     /// comparison is `Nothing`.
     pub fn perform_command(&mut self, command: &Command) -> Answer {
         match command {

@@ -8,7 +8,7 @@ use lfs_fs::Session;
 use lfs_script_lines::DeviceCallCounts;
 use std::alloc::Global;
 
-/// A device in memory, one of whose calls may fail.
+/// A device in memory with a call that may fail.
 pub type Device = CountedDevice<FaultDevice<RamDevice>>;
 
 /// A planned fault that never happens.
@@ -20,9 +20,9 @@ pub const NO_FAULT: PlannedFault = PlannedFault {
     bad_block: None,
 };
 
-/// Returns the device with calls that are counted from now on, and one of which fails as planned. It
-/// says that bytes are blank if the device below does. Returns `NoMemory` if an erase is to be cut
-/// short and memory for a block can't be allocated.
+/// Returns a device over `device` that counts its calls from 0 and lets one call fail as planned.
+/// The new device reports bytes as blank if `device` does. Returns `NoMemory` if the plan is to cut
+/// an erase short and memory for a block can't be allocated.
 pub fn plan_fault(alloc: Global, device: RamDevice, fault: PlannedFault) -> Result<Device, Error> {
     let block_size = device.geometry().block_size as usize;
     let device = FaultDevice::new(device, fault.which, fault.nth, fault.stops);
@@ -37,7 +37,7 @@ pub fn plan_fault(alloc: Global, device: RamDevice, fault: PlannedFault) -> Resu
     Ok(CountedDevice::new(device.with_blank_checks()))
 }
 
-/// Returns the device with calls that are counted from now on. None fails.
+/// Returns a device over `device` that counts its calls from 0. No call is planned to fail.
 pub fn device_without_fault(device: RamDevice) -> Device {
     let device = FaultDevice::new(device, CountedCalls::Any, 0, false);
     CountedDevice::new(device.with_blank_checks())
@@ -52,7 +52,7 @@ pub enum ScriptDevice {
 }
 
 impl ScriptDevice {
-    /// Borrows the device, also a session's, as the last call left it.
+    /// Returns a reference to the device, if there is one, even if a session uses it.
     pub fn device(&self) -> Option<&Device> {
         match self {
             ScriptDevice::Nothing => None,
@@ -72,7 +72,7 @@ impl ScriptDevice {
     }
 }
 
-/// Returns how many calls a device had, and how many failed. Each count saturates.
+/// Returns how many calls a device received, and how many of them failed. Each number saturates.
 pub fn count_calls(device: &Device) -> DeviceCallCounts {
     DeviceCallCounts {
         reads: device.inner().calls(CountedCalls::Read),

@@ -7,7 +7,7 @@ use lfs_fs::{Gstate, Item, Kind, Reply};
 use std::io;
 use std::io::Write;
 
-// Appends a word, and an error's name and number.
+// Appends a word, and the name and number of an error.
 fn push_error(text: &mut Vec<u8>, word: &str, error: Error) -> io::Result<()> {
     write!(text, "{} {} {}", word, error.name(), error.number())
 }
@@ -80,7 +80,7 @@ fn push_session_difference(text: &mut Vec<u8>, difference: &SessionDifference) -
     }
 }
 
-/// Appends the line that prints an answer, without its newline.
+/// Appends the line that a script prints for an answer, without a newline.
 ///
 /// # Errors
 /// - `OutOfMemory` if memory for the line can't be allocated.

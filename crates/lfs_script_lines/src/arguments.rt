@@ -1,4 +1,4 @@
-// Parses the words behind a command's name. A missing word is read as an empty one.
+// Parses the words after a command's name. A missing word is treated as an empty one.
 
 ghost use Rattle.std.specs.Prelude.{◌≤◌};
 
@@ -10,7 +10,7 @@ use lfs_fs::OpenFlags;
 use std::alloc::Global;
 use std::str;
 
-// Returns the word at an index.
+// Returns the word at an index, or an empty word if there is none.
 pub(crate) fn word_at<'a>(words: &[&'a [u8]], place: usize) -> &'a [u8] {
     match words.get(place) {
         Some(word) => word,
@@ -18,7 +18,7 @@ pub(crate) fn word_at<'a>(words: &[&'a [u8]], place: usize) -> &'a [u8] {
     }
 }
 
-// Parses a number below 2^32 in a base, without a sign.
+// Parses a number below 2^32 without a sign in the given base.
 pub(crate) fn read_number(word: &[u8], base: u32) -> Option<u32>
     requires low { 2 ≤ base }
     requires high { base ≤ 36 }
@@ -62,7 +62,7 @@ pub(crate) fn byte_at(words: &[&[u8]], place: usize) -> Result<u8, LineError> {
     }
 }
 
-// Parses the word at an index as bytes.
+// Unescapes the word at an index.
 pub(crate) fn bytes_at(alloc: Global, words: &[&[u8]], place: usize) -> Result<Vec<u8>, LineError> {
     match read_word(alloc, word_at(words, place))? {
         Some(bytes) => Ok(bytes),

@@ -1,21 +1,21 @@
-// The commands of lines.
+// The commands of a script.
 
 use lfs_device::{Erased, PlannedFault};
 use lfs_fs::OpenFlags;
 use lfs_model::{NameOrder, Profile};
 
-/// How much of two sessions a comparison covers.
+/// The parts of two sessions that are compared.
 #[derive(Clone, Copy)]
 pub enum ComparisonScope {
-    /// Everything.
+    /// Everything is compared.
     Whole,
-    /// Everything except the attributes of other types than this one.
+    /// Everything is compared except attributes of other types than the given one.
     Kind(u8),
-    /// Everything except attributes and the bytes of files.
+    /// Everything is compared except attributes and the bytes of files.
     Entries,
 }
 
-/// A command of a script. Sizes are in bytes. Nothing is checked against a device yet.
+/// A command of a script. Sizes are in bytes. The values haven't been checked against a device.
 #[derive(Drop)]
 pub enum Command {
     /// Formats a new, blank device.
@@ -23,58 +23,59 @@ pub enum Command {
         block_size: u32,
         page: u32,
         block_count: u32,
-        /// Whether a name that is a prefix of another one comes before or after it.
+        /// The order of names: whether a name comes before or after the longer names that begin
+        /// with it.
         order: NameOrder,
-        /// What the device's erases leave.
+        /// The bytes that a block contains after an erase.
         erased: Erased,
     },
     /// Mounts a new device with the bytes of a file.
     Image {
         block_size: u32,
         page: u32,
-        /// The file's path.
+        /// The path of the file.
         file: Vec<u8>,
-        /// What the device's erases leave.
+        /// The bytes that a block contains after an erase.
         erased: Erased,
     },
-    /// Sets the profile of the devices that are made from now on.
+    /// Sets the profile of the devices that later commands make.
     Profile(Profile),
-    /// Lets the devices that are made from now on say which bytes are blank.
+    /// Makes the devices of later commands report which bytes are blank.
     BlankChecks,
     /// Ends the session.
     Unmount,
-    /// Mounts the script's device again. One of its calls will fail.
+    /// Mounts the script's device again. A call of the device may be planned to fail.
     Mount(PlannedFault),
-    /// Formats the script's device. One of its calls will fail.
+    /// Formats the script's device. A call of the device may be planned to fail.
     Format(PlannedFault),
-    /// Overwrites bytes of the script's device, from an offset in a block on.
+    /// Overwrites bytes of the script's device at an offset in a block.
     Put {
         block: u32,
         offset: u32,
         bytes: Vec<u8>,
-        /// What the device's erases leave.
+        /// The bytes that a block contains after an erase.
         erased: Erased,
     },
-    /// Prints bytes of the script's device, from an offset in a block on.
+    /// Prints bytes of the script's device at an offset in a block.
     Bytes {
         block: u32,
         offset: u32,
         count: u32,
     },
-    /// Writes the device's bytes to the file at a path.
+    /// Writes the bytes of the device to the file at this path.
     Save(Vec<u8>),
-    /// Prints how many calls the device had.
+    /// Prints how many calls the device received.
     Calls,
-    /// Prints the first difference between the session and one on a copy of its device.
+    /// Prints the first difference between the session and a session on a copy of its device.
     Compare(ComparisonScope),
-    /// Prints the first difference between the session and one on a device with the bytes of a
-    /// file.
+    /// Prints the first difference between the session and a session on a device with the bytes of
+    /// a file.
     CompareWith(Vec<u8>),
     /// Performs an operation of the session.
     Perform(Operation),
 }
 
-/// An operation of a session, as parsed. Paths, contents and names are bytes.
+/// An operation of a session as it was parsed. Paths, contents and names are bytes.
 #[derive(Drop)]
 pub enum Operation {
     Open(Vec<u8>, OpenFlags),
@@ -86,7 +87,7 @@ pub enum Operation {
     Close(u32),
     Mkdir(Vec<u8>),
     Remove(Vec<u8>),
-    /// The old path and the new one.
+    /// The old path and the new path.
     Rename(Vec<u8>, Vec<u8>),
     List(Vec<u8>),
     Stat(Vec<u8>),

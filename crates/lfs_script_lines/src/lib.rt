@@ -1,5 +1,6 @@
 // SPDX-License-Identifier: BSD-3-Clause
-//! Scripts: operations on a file system as text, one per line, and their answers as text.
+//! Scripts: operations on a file system as text, with one operation per line, and the text of their
+//! answers.
 #![tactic(auto)]
 
 mod answer;

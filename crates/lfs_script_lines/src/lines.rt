@@ -10,12 +10,12 @@ use crate::options::{
 use crate::refusal::LineObjection;
 use std::alloc::{AllocError, AllocFailed, Global};
 
-/// Why a line couldn't be parsed.
+/// The reason why a line couldn't be parsed.
 #[derive(Clone, Copy)]
 pub enum LineError {
     /// The line isn't a command, for this reason.
     Refused(LineObjection),
-    /// An allocation failed.
+    /// Memory couldn't be allocated.
     NoMemory,
 }
 
@@ -86,7 +86,7 @@ fn bytes_command(words: &[&[u8]]) -> Result<Command, LineError> {
     })
 }
 
-// Parses the words of the command of that name.
+// Parses the words of the command `name`.
 fn command_of_words(
     alloc: Global,
     name: CommandName,
@@ -131,7 +131,7 @@ fn name_of_words(words: &[&[u8]]) -> Result<CommandName, LineError> {
     Ok(name)
 }
 
-// Returns a text without this byte at its end.
+// Returns the text without the byte `end` at its end, if it has this byte there.
 fn without_trailing_byte(text: &[u8], end: u8) -> &[u8] {
     match text.split_last() {
         Some((last, rest)) if *last == end => rest,
@@ -139,7 +139,7 @@ fn without_trailing_byte(text: &[u8], end: u8) -> &[u8] {
     }
 }
 
-// Returns a text without the spaces around it.
+// Returns the text without leading and trailing spaces.
 fn without_spaces_around(text: &[u8]) -> &[u8] {
     let mut start = text.len();
     let mut end = 0;
@@ -152,19 +152,19 @@ fn without_spaces_around(text: &[u8]) -> &[u8] {
     text.get(start..end).unwrap_or_default()
 }
 
-// Returns a line without its newline, a CR before that, and the spaces around the rest.
+// Returns a line without its newline, a CR before the newline, and leading and trailing spaces.
 fn trimmed_line(line: &[u8]) -> &[u8] {
     without_spaces_around(without_trailing_byte(without_trailing_byte(line, b'\n'), b'\r'))
 }
 
 /// Parses the command of a line. Returns None if the line is empty or begins with `#`.
 ///
-/// The line may end in a newline, and in a CR before it. These and the spaces at both ends are
-/// ignored.
+/// The line may end in a newline, with or without a CR before it. The line end and all leading and
+/// trailing spaces are ignored.
 ///
 /// # Errors
-/// - `Refused` if the line isn't a command of a script, with the reason.
-/// - `NoMemory` if memory for its words can't be allocated.
+/// - `Refused`, with the reason, if the line isn't a command of a script.
+/// - `NoMemory` if memory for the words of the line can't be allocated.
 pub fn read_line(alloc: Global, line: &[u8]) -> Result<Option<Command>, LineError> {
     let text = trimmed_line(line);
     if text.is_empty() || text.starts_with(b"#") {

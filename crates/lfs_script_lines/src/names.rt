@@ -1,6 +1,6 @@
-// The names of commands, and how each command is written.
+// The names and the usage of commands.
 
-/// The name of a command: the first word of its line.
+/// The name of a command, which is the first word of its line.
 #[derive(Clone, Copy)]
 pub(crate) enum CommandName {
     Fresh,
@@ -116,7 +116,7 @@ impl CommandName {
         }
     }
 
-    /// Returns the smallest and the largest number of words behind a command's name.
+    /// Returns the minimum and maximum number of words after a command's name.
     pub(crate) fn argument_counts(self) -> (usize, usize) {
         match self {
             CommandName::Fresh => (3, 6),
@@ -146,7 +146,7 @@ impl CommandName {
     }
 }
 
-// Returns whether a command with this usage has this name.
+// Returns whether the command with this usage has the name `word`.
 fn is_named(usage: &str, word: &[u8]) -> bool {
     match usage.as_bytes().strip_prefix(word) {
         Some(rest) => rest.is_empty() || rest.starts_with(b" "),
@@ -154,7 +154,7 @@ fn is_named(usage: &str, word: &[u8]) -> bool {
     }
 }
 
-/// Returns the command of a name.
+/// Returns the command with the name `word`, if there is one.
 pub(crate) fn command_of_word(word: &[u8]) -> Option<CommandName> {
     for name in NAMES {
         if is_named(name.usage(), word) {

@@ -43,7 +43,7 @@ fn rename_operation(alloc: Global, words: &[&[u8]]) -> Result<Operation, LineErr
     Ok(Operation::Rename(old, new))
 }
 
-// Parses an operation on a path, with flags or a type behind it, if it has any.
+// Parses an operation on a path, which flags or an attribute's type may follow.
 fn path_operation(
     alloc: Global,
     name: CommandName,

@@ -1,4 +1,4 @@
-// Parses the options behind commands' names.
+// Parses the options after a command's name.
 
 use crate::arguments::{byte_at, number_at, word_at};
 use crate::command::ComparisonScope;
@@ -15,7 +15,7 @@ fn is_keyword(word: &[u8], keyword: &[u8]) -> bool {
     word == keyword
 }
 
-// Parses how much of two sessions is compared.
+// Parses which parts of two sessions are compared.
 pub(crate) fn scope_of_words(words: &[&[u8]]) -> Result<ComparisonScope, LineError> {
     if words.len() < 2 {
         Ok(ComparisonScope::Whole)
@@ -26,7 +26,7 @@ pub(crate) fn scope_of_words(words: &[&[u8]]) -> Result<ComparisonScope, LineErr
     }
 }
 
-// Parses what erases leave, from the word at an index on.
+// Parses what a block contains after an erase, starting at the word at an index.
 pub(crate) fn erased_at(words: &[&[u8]], place: usize) -> Result<Erased, LineError> {
     let word = word_at(words, place);
     match words.len().saturating_sub(place) {
@@ -40,8 +40,8 @@ pub(crate) fn erased_at(words: &[&[u8]], place: usize) -> Result<Erased, LineErr
     }
 }
 
-// Parses the order of names and what erases leave, from word 4 on. Without a word for the order it
-// is `LongerFirst`.
+// Parses the order of names and what a block contains after an erase, starting at word 4. If the
+// order is missing, uses `LongerFirst`.
 pub(crate) fn order_and_erased(words: &[&[u8]]) -> Result<(NameOrder, Erased), LineError> {
     let word = word_at(words, 4);
     let is_shorter_first = is_keyword(word, b"shorter-first");
@@ -59,7 +59,7 @@ pub(crate) fn order_and_erased(words: &[&[u8]]) -> Result<(NameOrder, Erased), L
     Ok((order, erased))
 }
 
-// Parses what a failing call leaves, from the word at an index on.
+// Parses what a failing call does to the device, starting at the word at an index.
 fn extent_at(words: &[&[u8]], place: usize) -> Result<FaultExtent, LineError> {
     let word = word_at(words, place);
     match words.len().saturating_sub(place) {
@@ -92,7 +92,7 @@ fn kind_of_word(word: &[u8]) -> Option<CountedCalls> {
     }
 }
 
-// Parses which device call fails, from at least two words behind the command's name.
+// Parses which device call fails, if at least two words follow the command's name.
 fn given_fault(words: &[&[u8]]) -> Result<PlannedFault, LineError> {
     let Some(which) = kind_of_word(word_at(words, 1)) else {
         return Err(no_options(1));
@@ -124,7 +124,7 @@ pub(crate) fn fault_of_words(words: &[&[u8]]) -> Result<PlannedFault, LineError>
     }
 }
 
-// Returns the profile with a changed limit. Returns None if the word isn't a limit's name.
+// Returns the profile with one changed limit. Returns None if `name` isn't the name of a limit.
 fn with_limit(profile: Profile, name: &[u8], number: u32) -> Option<Profile> {
     let mut profile = profile;
     if is_keyword(name, b"name-max") {
@@ -143,7 +143,7 @@ fn with_limit(profile: Profile, name: &[u8], number: u32) -> Option<Profile> {
     Some(profile)
 }
 
-// Parses a profile from the words behind the command's name.
+// Parses a profile from the words after the command's name.
 pub(crate) fn profile_of_words(words: &[&[u8]]) -> Result<Profile, LineError> {
     let mut profile = Profile::new();
     let mut is_number = false;

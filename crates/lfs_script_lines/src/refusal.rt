@@ -2,16 +2,16 @@
 
 use std::fmt;
 
-/// Why a line isn't a command. An index is that of a word, 0 for the command's name.
+/// The reason why a line isn't a command. Words are counted from 0, which is the command's name.
 #[derive(Clone, Copy)]
 pub enum LineObjection {
-    /// What is wrong with the line.
+    /// The line is refused for this reason.
     Line(&'static str),
-    /// Too few or too many words, and the usage of the command.
+    /// The line has too few or too many words, and this is the usage of the command.
     Words(&'static str, &'static str),
-    /// The word at this index isn't of this kind.
+    /// The word at the given index isn't of the required kind.
     Word(usize, &'static str),
-    /// The words from this index on aren't options of the command.
+    /// The words from the given index on aren't options of the command.
     Options(usize),
 }
 

@@ -5,17 +5,17 @@ ghost use Rattle.std.specs.Prelude.{◌<◌};
 use crate::arguments::read_number;
 use std::alloc::{AllocError, Global};
 
-// The part of an escape that was read so far.
+// The part of an escape sequence that has been read.
 #[derive(Clone, Copy)]
 enum EscapePart {
     Text,
     Backslash,
     Mark,
-    // Its first digit, with this value.
+    // The sequence up to its first hexadecimal digit, which has this value.
     Digit(u8),
 }
 
-// The result of one more byte of a word.
+// The result of reading one more byte of a word.
 #[derive(Clone, Copy)]
 enum EscapeOutcome {
     To(EscapePart),
@@ -37,7 +37,7 @@ fn hex_value(digit: u8) -> Option<u8> {
     }
 }
 
-// Returns the result of one more byte after a part of an escape.
+// Returns the result of reading one more byte after a part of an escape sequence.
 fn next_escape_outcome(part: EscapePart, byte: u8) -> EscapeOutcome {
     match part {
         EscapePart::Text if byte == b'\\' => EscapeOutcome::To(EscapePart::Backslash),
@@ -55,7 +55,8 @@ fn next_escape_outcome(part: EscapePart, byte: u8) -> EscapeOutcome {
     }
 }
 
-// Unescapes a text with `\xNN` for some of its bytes.
+// Unescapes a text in which some bytes are written as `\xNN`. Returns None if the text isn't well
+// formed.
 fn read_escaped_text(alloc: Global, word: &[u8]) -> Result<Option<Vec<u8>>, AllocError> {
     let mut bytes = Vec::new(alloc);
     let mut part = EscapePart::Text;
@@ -75,7 +76,7 @@ fn read_escaped_text(alloc: Global, word: &[u8]) -> Result<Option<Vec<u8>>, Allo
     }
 }
 
-// Returns how often a word repeats its text, and that text. The count saturates.
+// Returns how often a word repeats its text, and the text. The number saturates.
 fn repetition(word: &[u8]) -> Option<(u64, &[u8])> {
     let mut count = 1u64;
     let mut rest = word;
@@ -90,10 +91,11 @@ fn repetition(word: &[u8]) -> Option<(u64, &[u8])> {
     Some((count, rest))
 }
 
-/// Unescapes a word. Returns None if it isn't well formed.
+/// Unescapes a word. Returns None if the word isn't well formed.
 ///
-/// In a word `\xNN` is any byte, and the bytes from 0x21 to 0x7e other than `\` are themselves.
-/// `\e` is the empty text, and `*COUNT:WORD` repeats the word's bytes COUNT times.
+/// In a word, `\xNN` stands for any byte, and each byte from 0x21 to 0x7e except `\` stands for
+/// itself. `\e` stands for the empty text, and `*COUNT:WORD` repeats the bytes of a word COUNT
+/// times.
 pub(crate) fn read_word(alloc: Global, word: &[u8]) -> Result<Option<Vec<u8>>, AllocError> {
     let Some((count, rest)) = repetition(word) else {
         return Ok(None);
@@ -117,7 +119,7 @@ fn hex_digit(value: u8) -> u8
     }
 }
 
-/// Appends the word for bytes, which `read_word` unescapes again.
+/// Appends the word that `read_word` unescapes to the given bytes.
 pub(crate) fn push_word(text: &mut Vec<u8>, bytes: &[u8]) -> Result<(), AllocError> {
     if bytes.is_empty() {
         text.extend_from_slice(b"\\e")?;

@@ -1,4 +1,4 @@
-// Changes of attributes by path, in a thread that has nothing to recover.
+// Changes of attributes by path, in an image that has nothing to recover.
 
 ghost use Rattle.std.specs.Prelude.{◌≡◌, true, false};
 ghost use Rattle.lfs_tree.specs.Permissions.{CanRemoveAttr, CanSetAttr};
@@ -14,7 +14,7 @@ use lfs_operations::{remove_attribute, set_attribute};
 use lfs_thread::Thread;
 use std::alloc::Global;
 
-// Returns the slot of an entry that was found.
+// Returns the slot of an entry that a look-up found.
 fn found_entry_spot(found: PathLookup) -> SlotPosition
     requires { is_entry_found found ≡ true }
     ensures { IsFoundSpot found result }
@@ -25,9 +25,9 @@ fn found_entry_spot(found: PathLookup) -> SlotPosition
     }
 }
 
-// Sets an attribute of an entry.
+// Sets an attribute of the entry at a path.
 //
-// Errors: `Io` if a device call failed. `NoMemory` if memory can't be allocated.
+// Errors: `Io` if a device call fails, or `NoMemory` if memory can't be allocated.
 pub(crate) fn set_attr_at<D: BlockDevice>(
     alloc: Global,
     thread: &mut Thread<D>,
@@ -47,9 +47,9 @@ pub(crate) fn set_attr_at<D: BlockDevice>(
     set_attribute(alloc, thread, slot.pair, slot.id, kind, bytes)
 }
 
-// Removes an attribute of an entry.
+// Removes an attribute of the entry at a path.
 //
-// Errors: `Io` if a device call failed. `NoMemory` if memory can't be allocated.
+// Errors: `Io` if a device call fails, or `NoMemory` if memory can't be allocated.
 pub(crate) fn remove_attr_at<D: BlockDevice>(
     alloc: Global,
     thread: &mut Thread<D>,

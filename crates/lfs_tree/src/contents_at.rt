@@ -1,4 +1,4 @@
-// Commits of a writer's contents by path, in a thread that has nothing to recover.
+// Commits of a writer's contents by path, in an image that has nothing to recover.
 
 ghost use Rattle.std.specs.Prelude.{◌≡◌, false, true, OnOk};
 ghost use Rattle.lfs_tree.specs.ThreadContents.{ThreadReportsFaults};
@@ -24,7 +24,7 @@ use lfs_tag::kinds::{CTZ_STRUCT, INLINE_STRUCT};
 use lfs_thread::Thread;
 use std::alloc::Global;
 
-// The slot of a file, and its list. The list of an inline file is empty.
+// The slot of a file, and its CTZ skip-list, which is empty for an inline file.
 #[derive(Clone, Copy, Drop)]
 struct FileSlot {
     spot: SlotPosition,
@@ -42,7 +42,7 @@ fn list_of_nothing() -> StoredList
     }
 }
 
-// Returns the list that an entry names, or an empty one.
+// Returns the list that a file's entry refers to, or an empty list if the file is inline.
 fn storage_list(contents: lfs_lookup::FileStorage) -> StoredList
     ensures { result ≡ list_in_storage contents }
 {
@@ -56,7 +56,7 @@ fn storage_list(contents: lfs_lookup::FileStorage) -> StoredList
     }
 }
 
-// Returns the list of finished contents.
+// Returns the list of finished contents, or an empty list if the contents are in memory.
 fn contents_list(contents: &WriterContents) -> StoredList
     ensures { result ≡ finished_list contents.now }
 {
@@ -66,7 +66,7 @@ fn contents_list(contents: &WriterContents) -> StoredList
     }
 }
 
-// Returns the slot of a file that was found.
+// Returns the slot and the list of a file that a look-up found.
 fn found_file_slot(found: PathLookup) -> FileSlot
     requires { is_file_found found ≡ true }
     ensures { IsFoundFile found result }
@@ -80,7 +80,7 @@ fn found_file_slot(found: PathLookup) -> FileSlot
     }
 }
 
-// Commits finished contents to a file's slot. Doesn't settle the lists in the map.
+// Commits finished contents to a file's slot. Doesn't update the block map.
 fn put_contents<D: BlockDevice>(
     alloc: Global,
     thread: &mut Thread<D>,
@@ -114,10 +114,10 @@ fn put_contents<D: BlockDevice>(
     }
 }
 
-// Commits finished contents to the file at a path, and settles its lists: the new one's blocks are
-// used, those of the old one alone are free.
+// Commits finished contents to the file at a path. Then marks the blocks of the new list as used,
+// and frees the blocks that only the old list has.
 //
-// Errors: `Io` if a device call failed. `NoMemory` if memory can't be allocated.
+// Errors: `Io` if a device call fails, or `NoMemory` if memory can't be allocated.
 fn commit_contents_at<D: BlockDevice>(
     alloc: Global,
     thread: &mut Thread<D>,
@@ -142,9 +142,9 @@ fn commit_contents_at<D: BlockDevice>(
     Ok(())
 }
 
-// Finishes a writer's contents, and commits them to the file at a path.
+// Writes the unwritten part of a writer's contents, and commits the contents to the file at a path.
 //
-// Errors: `Io` if a device call failed. `NoMemory` if memory can't be allocated.
+// Errors: `Io` if a device call fails, or `NoMemory` if memory can't be allocated.
 pub(crate) fn store_contents_at<D: BlockDevice>(
     alloc: Global,
     thread: &mut Thread<D>,

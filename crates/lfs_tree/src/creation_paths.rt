@@ -1,4 +1,4 @@
-// The look-up of the path of a file that may be created, before anything is written.
+// The look-up of a new file's path before anything is written.
 
 ghost use Rattle.std.specs.Prelude.{◌≡◌, ◌≤◌, ◌+◌, true, false, IfOk, IfSome, IsSome, sum_by};
 ghost use Rattle.lfs_model.specs.crash.Frame.{directory_pair_count, ancestor_paths};
@@ -22,16 +22,17 @@ use lfs_lookup::{FoundNode, Path, PathLookup, find_node, finding_shown};
 use lfs_thread::Thread;
 use std::alloc::Global;
 
-/// The look-up of the path of a file that may be created.
+/// The result of looking up the path of a file to be created.
 #[derive(Drop)]
 pub struct CreationFindings {
-    /// What is at the path.
+    /// The entry at the path, if there is one.
     pub entry: FoundNode,
-    /// The result for [`create`](Tree::create). None if a recovery has to come first.
+    /// The result to pass to [`create`](Tree::create), or None if the image must be recovered
+    /// first.
     pub target: Option<PathLookup>,
 }
 
-// Looks up the path if nothing is to recover.
+// Looks up the path in an image that has nothing to recover.
 fn creation_findings<D: BlockDevice>(
     alloc: Global,
     thread: &mut Thread<D>,
@@ -54,7 +55,7 @@ fn creation_findings<D: BlockDevice>(
     })
 }
 
-// Looks up the path if a recovery has to come first.
+// Looks up the path in an image that must be recovered first.
 fn unrecovered_creation_findings<D: BlockDevice>(
     alloc: Global,
     thread: &mut Thread<D>,
@@ -74,7 +75,7 @@ fn unrecovered_creation_findings<D: BlockDevice>(
     })
 }
 
-// Looks up the path.
+// Looks up the path of a file to be created.
 fn find_creation_path<D: BlockDevice>(
     alloc: Global,
     thread: &mut Thread<D>,
@@ -97,12 +98,12 @@ fn find_creation_path<D: BlockDevice>(
 }
 
 impl<D: BlockDevice> Tree<D> {
-    /// Looks up the path of a file that may be created. If nothing is to recover,
-    /// [`create`](Tree::create) needs no other look-up. Makes at most one read for each metadata
-    /// pair of the directories above the path.
+    /// Looks up the path of a file to be created. If nothing is left to recover,
+    /// [`create`](Tree::create) needs no look-up of its own. Makes at most one read for each
+    /// metadata pair of the path's parent directories.
     ///
-    /// Errors: `Io` if a read failed. `NoMemory` if memory can't be allocated. The tree has failed
-    /// after either.
+    /// Errors: `Io` if a read fails, or `NoMemory` if memory can't be allocated. After an error the
+    /// tree has failed.
     pub fn look_up_creation(
         &mut self,
         alloc: Global,

@@ -1,4 +1,4 @@
-// Operations by path, on a thread that has nothing to recover.
+// Operations by path, in an image that has nothing to recover.
 
 ghost use Rattle.std.specs.Prelude.{◌≡◌, ◌≤◌, ◌+◌, map, sum_by, true, false, IfOk, IfSome, IsSome};
 ghost use Rattle.lfs_device.specs.Bytes.{AreByteBlocks};
@@ -18,7 +18,7 @@ use lfs_operations::{create_file, make_directory};
 use lfs_thread::Thread;
 use std::alloc::Global;
 
-// Gives proofs two facts of any device: its least block size, and that blocks hold bytes.
+// Proves two facts about any device: blocks have at least 1,024 bytes, and each byte is below 256.
 pub(crate) fn lemma_block_facts<D: BlockDevice>(thread: &Thread<D>)
     ensures large { 1024 ≤ thread.now.kept.disk.block_size }
     ensures bytes { AreByteBlocks thread.now.kept.disk.blocks }
@@ -26,7 +26,7 @@ pub(crate) fn lemma_block_facts<D: BlockDevice>(thread: &Thread<D>)
     let _size = thread.device().geometry().block_size;
 }
 
-// Returns the last of the names.
+// Returns the last of the names, or an empty name if there are none.
 pub(crate) fn last_name_of<'a>(names: &[&'a [u8]]) -> &'a [u8]
     ensures { result.now ≡ last_name (map (λ name. name.now) names.now) }
 {
@@ -36,7 +36,7 @@ pub(crate) fn last_name_of<'a>(names: &[&'a [u8]]) -> &'a [u8]
     }
 }
 
-// Returns the pair index and id at which a missing name belongs.
+// Returns the pair index and the id at which an entry with the missing name belongs.
 fn missing_name_spot(found: PathLookup) -> SlotPosition
     requires { is_nothing_found found ≡ true }
     ensures { IsAbsentSpot found result }
@@ -47,7 +47,7 @@ fn missing_name_spot(found: PathLookup) -> SlotPosition
     }
 }
 
-// The result of a path's look-up, and the path's last name.
+// The result of looking up a path, and the last name of the path.
 #[derive(Drop)]
 pub(crate) struct FoundAtPath<'a> {
     pub(crate) found: PathLookup,
@@ -74,7 +74,8 @@ pub(crate) fn find_at_path<'a, D: BlockDevice>(
     })
 }
 
-// Returns the result of a path's look-up, `known` if there is one, and the path's last name.
+// Returns the result of looking up a path, and the path's last name. Looks up the path unless
+// `known` has the result.
 fn find_unless_known<'a, D: BlockDevice>(
     alloc: Global,
     thread: &mut Thread<D>,
@@ -98,10 +99,10 @@ fn find_unless_known<'a, D: BlockDevice>(
     })
 }
 
-// Creates an empty file at a path without an entry. Looks the path up unless `known` has the
+// Creates an empty file at a path that has no entry. Looks up the path unless `known` has the
 // result.
 //
-// Errors: `Io` if a device call failed. `NoMemory` if memory can't be allocated.
+// Errors: `Io` if a device call fails, or `NoMemory` if memory can't be allocated.
 pub(crate) fn create_empty_file<D: BlockDevice>(
     alloc: Global,
     thread: &mut Thread<D>,
@@ -123,9 +124,9 @@ pub(crate) fn create_empty_file<D: BlockDevice>(
     create_file(alloc, thread, place.pair, place.id, target.name)
 }
 
-// Makes an empty directory at a path without an entry.
+// Makes an empty directory at a path that has no entry.
 //
-// Errors: `Io` if a device call failed. `NoMemory` if memory can't be allocated.
+// Errors: `Io` if a device call fails, or `NoMemory` if memory can't be allocated.
 pub(crate) fn make_directory_at<D: BlockDevice>(
     alloc: Global,
     thread: &mut Thread<D>,

@@ -1,4 +1,5 @@
-// The contents of files that are open for writing, on a thread's device.
+// Changes to the contents of files that are open for writing. A thread, the threaded list of
+// metadata pairs, has the device and the block map that these changes need.
 
 ghost use Rattle.std.specs.Prelude.{◌≡◌, false, is_err, length, take, IfErr, IfOk, OnOk};
 ghost use Rattle.lfs_model.specs.format.Disk.{inline_limit};
@@ -16,13 +17,13 @@ use lfs_file::{
 use lfs_thread::Thread;
 use std::alloc::Global;
 
-/// Writes bytes, at least one, at an offset in bytes of a writer's contents, and fills a gap before
-/// it with zeros. Doesn't change the thread's pairs.
+/// Writes `bytes`, at least one, at byte offset `place` of a writer's contents. Fills a gap before
+/// `place` with zeros. Doesn't change any metadata pair.
 ///
-/// Keeps contents up to the device's inline limit in memory.
+/// New contents of at most the device's inline limit are kept in memory.
 ///
-/// Errors: `Io` if a device call failed. `NoMemory` if memory for a block can't be allocated. After
-/// either the contents are lost. The thread doesn't fail.
+/// Errors: `Io` if a device call fails, or `NoMemory` if memory for a block can't be allocated.
+/// After an error the contents are lost, but `thread` isn't marked as failed.
 pub fn write_file<D: BlockDevice>(
     alloc: Global,
     thread: &mut Thread<D>,
@@ -42,13 +43,13 @@ pub fn write_file<D: BlockDevice>(
     thread.run_work(|device, map| write_contents(alloc, device, map, contents, place, bytes))
 }
 
-/// Truncates a writer's contents to a size in bytes, or extends them to it with zeros. Doesn't
-/// change the thread's pairs.
+/// Sets the size of a writer's contents in bytes: truncates them, or extends them with zeros.
+/// Doesn't change any metadata pair.
 ///
-/// Keeps contents up to the device's inline limit in memory.
+/// If the size changes, new contents of at most the device's inline limit are kept in memory.
 ///
-/// Errors: `Io` if a device call failed. `NoMemory` if memory for a block can't be allocated. After
-/// either the contents are lost. The thread doesn't fail.
+/// Errors: `Io` if a device call fails, or `NoMemory` if memory for a block can't be allocated.
+/// After an error the contents are lost, but `thread` isn't marked as failed.
 pub fn truncate_file<D: BlockDevice>(
     alloc: Global,
     thread: &mut Thread<D>,
@@ -67,11 +68,12 @@ pub fn truncate_file<D: BlockDevice>(
     thread.run_work(|device, map| truncate_contents(alloc, device, map, contents, size))
 }
 
-/// Writes what is left of a writer's draft, so that all blocks of its list are written. The bytes
-/// of the contents stay the same. Doesn't change the thread's pairs.
+/// Completes a writer's draft, which is contents that aren't synced yet. Writes the rest of the
+/// draft, so that every block of its CTZ skip-list is on the device. Changes neither the bytes of
+/// the contents nor any metadata pair.
 ///
-/// Errors: `Io` if a device call failed. `NoMemory` if memory for a block can't be allocated. After
-/// either the contents are lost. The thread doesn't fail.
+/// Errors: `Io` if a device call fails, or `NoMemory` if memory for a block can't be allocated.
+/// After an error the contents are lost, but `thread` isn't marked as failed.
 pub fn finish_file<D: BlockDevice>(
     alloc: Global,
     thread: &mut Thread<D>,
@@ -88,7 +90,9 @@ pub fn finish_file<D: BlockDevice>(
     thread.run_work(|device, map| finish_contents(alloc, device, map, contents))
 }
 
-// Settles a list in the map of a thread, which doesn't fail. After an error the map can't be used.
+// Settles a list in a thread's block map: marks its blocks as used, and frees the blocks that only
+// the list `before` has. Doesn't mark the thread as failed. After an error the block map can't be
+// used.
 fn settle_in_map<D: BlockDevice>(
     thread: &mut Thread<D>,
     before: StoredList,
@@ -105,11 +109,12 @@ fn settle_in_map<D: BlockDevice>(
     thread.run_work(|device, map| settle_list(device, map, before, stored))
 }
 
-/// Settles a finished list in the map after a commit that names it: marks its blocks as used, and
-/// frees those that only the list before it had. Either list may be empty, without a block. Writes
-/// nothing.
+/// Settles a complete CTZ skip-list after a commit that refers to it: marks the list's blocks as
+/// used in the block map, and frees the blocks that only the list `before` has. Both `before` and
+/// `stored` may be empty lists. Writes nothing to the device.
 ///
-/// Errors: `Io` if a device call failed. The thread has then failed, since its map can't be used.
+/// Errors: `Io` if a device call fails. The block map can't be used after an error, so `thread` is
+/// marked as failed.
 pub fn settle_lists<D: BlockDevice>(
     thread: &mut Thread<D>,
     before: StoredList,

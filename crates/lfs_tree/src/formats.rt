@@ -1,4 +1,4 @@
-// An empty file system on a device.
+// Formatting: an empty file system on a device.
 
 ghost use Rattle.std.specs.Prelude.{◌≡◌, ◌≤◌, ◌+◌, [], false, IfErr, IfOk, OnOk};
 ghost use Rattle.lfs_device.specs.DeviceCalls.{ChangesTheseBlocks, ReportsFaults};
@@ -19,10 +19,10 @@ use lfs_tag::{Superblock, superblock_bytes};
 use lfs_thread::{Thread, ThreadParts};
 use std::alloc::Global;
 
-// The pair with which the threaded list begins.
+// The blocks of the first metadata pair in the threaded list.
 const ROOT: [u32; 2] = [0, 1];
 
-// Returns the changes that put the superblock into slot 0.
+// Returns the changes that write the superblock to slot 0.
 fn superblock_changes<'a>(structure: &'a [u8; 24]) -> [Change<'a>; 2]
     ensures { changes_view result ≡ superblock_slot_changes structure.now }
 {
@@ -40,7 +40,7 @@ fn superblock_changes<'a>(structure: &'a [u8; 24]) -> [Change<'a>; 2]
     ]
 }
 
-// Writes a pair into the blocks 0 and 1 that has only the superblock.
+// Writes a metadata pair that contains only the superblock to blocks 0 and 1.
 fn write_root_pair<D: BlockDevice>(alloc: Global, device: &mut D) -> Result<Pair, Error>
     ensures root { IfOk result (λ pair. IsRootHeader (disk_of_device D.BlockDevice device.new) (D.history device.new) pair) }
     ensures erases { OnOk result (erase_count (D.history device.new) ≡ erase_count (D.history device.old) + 2) }
@@ -55,7 +55,7 @@ fn write_root_pair<D: BlockDevice>(alloc: Global, device: &mut D) -> Result<Pair
     Ok(pair)
 }
 
-// Writes the superblock, and makes its pair the only one of the thread.
+// Writes the superblock's pair and makes it the only pair of the threaded list.
 fn write_root_thread<D: BlockDevice>(
     alloc: Global,
     device: &mut D,
@@ -68,7 +68,7 @@ fn write_root_thread<D: BlockDevice>(
     ensures device { ChangesTheseBlocks D.BlockDevice (address_blocks anchor_address) device.old device.new }
     ensures faults { ReportsFaults D.BlockDevice device.old device.new result }
 {
-    // Memory for the header is allocated before anything is written.
+    // Allocate memory for the header before anything is written.
     pairs.reserve(1)?;
     let pair = write_root_pair(alloc, device)?;
     pairs.push(pair)?;
@@ -89,19 +89,20 @@ fn map_after_format(alloc: Global, block_count: u32) -> Result<(Cache, BlockMap)
     Ok((cache, map))
 }
 
-/// Makes an empty file system on a device, whatever its contents. Erases both blocks of the pair
-/// {0, 1}, and writes the superblock into the first one, at revision 1 (SPEC.md of littlefs, "0x0ff
-/// LFS_TYPE_SUPERBLOCK"). The superblock has version 2.0, the device's block size in bytes and its
-/// block count. It also has the limits of the device's profile, in bytes: of a name, a file and an
-/// attribute. These are 255, 2,147,483,647 and 1,022, unless the profile lowers them. The root
-/// directory is empty, and the image may be written. Directories will have their names in the given
-/// order, which isn't stored: a mount infers it from the names.
+/// Makes an empty file system on a device, whatever the device contains. Erases both blocks of the
+/// metadata pair {0, 1} and writes the superblock to the first one with revision count 1 (see
+/// "0x0ff LFS_TYPE_SUPERBLOCK" in littlefs's SPEC.md). The superblock has version 2.0, the device's
+/// block size in bytes and its block count. The superblock also has limits on the lengths of names,
+/// files and attributes in bytes. These limits are 255, 2,147,483,647 and 1,022 unless the device's
+/// profile lowers them. The root directory is empty, and the image may be written. Directories will
+/// store their names in the order `order`. The image doesn't record the order of names, but a mount
+/// infers it from the names.
 ///
-/// Writes no other block. A power loss during the call leaves each other block as it was.
+/// Writes no block except 0 and 1. A power loss during the call leaves all other blocks unchanged.
 ///
-/// Errors: `Io` if a device call failed; the two blocks may then hold any bytes. `NoMemory` if
-/// memory for the map, the headers and a block can't be allocated; nothing is written then. An
-/// error returns the device, too.
+/// Errors: `Io` if a device call fails; blocks 0 and 1 may then contain any bytes. `NoMemory` if
+/// memory for the map, the headers or a block can't be allocated; in this case nothing is written.
+/// An error also returns the device.
 pub fn format<D: BlockDevice>(
     alloc: Global,
     mut device: D,

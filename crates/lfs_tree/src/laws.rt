@@ -1,4 +1,4 @@
-// What an operation leaves as it was.
+// Proofs that an operation leaves the contents of open files unchanged, and uses few blocks.
 
 ghost use Rattle.std.specs.Prelude.{◌≡◌, ◌≤◌, ◌+◌, false, length, true};
 ghost use Rattle.lfs_model.specs.layers.BlockSets.{in_flight_count};
@@ -12,9 +12,9 @@ ghost use Rattle.lfs_file.specs.Contents.{contents_form};
 ghost use Rattle.lfs_file.specs.Form.{form_in_flight};
 ghost use Rattle.lfs_file.specs.declared.contents.WriterContents.{WriterContents};
 
-/// Gives proofs that an operation that neither removes nor moves an open file leaves the contents
-/// of its writer, also an unsynced draft; and that no more blocks are in flight than the contents'
-/// form has.
+/// Proves that an operation that neither removes nor moves an open file keeps the contents of the
+/// file's writer, even if they aren't synced. Also bounds the number of blocks in flight, which are
+/// allocated but not yet committed.
 pub fn lemma_contents_stay()
     ensures over { (old new : TreeState) (op : Operation) (path : Path) (contents : WriterContents) → AreTreeContents old path contents → IsSoundState old → IsApplied old op new → vacates_path op path ≡ false → AreTreeContents new path contents }
     ensures bytes { (old new : TreeState) (op : Operation) (path : Path) (contents : WriterContents) → AreTreeContents old path contents → IsSoundState old → IsApplied old op new → vacates_path op path ≡ false
@@ -22,7 +22,7 @@ pub fn lemma_contents_stay()
     ensures flying { (t : TreeState) (path : Path) (contents : WriterContents) → AreTreeContents t path contents → in_flight_count t.map ≤ form_in_flight t.disk.block_size (contents_form contents) }
 {}
 
-/// Gives proofs that an operation uses at most `operation_room` more blocks.
+/// Proves that an operation increases the number of used blocks by at most `operation_room`.
 pub fn lemma_few_blocks()
     ensures { (old new : TreeState) (op : Operation) → IsSoundState old → old.writable ≡ true → IsApplied old op new → length (tree_summary new).used ≤ length (tree_summary old).used + operation_room op }
 {}

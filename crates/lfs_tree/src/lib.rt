@@ -1,6 +1,6 @@
 // SPDX-License-Identifier: BSD-3-Clause
-//! A mounted image: format and mount, the calls by path, the recovery, and the contents of open
-//! writers. Paths, and the types that calls return, are in `lfs_lookup`.
+//! A mounted littlefs image: formatting, mounting, calls by path, recovery after a power loss, and
+//! the contents of open files. Paths and the types that calls return are in `lfs_lookup`.
 #![tactic(auto)]
 
 mod answers;

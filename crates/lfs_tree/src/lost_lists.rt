@@ -1,4 +1,4 @@
-// The CTZ skip lists of slots that are dropped with their pairs.
+// The CTZ skip-lists of files in orphans, which a recovery frees.
 
 ghost use Rattle.std.specs.Prelude.{◌≡◌, ◌++◌, ◌<◌, IfErr, IfOk, OnOk, false, is_err, length, map};
 ghost use Rattle.std.specs.Option.{option_to_list};
@@ -26,7 +26,7 @@ use lfs_tag::{Content, Log, Slot};
 use lfs_thread::Thread;
 use std::alloc::{AllocError, Global};
 
-// Returns the list that a slot names, if it names one.
+// Returns the CTZ skip-list that a slot refers to, if it refers to one.
 fn list_named_by(slot: &Slot<'_>) -> Option<StoredList>
     requires { IsFormedSlot (slot_view slot.now) }
     ensures { option_to_list result ≡ raw_struct_lists (slot_view slot.now).struct }
@@ -44,7 +44,7 @@ fn list_named_by(slot: &Slot<'_>) -> Option<StoredList>
     }
 }
 
-// Adds the lists that slots name.
+// Appends the lists that the slots refer to.
 fn push_slot_lists(lists: &mut Vec<StoredList>, slots: &[Slot<'_>]) -> Result<(), AllocError>
     requires { AreWellFormed (map slot_view slots.now) }
     ensures { OnOk result (lists.new.items ≡ lists.old.items ++ raw_slots_lists (map slot_view slots.now)) }
@@ -57,7 +57,7 @@ fn push_slot_lists(lists: &mut Vec<StoredList>, slots: &[Slot<'_>]) -> Result<()
     Ok(())
 }
 
-// Adds the lists that the slots of a log name.
+// Appends the lists that the slots of a log refer to.
 fn push_log_lists(alloc: Global, lists: &mut Vec<StoredList>, log: &Log<'_>) -> Result<(), Error>
     requires { HasCompleteLog log.now }
     ensures lists { (content : ModelContent) → IsContentLog log.now content → OnOk result (lists.new.items ≡ lists.old.items ++ slots_lists content.slots) }
@@ -68,7 +68,7 @@ fn push_log_lists(alloc: Global, lists: &mut Vec<StoredList>, log: &Log<'_>) -> 
     Ok(())
 }
 
-// Adds the lists that the slots of a pair name.
+// Appends the lists that the slots of a pair refer to.
 fn push_pair_lists<D: BlockDevice>(
     alloc: Global,
     thread: &mut Thread<D>,
@@ -84,9 +84,9 @@ fn push_pair_lists<D: BlockDevice>(
     push_log_lists(alloc, lists, &thread.lend(index).unwrap())
 }
 
-// Returns the lists that the slots of these pairs name. The pairs are orphans.
+// Returns the lists that the slots of the pairs `numbers` refer to. These pairs are orphans.
 //
-// Errors: `Io` if a read failed. `NoMemory` if memory can't be allocated.
+// Errors: `Io` if a read fails, or `NoMemory` if memory can't be allocated.
 pub(crate) fn lists_of_pairs<D: BlockDevice>(
     alloc: Global,
     thread: &mut Thread<D>,
@@ -104,9 +104,10 @@ pub(crate) fn lists_of_pairs<D: BlockDevice>(
     Ok(lists)
 }
 
-// Frees the blocks of lists in the map, once no pair names them. Writes nothing.
+// Frees the blocks of lists in the block map after the pairs that refer to them are dropped. Writes
+// nothing to the device.
 //
-// Errors: `Io` if a read failed. The thread has then failed.
+// Errors: `Io` if a read fails. The threaded list is then marked as failed.
 pub(crate) fn free_lists<D: BlockDevice>(
     thread: &mut Thread<D>,
     lists: &[StoredList],

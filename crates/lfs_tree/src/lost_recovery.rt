@@ -1,4 +1,4 @@
-// The recovery: completes what a power loss left half done.
+// Recovery: completes what a power loss left half done.
 
 ghost use Rattle.std.specs.Prelude.{◌≡◌, true, OnOk};
 ghost use Rattle.lfs_model.specs.format.Slots.{zero_gstate};
@@ -21,10 +21,10 @@ use lfs_operations::{drop_unreached_pairs, end_move};
 use lfs_thread::Thread;
 use std::alloc::Global;
 
-// Drops the orphans of these pair indices, and frees the lists that their slots name. No move is
+// Drops the orphans `numbers`, and frees the CTZ skip-lists that their slots refer to. No move is
 // pending.
 //
-// Errors: `Io` if a device call failed. `NoMemory` if memory can't be allocated.
+// Errors: `Io` if a device call fails, or `NoMemory` if memory can't be allocated.
 fn drop_with_lists<D: BlockDevice>(
     alloc: Global,
     thread: &mut Thread<D>,
@@ -46,7 +46,7 @@ fn drop_with_lists<D: BlockDevice>(
 // Drops all orphans, the pairs of directories that no path leads to, with their files. No move is
 // pending, and the root directory begins with the pair of index `root`.
 //
-// Errors are those of `drop_with_lists`.
+// Returns the same errors as `drop_with_lists`.
 fn drop_unreached_directories<D: BlockDevice>(
     alloc: Global,
     thread: &mut Thread<D>,
@@ -61,15 +61,15 @@ fn drop_unreached_directories<D: BlockDevice>(
 {
     lemma_block_facts(thread);
     let numbers = find_unreached_pairs(alloc, thread, root)?;
-    // The lists have to be read before the pairs that name them are dropped.
+    // Read the lists before dropping the pairs that refer to them.
     let lists = lists_of_pairs(alloc, thread, &numbers)?;
     drop_with_lists(alloc, thread, &numbers, &lists)?;
     Ok(())
 }
 
-// Completes what a power loss left half done: a pending move, and orphans.
+// Completes a pending move and drops the orphans that a power loss left.
 //
-// Errors are those of `drop_unreached_directories`.
+// Returns the same errors as `drop_unreached_directories`.
 pub(crate) fn recover_thread<D: BlockDevice>(
     alloc: Global,
     thread: &mut Thread<D>,

@@ -21,7 +21,7 @@ use lfs_lookup::{Path, PathLookup, SlotPosition, read_inline_at};
 use lfs_thread::Thread;
 use std::alloc::Global;
 
-// Returns the geometry of a thread's device.
+// Returns the geometry of the device of `thread`, the threaded list of metadata pairs.
 fn geometry_of<D: BlockDevice>(thread: &Thread<D>) -> Geometry
     ensures { HasGeometry result thread.now.kept.disk }
 {
@@ -45,7 +45,7 @@ fn open_inline_contents<D: BlockDevice>(
     contents_in_memory(alloc, geometry, &bytes)
 }
 
-// Makes contents of the finished list that a slot names.
+// Returns contents that consist of the stored CTZ skip-list with this head and size.
 fn open_list_contents<D: BlockDevice>(thread: &Thread<D>, head: u32, size: u32) -> WriterContents
     ensures { (slot : SpotSeen) (held : Slot) → CanOpenSlot thread.now.kept slot (entry_contents.List head size) held → AreOpenedContents thread.now.kept held.struct (opened_form (entry_contents.List head size)) result }
 {
@@ -58,7 +58,7 @@ fn open_list_contents<D: BlockDevice>(thread: &Thread<D>, head: u32, size: u32) 
     })
 }
 
-// Makes the contents of a file from its slot.
+// Returns the contents of the file in a slot.
 fn open_contents<D: BlockDevice>(
     alloc: Global,
     thread: &mut Thread<D>,
@@ -76,7 +76,8 @@ fn open_contents<D: BlockDevice>(
     }
 }
 
-// Makes the contents of the file at a path: in memory if the file is inline, otherwise its list.
+// Returns the contents of the file at a path: in memory if the file is inline, otherwise as a CTZ
+// skip-list.
 pub(crate) fn open_contents_at<D: BlockDevice>(
     alloc: Global,
     thread: &mut Thread<D>,
@@ -93,12 +94,12 @@ pub(crate) fn open_contents_at<D: BlockDevice>(
     let PathLookup::File { slot, contents, .. } = target.found else {
         unreachable!()
     };
-    // By its sizes a list has as many bytes as its entry says.
+    // A proof needs the device's block size to see that a list has as many bytes as its entry says.
     let _device = thread.device();
     open_contents(alloc, thread, slot, contents)
 }
 
-// Makes empty contents.
+// Returns empty contents.
 pub(crate) fn contents_of_nothing<D: BlockDevice>(
     alloc: Global,
     thread: &Thread<D>,

@@ -1,4 +1,4 @@
-// Orphans: the pairs of directories that no path leads to.
+// Orphans: the metadata pairs of directories that no path leads to.
 
 ghost use Rattle.std.specs.Prelude.{◌≡◌, ◌<◌, ◌≤◌, ◌++◌, ◌∷◌, [], IfOk, OnOk, false, if◌then◌else◌, length, replicate, slice_index_or};
 ghost use Rattle.lfs_model.specs.format.Thread.{count_before_root};
@@ -15,14 +15,15 @@ use lfs_lookup::{NameAndOwnedStruct, OwnedStruct, directory_items, follows_hard_
 use lfs_thread::{Thread, number_at_address};
 use std::alloc::{AllocError, Global};
 
-// Makes `count` marks, none of them set.
+// Makes `count` marks that aren't set.
 fn fresh_marks(alloc: Global, count: usize) -> Result<Vec<bool>, AllocError>
     ensures { IfOk result (λ marks. marks.items ≡ replicate count false) }
 {
     vec![in alloc; false; count]
 }
 
-// Marks a pair and queues it, so that its directory is visited, unless it is marked already.
+// Marks a pair and queues it for a visit of its directory. Does nothing if the pair is marked
+// already.
 fn mark_reached(
     marks: &mut Vec<bool>,
     pending: &mut Vec<usize>,
@@ -38,7 +39,7 @@ fn mark_reached(
     Ok(())
 }
 
-// Marks the first pair of the directory that an entry names, if it names one.
+// If an entry is a directory, marks the directory's first pair.
 fn mark_directory<D: BlockDevice>(
     thread: &Thread<D>,
     item: &NameAndOwnedStruct,
@@ -57,7 +58,7 @@ fn mark_directory<D: BlockDevice>(
     Ok(())
 }
 
-// Marks the first pairs of the directories that entries name.
+// Marks the first pair of each directory among the entries `items`.
 fn mark_directories<D: BlockDevice>(
     thread: &Thread<D>,
     mut items: Vec<NameAndOwnedStruct>,
@@ -75,7 +76,8 @@ fn mark_directories<D: BlockDevice>(
     Ok(())
 }
 
-// Returns for each pair whether it is the first one of a directory that a path leads to.
+// Returns one mark for each pair of the threaded list. A mark is set if a path leads to the
+// directory that begins with the pair.
 fn mark_reached_directories<D: BlockDevice>(
     alloc: Global,
     thread: &mut Thread<D>,
@@ -98,8 +100,8 @@ fn mark_reached_directories<D: BlockDevice>(
     Ok(marks)
 }
 
-// Returns whether a path leads to the directory of a pair. If the pair is behind a hard tail, that
-// is `before`, the answer for the pair before it.
+// Returns whether a path leads to the directory of the pair `index`. If a hard tail refers to the
+// pair, the result is `before`, the result for the pair before it.
 fn continues_reached<D: BlockDevice>(
     thread: &Thread<D>,
     root: usize,
@@ -119,7 +121,7 @@ fn continues_reached<D: BlockDevice>(
     }
 }
 
-// Appends a pair index, unless a path leads to the pair.
+// Appends a pair index unless a path leads to the pair.
 fn push_if_unreached(
     numbers: &mut Vec<usize>,
     index: usize,
@@ -133,7 +135,7 @@ fn push_if_unreached(
     Ok(())
 }
 
-// Returns the indices of the pairs of directories whose first pair isn't marked.
+// Returns the indices of all pairs whose directory's first pair isn't marked.
 fn unreached_numbers<D: BlockDevice>(
     alloc: Global,
     thread: &Thread<D>,
@@ -155,10 +157,10 @@ fn unreached_numbers<D: BlockDevice>(
     Ok(numbers)
 }
 
-// Returns the indices of all orphans, the pairs of directories that no path leads to. The root
+// Returns the indices of all orphans: the pairs of directories that no path leads to. The root
 // directory begins with the pair of index `root`.
 //
-// Errors: `Io` if a read failed. `NoMemory` if memory can't be allocated.
+// Errors: `Io` if a read fails, or `NoMemory` if memory can't be allocated.
 pub(crate) fn find_unreached_pairs<D: BlockDevice>(
     alloc: Global,
     thread: &mut Thread<D>,

@@ -23,11 +23,12 @@ use lfs_thread::Thread;
 use std::alloc::Global;
 
 impl<D: BlockDevice> Tree<D> {
-    /// Looks up a path, and returns the contents of the file there, if it is one. Reads each
-    /// metadata pair of the directories above it at most once, and none if all of them are cached.
+    /// Looks up a path. If the path leads to a file, returns the file's contents too. Reads each
+    /// metadata pair of the path's parent directories at most once, and none if all of these pairs
+    /// are cached.
     ///
-    /// Errors: `Io` if a read failed. `NoMemory` if memory can't be allocated. The tree has failed
-    /// after either.
+    /// Errors: `Io` if a read fails, or `NoMemory` if memory can't be allocated. After an error the
+    /// tree has failed.
     pub fn find_file(&mut self, alloc: Global, path: &Path<'_>) -> Result<FoundFile, Error>
         requires { self.old.failed ≡ false }
         ensures asks { ReadsTreeOrFails self.old result self.new }
@@ -40,13 +41,14 @@ impl<D: BlockDevice> Tree<D> {
         found
     }
 
-    /// Fills a buffer with the bytes of a file from a position on, or a part of it if the file ends
-    /// earlier. Returns how many bytes these are; the rest of the buffer stays as it was. Looks
-    /// nothing up, and makes no read for inline bytes. Finds the blocks of a list from the nearest
-    /// one in `known`, and adds those on its way to `known`. A sequential read within a block reads
-    /// the whole block into the cache, if memory for it can be allocated.
+    /// Reads the bytes of a file from byte offset `position` into a buffer, up to the end of the
+    /// buffer or of the file. Returns the number of bytes read, and leaves the rest of the buffer
+    /// unchanged. Looks up no path, and reads inline bytes from memory. Finds the blocks of a CTZ
+    /// skip-list starting at the nearest block in `known`, and adds the blocks on the way to
+    /// `known`. A sequential read within a block reads the whole block into the cache if memory for
+    /// it can be allocated.
     ///
-    /// Errors: `Io` if a read failed. Then the tree has failed, and the buffer's bytes are
+    /// Errors: `Io` if a read fails. The tree has then failed, and the contents of the buffer are
     /// unspecified.
     pub fn read(
         &mut self,
@@ -70,7 +72,7 @@ impl<D: BlockDevice> Tree<D> {
         count
     }
 
-    /// Returns the size in bytes of a file with these contents. Does not access the device.
+    /// Returns the size in bytes of a file with the given contents. Doesn't access the device.
     pub fn size_of_contents(&self, contents: &FileContents) -> u32
         requires works { self.now.failed ≡ false }
         requires there { (path : ModelPath) × IsStorageAt self.now.pairs path contents.now }
@@ -85,7 +87,8 @@ impl<D: BlockDevice> Tree<D> {
     }
 }
 
-// Copies the bytes from a position on into the buffer, as many as fit. Returns how many these are.
+// Copies the bytes from `position` on into the buffer, up to the end of the buffer or of the bytes.
+// Returns the number of bytes copied.
 fn copy_from_position(bytes: &[u8], position: u32, buf: &mut [u8]) -> usize
     ensures count { result ≡ min (length buf.old) (length bytes.now - position) }
     ensures bytes { take result buf.new ≡ take (length buf.old) (drop position bytes.now) }
@@ -97,8 +100,8 @@ fn copy_from_position(bytes: &[u8], position: u32, buf: &mut [u8]) -> usize
     count
 }
 
-// Reads the bytes of a file from a position on into the buffer. `known` has blocks of the file's
-// list.
+// Reads the bytes of a file from `position` on into the buffer. `known` has blocks of the file's
+// CTZ skip-list whose addresses are known.
 fn read_known_contents<D: BlockDevice>(
     thread: &mut Thread<D>,
     contents: &FileContents,

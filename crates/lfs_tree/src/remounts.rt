@@ -10,13 +10,14 @@ use lfs_device::{BlockDevice, Error};
 use lfs_thread::{Thread, ThreadParts};
 use std::alloc::Global;
 
-// The parts of a thread besides its device, allocated before a remount that may fail.
+// The parts of a threaded list other than its device. They are allocated before a remount, since
+// the remount may fail.
 #[derive(Drop)]
 pub(crate) struct SpareThreadParts {
     alloc: Global,
     cache: Cache,
     map: BlockMap,
-    // The block at which the lookahead goes on.
+    // The block at which the search for free blocks continues.
     start: u32,
 }
 
@@ -38,8 +39,9 @@ impl SpareThreadParts {
     }
 }
 
-// Mounts the same device again. The lookahead goes on at `spare.start`, so a block whose erase or
-// program failed isn't the first one to be tried again. A tree that fails keeps its order of names.
+// Mounts the same device again. The search for free blocks continues at `spare.start`, so a block
+// whose erase or prog failed isn't the first one to be tried again. If the remount fails, the tree
+// keeps its order of names.
 pub(crate) fn mount_again<D: BlockDevice>(
     tree: Tree<D>,
     spare: SpareThreadParts,

@@ -1,4 +1,4 @@
-// Removals by path, in a thread that has nothing to recover.
+// Removals by path, in an image that has nothing to recover.
 
 ghost use Rattle.std.specs.Prelude.{◌≡◌, true, false, is_err, OnOk};
 ghost use Rattle.lfs_tree.specs.SettledFiles.{ChangesOnlyMap};
@@ -26,9 +26,10 @@ use lfs_operations::{remove_directory, remove_file};
 use lfs_thread::Thread;
 use std::alloc::Global;
 
-// Frees the blocks of a file's list in the map, once no pair names it. Writes nothing.
+// Frees the blocks of a file's CTZ skip-list in the block map, after the file's entry is removed.
+// Does nothing for an inline file. Writes nothing to the device.
 //
-// Errors: `Io` if a read failed. The thread has then failed.
+// Errors: `Io` if a read fails. The threaded list is then marked as failed.
 pub(crate) fn free_file_list<D: BlockDevice>(
     thread: &mut Thread<D>,
     contents: FileStorage,
@@ -59,7 +60,7 @@ pub(crate) fn free_file_list<D: BlockDevice>(
     }
 }
 
-// Removes the file in a slot of the directory that begins with the pair of index `parent`.
+// Removes the file in a slot. The directory of the file begins with the pair of index `parent`.
 fn remove_with_list<D: BlockDevice>(
     alloc: Global,
     thread: &mut Thread<D>,
@@ -78,7 +79,7 @@ fn remove_with_list<D: BlockDevice>(
     free_file_list(thread, contents)
 }
 
-// Removes the entry that a look-up found: a file, or a directory without entries.
+// Removes the entry that a look-up found, which is a file or an empty directory.
 fn remove_found_entry<D: BlockDevice>(
     alloc: Global,
     thread: &mut Thread<D>,
@@ -106,9 +107,9 @@ fn remove_found_entry<D: BlockDevice>(
     }
 }
 
-// Removes a file, or a directory without entries.
+// Removes the file or the empty directory at a path.
 //
-// Errors: `Io` if a device call failed. `NoMemory` if memory can't be allocated.
+// Errors: `Io` if a device call fails, or `NoMemory` if memory can't be allocated.
 pub(crate) fn remove_at<D: BlockDevice>(
     alloc: Global,
     thread: &mut Thread<D>,

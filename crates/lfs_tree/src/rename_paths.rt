@@ -1,4 +1,4 @@
-// The look-ups of a rename's two paths, before anything is written.
+// The look-ups of a rename's two paths before anything is written.
 
 ghost use Rattle.std.specs.Prelude.{◌≡◌, ◌≤◌, ◌+◌, ◌++◌, true, false, IfOk, IfSome, IsSome, sum_by};
 ghost use Rattle.lfs_model.specs.crash.Frame.{directory_pair_count, ancestor_paths};
@@ -25,29 +25,29 @@ use lfs_lookup::{
 use lfs_thread::Thread;
 use std::alloc::Global;
 
-/// The results of the look-ups of a rename's two paths, in an image that has nothing to recover.
-/// They save [`rename`](Tree::rename) its own look-ups.
+/// The results of looking up the two paths of a rename in an image that has nothing to recover. If
+/// [`rename`](Tree::rename) receives these results, it needs no look-ups of its own.
 #[derive(Clone, Copy, Drop)]
 pub struct RenameTargets {
     pub(crate) entry: PathLookup,
     pub(crate) target: PathLookup,
 }
 
-/// What is at the two paths of a rename.
+/// The results of looking up the two paths of a rename.
 #[derive(Drop)]
 pub struct RenameFindings {
-    /// What is at the old path.
+    /// The entry at the old path, if there is one.
     pub entry: FoundNode,
-    /// What is at the new path.
+    /// The entry at the new path, if there is one, and whether it is a directory that has entries.
     pub target: NodeAndEmptiness,
-    /// How many bytes the attributes at the old path use of their metadata pair, each with its tag
-    /// of 4 bytes.
+    /// The size in bytes of all attributes of the entry at the old path, each with its 4-byte tag.
     pub attributes_size: usize,
-    /// The results for [`rename`](Tree::rename). None if a recovery has to come first.
+    /// The results to pass to [`rename`](Tree::rename), or None if the image must be recovered
+    /// first.
     pub targets: Option<RenameTargets>,
 }
 
-// Returns the result of a look-up without the directory, and without the slot of a missing name.
+// Returns the result of a look-up without the parent directory and the slot of a missing name.
 pub(crate) fn found_without_parent(found: PathLookup) -> VisiblePathLookup
     ensures { result ≡ lookup_without_parent found }
 {
@@ -61,7 +61,7 @@ pub(crate) fn found_without_parent(found: PathLookup) -> VisiblePathLookup
     }
 }
 
-// Looks up the two paths.
+// Looks up the two paths of a rename.
 fn find_rename_targets<D: BlockDevice>(
     alloc: Global,
     thread: &mut Thread<D>,
@@ -82,7 +82,8 @@ fn find_rename_targets<D: BlockDevice>(
     })
 }
 
-// Returns the results of both look-ups. Looks the paths up unless `known` has the results.
+// Returns the results of looking up the two paths of a rename. Looks up the paths unless `known`
+// has the results.
 pub(crate) fn given_or_found<D: BlockDevice>(
     alloc: Global,
     thread: &mut Thread<D>,
@@ -127,7 +128,7 @@ fn node_and_emptiness<D: BlockDevice>(
     })
 }
 
-// Looks up the two paths of a rename if nothing is to recover.
+// Looks up the two paths of a rename in an image that has nothing to recover.
 fn rename_findings<D: BlockDevice>(
     alloc: Global,
     thread: &mut Thread<D>,
@@ -155,7 +156,7 @@ fn rename_findings<D: BlockDevice>(
     })
 }
 
-// Looks up the two paths of a rename if a recovery has to come first.
+// Looks up the two paths of a rename in an image that must be recovered first.
 fn unrecovered_rename_findings<D: BlockDevice>(
     alloc: Global,
     thread: &mut Thread<D>,
@@ -204,12 +205,13 @@ fn rename_targets<D: BlockDevice>(
 }
 
 impl<D: BlockDevice> Tree<D> {
-    /// Looks up the two paths of a rename. If nothing is to recover, [`rename`](Tree::rename) needs
-    /// no other look-up. Makes at most two reads for each metadata pair of the directories above
-    /// the old path, and one for each pair of those above the new path and of the directory at it.
+    /// Looks up the two paths of a rename. If nothing is left to recover, [`rename`](Tree::rename)
+    /// needs no look-ups of its own. Makes at most two reads for each metadata pair of the old
+    /// path's parent directories. Makes at most one read for each pair of the new path's parent
+    /// directories and of the directory at the new path.
     ///
-    /// Errors: `Io` if a read failed. `NoMemory` if memory can't be allocated. The tree has failed
-    /// after either.
+    /// Errors: `Io` if a read fails, or `NoMemory` if memory can't be allocated. After an error the
+    /// tree has failed.
     pub fn look_up_rename(
         &mut self,
         alloc: Global,

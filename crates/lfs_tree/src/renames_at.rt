@@ -1,4 +1,4 @@
-// Renames by path, in a thread that has nothing to recover.
+// Renames by path, in an image that has nothing to recover.
 
 ghost use Rattle.std.specs.Prelude.{ℕ, ◌≡◌, false, true, List, IfOk, IfSome, IsSome, OnOk};
 ghost use Rattle.lfs_model.specs.format.Slots.{zero_gstate};
@@ -33,14 +33,14 @@ use lfs_operations::{
 use lfs_thread::Thread;
 use std::alloc::Global;
 
-// An entry's slot, and the index of the first pair of its directory.
+// The slot of an entry, and the index of the first pair of its parent directory.
 #[derive(Clone, Copy, Drop)]
 pub(crate) struct RenameSource {
     pub(crate) slot: SlotPosition,
     pub(crate) first: usize,
 }
 
-// The entry that is renamed, the look-up of its new path, and that path's last name.
+// The entry to be renamed, the result of looking up its new path, and the last name of that path.
 #[derive(Drop)]
 struct FoundMove<'a> {
     source: RenameSource,
@@ -48,7 +48,7 @@ struct FoundMove<'a> {
     name: &'a [u8],
 }
 
-// Returns the slot of an entry that was found.
+// Returns the slot of an entry that a look-up found, and the first pair of its parent directory.
 fn found_rename_source(found: PathLookup) -> RenameSource
     requires { is_entry_found found ≡ true }
     ensures { IsFoundSource found result }
@@ -63,8 +63,8 @@ fn found_rename_source(found: PathLookup) -> RenameSource
     }
 }
 
-// Moves an entry to a slot, in its own pair or in another one. With `replaces` the file in that
-// slot is removed, and its list stays in the map.
+// Moves an entry to a slot in its own pair or in another one. If `replaces` is set, removes the
+// file in that slot, but doesn't free the file's list in the block map.
 fn move_entry<D: BlockDevice>(
     alloc: Global,
     thread: &mut Thread<D>,
@@ -99,7 +99,7 @@ fn move_entry<D: BlockDevice>(
     }
 }
 
-// Moves an entry over a file, which is removed.
+// Moves an entry to the slot of a file, and removes the file.
 fn move_onto_file<D: BlockDevice>(
     alloc: Global,
     thread: &mut Thread<D>,
@@ -119,7 +119,8 @@ fn move_onto_file<D: BlockDevice>(
     free_file_list(thread, contents)
 }
 
-// Moves an entry over a directory without entries, which is removed. Its own pair has index `gone`.
+// Moves an entry to the slot of an empty directory, and removes the directory, whose own pair has
+// the index `gone`.
 fn move_onto_directory<D: BlockDevice>(
     alloc: Global,
     thread: &mut Thread<D>,
@@ -154,8 +155,8 @@ fn move_onto_directory<D: BlockDevice>(
     }
 }
 
-// Finds the entry that is renamed, and what is at its new path. Looks the paths up unless `known`
-// has the results.
+// Finds the entry to be renamed, and the entry at its new path, if any. Looks up the paths unless
+// `known` has the results.
 fn find_move<'a, D: BlockDevice>(
     alloc: Global,
     thread: &mut Thread<D>,
@@ -186,10 +187,10 @@ fn find_move<'a, D: BlockDevice>(
     })
 }
 
-// Renames an entry. Its new path has no entry, a file, or a directory without entries. Looks the
-// paths up unless `known` has the results.
+// Renames an entry. The new path has no entry, a file, or an empty directory. Looks up the paths
+// unless `known` has the results.
 //
-// Errors: `Io` if a device call failed. `NoMemory` if memory can't be allocated.
+// Errors: `Io` if a device call fails, or `NoMemory` if memory can't be allocated.
 pub(crate) fn rename_at<D: BlockDevice>(
     alloc: Global,
     thread: &mut Thread<D>,
@@ -220,15 +221,15 @@ pub(crate) fn rename_at<D: BlockDevice>(
 }
 
 impl<D: BlockDevice> Tree<D> {
-    /// Renames or moves an entry. Replaces a file or an empty directory at the new path. The
-    /// entries beneath a directory move with it.
+    /// Renames or moves an entry, and replaces a file or an empty directory at the new path. A
+    /// directory moves with all entries beneath it.
     ///
-    /// `known` is the result of [`look_up_rename`](Tree::look_up_rename), called just before. It is
-    /// None if something is to recover. Then this call recovers first, and looks the paths up
-    /// again.
+    /// `known` is the result of calling [`look_up_rename`](Tree::look_up_rename) immediately before
+    /// this call. If something is left to recover, `known` is None, and this call recovers first
+    /// and looks up the paths again.
     ///
-    /// Errors: `Io` if a device call failed. `NoMemory` if memory can't be allocated. The tree has
-    /// failed after either.
+    /// Errors: `Io` if a device call fails, or `NoMemory` if memory can't be allocated. After an
+    /// error the tree has failed.
     pub fn rename(
         &mut self,
         alloc: Global,

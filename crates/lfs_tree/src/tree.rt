@@ -1,4 +1,4 @@
-// A mounted image, changed and read by paths.
+// A mounted image that is read and changed by path.
 
 ghost use Rattle.std.specs.Prelude.{◌≡◌, ◌<◌, ◌==◌, ◌≤◌, ◌+◌, ◌^◌, ◌++◌, ◌∷◌, List, [], length, map, true, false, None, Some, IfOk, IfErr, IfSome, IsSome, OnErr, OnOk, sum_by};
 ghost use Rattle.std.specs.List.{list_any};
@@ -52,15 +52,17 @@ use lfs_thread::Thread;
 use std::alloc::Global;
 use std::marker::Model;
 
-/// A mounted littlefs image on a device, in a version that the device's profile accepts.
+/// A mounted littlefs image on a device. The device's profile accepts the image's on-disk version.
 ///
-/// After each change at most one worn metadata pair is relocated to other blocks, if `pair_cycles`
-/// of the device's profile isn't 0.
+/// If the profile's `pair_cycles` isn't 0, each change may relocate one worn metadata pair: a pair
+/// whose revision count is a multiple of `pair_cycles`.
 ///
-/// After an error the tree has failed, and only [`remount`](Tree::remount) is of use.
+/// After an error the tree has failed, and the caller must call [`remount`](Tree::remount) before
+/// using it again.
 #[derive(Drop)]
 pub struct Tree<D: BlockDevice> {
-    // The threaded list of metadata pairs. It has failed once a call of the tree has.
+    // The threaded list of all metadata pairs. It is marked as failed when a call of the tree
+    // fails.
     pub(crate) thread: Thread<D>,
     // The index of the root directory's first pair.
     pub(crate) root: usize,
@@ -79,11 +81,11 @@ impl<D: BlockDevice> Model for Tree<D> {
 }
 
 impl<D: BlockDevice> Tree<D> {
-    /// Mounts the image of a device, and finds the order of names that it has. If both orders fit,
-    /// it is `LongerFirst`. Only reads the device.
+    /// Mounts the image on a device, and infers the order of names in its directories. If both
+    /// orders fit the names, the order is `LongerFirst`. Only reads the device.
     ///
-    /// Errors: `Corrupt` exactly if the device has no accepted image in either order. `Io` if a
-    /// read failed. `NoMemory` if memory can't be allocated. An error returns the device, too.
+    /// Errors: `Corrupt` if the device has no accepted image in either order of names. `Io` if a
+    /// read fails, or `NoMemory` if memory can't be allocated. An error also returns the device.
     pub fn mount(alloc: Global, device: D) -> Result<Tree<D>, (D, Error)>
         ensures mounted { IfOk result (λ t. IsMountedTree (ordered_disk t.disk.order (disk_of_device D.BlockDevice device)) (D.history device) t) }
         ensures longer { IfOk result (λ t. t.disk.order ≡ ShorterFirst → (ps : List Pair) → ¬ IsAccepted (ordered_disk LongerFirst (disk_of_device D.BlockDevice device)) ps) }
@@ -103,9 +105,10 @@ impl<D: BlockDevice> Tree<D> {
         }
     }
 
-    /// Makes an empty file system on a device, as [`format`](crate::format) does.
+    /// Formats a device as [`format`](crate::format) does, and returns a tree over the empty file
+    /// system.
     ///
-    /// Errors are those of [`format`](crate::format).
+    /// Returns the same errors as [`format`](crate::format).
     pub fn format(alloc: Global, device: D, order: NameOrder) -> Result<Tree<D>, (D, Error)>
         ensures works { IfOk result (λ t. (t.failed ≡ false) × (t.writable ≡ true)) }
         ensures sound { IfOk result IsSoundState }
@@ -124,11 +127,12 @@ impl<D: BlockDevice> Tree<D> {
         }
     }
 
-    /// Mounts the device again, also after an error, and finds the order of its names again. No
-    /// block is in flight afterwards. The lookahead goes on after the block that was allocated
-    /// last, so an operation that failed with `Io` can be retried on another block.
+    /// Mounts the device again, even after an error, and infers the order of names again.
+    /// Afterwards no block is in flight, that is, allocated but not yet committed. The search for
+    /// free blocks continues after the last allocated block, so an operation that failed with `Io`
+    /// can be retried on another block.
     ///
-    /// Errors are those of [`mount`](Tree::mount). The tree has failed after any.
+    /// Returns the same errors as [`mount`](Tree::mount). After an error the tree has failed.
     pub fn remount(&mut self, alloc: Global) -> Result<(), Error>
         ensures mounted { OnOk result (IsRemountedTree self.old self.new) }
         ensures broken { OnErr result (FailedByReading self.old self.new) }
@@ -146,7 +150,8 @@ impl<D: BlockDevice> Tree<D> {
         }
     }
 
-    /// Borrows the device, as the last call left it, also after an error.
+    /// Returns a reference to the device in the state that the last call left, even if that call
+    /// failed.
     pub fn device(&self) -> &D
         ensures disk { ordered_disk self.now.disk.order (disk_of_device D.BlockDevice result.now) ≡ self.now.disk }
         ensures history { D.history result.now ≡ self.now.history }
@@ -154,7 +159,7 @@ impl<D: BlockDevice> Tree<D> {
         self.thread.device()
     }
 
-    /// Returns the device, as the last call left it, also after an error.
+    /// Returns the device in the state that the last call left, even if that call failed.
     pub fn into_device(self) -> D
         ensures disk { ordered_disk self.disk.order (disk_of_device D.BlockDevice result) ≡ self.disk }
         ensures history { D.history result ≡ self.history }
@@ -176,7 +181,7 @@ impl<D: BlockDevice> Tree<D> {
         self.thread.has_failed()
     }
 
-    /// Returns whether the image is in the writing profile.
+    /// Returns whether the image is in the writing profile, which means that it may be written.
     pub fn is_writable(&self) -> bool
         ensures { result ≡ self.now.writable }
     {
@@ -193,14 +198,14 @@ impl<D: BlockDevice> Tree<D> {
         self.device().geometry()
     }
 
-    /// Marks the tree as failed, for a session that can't allocate its own memory.
+    /// Marks the tree as failed. A session calls this if it can't allocate memory of its own.
     pub fn fail(&mut self)
         ensures { self.new ≡ record self.old { failed = true } }
     {
         self.thread.fail();
     }
 
-    /// Returns how many blocks the image uses.
+    /// Returns the number of blocks that the image uses.
     pub fn used_count(&self) -> u32
         requires { self.now.failed ≡ false }
         ensures { result ≡ length (tree_summary self.now).used }
@@ -208,7 +213,7 @@ impl<D: BlockDevice> Tree<D> {
         self.thread.used_count()
     }
 
-    /// Returns whether the image uses a block. `block` is below the number of blocks.
+    /// Returns whether the image uses the block `block`, which must be below the number of blocks.
     pub fn is_used(&self, block: u32) -> bool
         requires works { self.now.failed ≡ false }
         requires below { block < block_count self.now.disk }
@@ -217,7 +222,7 @@ impl<D: BlockDevice> Tree<D> {
         self.thread.is_used(block)
     }
 
-    /// Returns the global state (DESIGN.md of littlefs, "The move problem").
+    /// Returns the global state (see "The move problem" in littlefs's DESIGN.md).
     pub fn gstate(&self) -> MoveState
         requires { self.now.failed ≡ false }
         ensures { move_view result ≡ (tree_summary self.now).gstate }
@@ -227,8 +232,8 @@ impl<D: BlockDevice> Tree<D> {
 
     /// Returns the image's superblock. Makes at most one read.
     ///
-    /// Errors: `Io` if the read failed. `NoMemory` if memory can't be allocated. The tree has
-    /// failed after either.
+    /// Errors: `Io` if the read fails, or `NoMemory` if memory can't be allocated. After an error
+    /// the tree has failed.
     pub fn superblock(&mut self, alloc: Global) -> Result<Superblock, Error>
         requires { self.old.failed ≡ false }
         ensures asks { ReadsTreeOrFails self.old result self.new }
@@ -240,11 +245,11 @@ impl<D: BlockDevice> Tree<D> {
         superblock
     }
 
-    /// Returns which rule of the writing profile the image breaks, and where. Returns None exactly
-    /// if the image may be written. Only reads the device.
+    /// Returns a rule of the writing profile that the image breaks, and where the image breaks it.
+    /// Returns None if and only if the image may be written. Only reads the device.
     ///
-    /// Errors: `Io` if a read failed. `NoMemory` if memory can't be allocated. The tree has failed
-    /// after either.
+    /// Errors: `Io` if a read fails, or `NoMemory` if memory can't be allocated. After an error the
+    /// tree has failed.
     pub fn profile_breach(&mut self, alloc: Global) -> Result<Option<ProfileBreach>, Error>
         requires { self.old.failed ≡ false }
         ensures asks { ReadsTreeOrFails self.old result self.new }
@@ -255,12 +260,12 @@ impl<D: BlockDevice> Tree<D> {
         breach
     }
 
-    /// Looks up a path. Reads each metadata pair of the directories above it at most once, and none
-    /// if all of them are cached. Leaves them cached if they are at most eight directories of one
-    /// pair each.
+    /// Looks up a path. Reads each metadata pair of the path's parent directories at most once, and
+    /// none if all of these pairs are cached. If there are at most eight parent directories and
+    /// each has one pair, a look-up that isn't refused leaves their pairs cached.
     ///
-    /// Errors: `Io` if a read failed. `NoMemory` if memory can't be allocated. The tree has failed
-    /// after either.
+    /// Errors: `Io` if a read fails, or `NoMemory` if memory can't be allocated. After an error the
+    /// tree has failed.
     pub fn look_up(&mut self, alloc: Global, path: &Path<'_>) -> Result<FoundNode, Error>
         requires { self.old.failed ≡ false }
         ensures asks { ReadsTreeOrFails self.old result self.new }
@@ -273,11 +278,12 @@ impl<D: BlockDevice> Tree<D> {
         found
     }
 
-    /// Looks up a path, and returns whether it leads to a directory that has entries. Makes at most
-    /// one read for each metadata pair of the directory at the path and of those above it.
+    /// Looks up a path, and returns its entry, and whether the entry is a directory that isn't
+    /// empty. Makes at most one read for each metadata pair of the directory at the path and of its
+    /// parent directories.
     ///
-    /// Errors: `Io` if a read failed. `NoMemory` if memory can't be allocated. The tree has failed
-    /// after either.
+    /// Errors: `Io` if a read fails, or `NoMemory` if memory can't be allocated. After an error the
+    /// tree has failed.
     pub fn look_up_node(
         &mut self,
         alloc: Global,
@@ -294,11 +300,12 @@ impl<D: BlockDevice> Tree<D> {
         inside
     }
 
-    /// Looks up a path, and returns an attribute of its entry, at most 1,022 bytes. Reads each
-    /// metadata pair of the directories above it at most once, and none if all of them are cached.
+    /// Looks up a path, and returns an attribute of its entry. An attribute has at most 1,022
+    /// bytes. Reads each metadata pair of the path's parent directories at most once, and none if
+    /// all of these pairs are cached.
     ///
-    /// Errors: `Io` if a read failed. `NoMemory` if memory can't be allocated. The tree has failed
-    /// after either.
+    /// Errors: `Io` if a read fails, or `NoMemory` if memory can't be allocated. After an error the
+    /// tree has failed.
     pub fn get_attr(
         &mut self,
         alloc: Global,
@@ -316,12 +323,13 @@ impl<D: BlockDevice> Tree<D> {
         found
     }
 
-    /// Returns how many bytes the attributes of the entry at a path use of its metadata pair, each
-    /// with its tag of 4 bytes; 0 if there is no entry. Makes at most one read for each metadata
-    /// pair of the directories above the path, and none if all of them are cached.
+    /// Returns how many bytes the attributes of the entry at a path use in its metadata pair. The
+    /// size of each attribute includes its 4-byte tag. Returns 0 if the path has no entry. Makes at
+    /// most one read for each metadata pair of the path's parent directories, and none if all of
+    /// these pairs are cached.
     ///
-    /// Errors: `Io` if a read failed. `NoMemory` if memory can't be allocated. The tree has failed
-    /// after either.
+    /// Errors: `Io` if a read fails, or `NoMemory` if memory can't be allocated. After an error the
+    /// tree has failed.
     pub fn attributes_size(&mut self, alloc: Global, path: &Path<'_>) -> Result<usize, Error>
         requires { self.old.failed ≡ false }
         ensures asks { ReadsTreeOrFails self.old result self.new }
@@ -333,12 +341,12 @@ impl<D: BlockDevice> Tree<D> {
         size
     }
 
-    /// Looks up a path, and returns the entries of the directory there, if it is one. Reads each
-    /// metadata pair of the directory and of those above it at most once, and none if all of them
-    /// are cached.
+    /// Looks up a path. If the path leads to a directory, returns the directory's entries too.
+    /// Reads each metadata pair of the directory and of its parent directories at most once, and
+    /// none if all of these pairs are cached.
     ///
-    /// Errors: `Io` if a read failed. `NoMemory` if memory can't be allocated. The tree has failed
-    /// after either.
+    /// Errors: `Io` if a read fails, or `NoMemory` if memory can't be allocated. After an error the
+    /// tree has failed.
     pub fn list(&mut self, alloc: Global, path: &Path<'_>) -> Result<Listing, Error>
         requires { self.old.failed ≡ false }
         ensures asks { ReadsTreeOrFails self.old result self.new }
@@ -351,12 +359,12 @@ impl<D: BlockDevice> Tree<D> {
         listing
     }
 
-    /// Makes an empty directory at a path without an entry.
+    /// Makes an empty directory at a path that has no entry.
     ///
-    /// Recovers first.
+    /// Recovers first, as [`recover`](Tree::recover) does.
     ///
-    /// Errors: `Io` if a device call failed. `NoMemory` if memory can't be allocated. The tree has
-    /// failed after either.
+    /// Errors: `Io` if a device call fails, or `NoMemory` if memory can't be allocated. After an
+    /// error the tree has failed.
     pub fn mkdir(&mut self, alloc: Global, path: &Path<'_>) -> Result<(), Error>
         requires { CanMakeDirectory self.old path.now }
         ensures { AppliesCallOrFails self.old (call.Mkdir path.now) result self.new }
@@ -367,15 +375,15 @@ impl<D: BlockDevice> Tree<D> {
         self.relocate(alloc, plan, made)
     }
 
-    /// Creates an empty file at a path without an entry. Makes at most six reads if nothing is to
-    /// recover and no pair may be relocated.
+    /// Creates an empty file at a path that has no entry. Makes at most six reads if nothing is
+    /// left to recover and the profile's `pair_cycles` is 0.
     ///
-    /// `known` is the result of [`look_up_creation`](Tree::look_up_creation), called just before.
-    /// It is None if something is to recover. Then this call recovers first, and looks the path up
-    /// again.
+    /// `known` is the result of calling [`look_up_creation`](Tree::look_up_creation) immediately
+    /// before this call. If something is left to recover, `known` is None, and this call recovers
+    /// first and looks up the path again.
     ///
-    /// Errors: `Io` if a device call failed. `NoMemory` if memory can't be allocated. The tree has
-    /// failed after either.
+    /// Errors: `Io` if a device call fails, or `NoMemory` if memory can't be allocated. After an
+    /// error the tree has failed.
     pub fn create(
         &mut self,
         alloc: Global,
@@ -394,12 +402,12 @@ impl<D: BlockDevice> Tree<D> {
         self.relocate(alloc, plan, created)
     }
 
-    /// Removes a file, or a directory without entries.
+    /// Removes a file or an empty directory.
     ///
-    /// Recovers first.
+    /// Recovers first, as [`recover`](Tree::recover) does.
     ///
-    /// Errors: `Io` if a device call failed. `NoMemory` if memory can't be allocated. The tree has
-    /// failed after either.
+    /// Errors: `Io` if a device call fails, or `NoMemory` if memory can't be allocated. After an
+    /// error the tree has failed.
     pub fn remove(&mut self, alloc: Global, path: &Path<'_>) -> Result<(), Error>
         requires { CanRemoveEntry self.old path.now }
         ensures { AppliesCallOrFails self.old (call.Remove path.now) result self.new }
@@ -410,12 +418,12 @@ impl<D: BlockDevice> Tree<D> {
         self.relocate(alloc, plan, removed)
     }
 
-    /// Sets an attribute of an entry, and replaces the one of that type, if there is one.
+    /// Sets an attribute of an entry, and replaces an attribute that has the same type.
     ///
-    /// Recovers first.
+    /// Recovers first, as [`recover`](Tree::recover) does.
     ///
-    /// Errors: `Io` if a device call failed. `NoMemory` if memory can't be allocated. The tree has
-    /// failed after either.
+    /// Errors: `Io` if a device call fails, or `NoMemory` if memory can't be allocated. After an
+    /// error the tree has failed.
     pub fn set_attr(
         &mut self,
         alloc: Global,
@@ -432,12 +440,13 @@ impl<D: BlockDevice> Tree<D> {
         self.relocate(alloc, plan, set)
     }
 
-    /// Completes what a power loss left half done: a move, and orphans, the directories that no
-    /// path leads to (DESIGN.md of littlefs, "The move problem"). Drops the orphans with their
-    /// entries, and frees the blocks of their files. Writes nothing if nothing is left.
+    /// Completes a move that a power loss left half done, and drops orphans: directories that no
+    /// path leads to (see "The move problem" in littlefs's DESIGN.md). Drops the entries in
+    /// orphans, and frees the blocks of their files. Makes no device call if nothing is left to
+    /// recover.
     ///
-    /// Errors: `Io` if a device call failed. `NoMemory` if memory can't be allocated. The tree has
-    /// failed after either.
+    /// Errors: `Io` if a device call fails, or `NoMemory` if memory can't be allocated. After an
+    /// error the tree has failed.
     pub fn recover(&mut self, alloc: Global) -> Result<(), Error>
         requires works { self.old.failed ≡ false }
         requires writable { self.old.writable ≡ true }
@@ -455,10 +464,10 @@ impl<D: BlockDevice> Tree<D> {
 
     /// Removes an attribute of an entry.
     ///
-    /// Recovers first.
+    /// Recovers first, as [`recover`](Tree::recover) does.
     ///
-    /// Errors: `Io` if a device call failed. `NoMemory` if memory can't be allocated. The tree has
-    /// failed after either.
+    /// Errors: `Io` if a device call fails, or `NoMemory` if memory can't be allocated. After an
+    /// error the tree has failed.
     pub fn remove_attr(&mut self, alloc: Global, path: &Path<'_>, kind: u8) -> Result<(), Error>
         requires { CanRemoveAttr self.old path.now kind }
         ensures { AppliesCallOrFails self.old (call.RemoveAttr path.now kind) result self.new }

@@ -1,4 +1,5 @@
-// Wear leveling: worn pairs are relocated after an operation.
+// Wear leveling: relocates worn metadata pairs after an operation. A pair is worn if its revision
+// count is a multiple of the profile's `pair_cycles`.
 
 ghost use Rattle.std.specs.Prelude.{◌≡◌, false, true, IfOk, None, OnOk};
 ghost use Rattle.lfs_model.specs.format.Slots.{zero_gstate};
@@ -15,8 +16,8 @@ use lfs_operations::{MovePlan, plan_move, relocate};
 use std::alloc::Global;
 
 impl<D: BlockDevice> Tree<D> {
-    // Plans the relocation of a worn pair, before an operation that allocates at most `room`
-    // blocks. Returns None if the profile's `pair_cycles` is 0.
+    // Plans the relocation of a worn pair before an operation that allocates at most `room` blocks.
+    // Returns None if the profile's `pair_cycles` is 0.
     pub(crate) fn plan_move(&mut self, room: u32) -> Option<MovePlan>
         requires { self.old.failed ≡ false }
         ensures planned { IsPlanned self.old room result }
@@ -47,8 +48,8 @@ impl<D: BlockDevice> Tree<D> {
         Ok(plan)
     }
 
-    // Relocates at most one worn pair after an operation. If the operation failed, returns its
-    // error and does nothing.
+    // Relocates at most one worn pair after an operation. If the operation failed, does nothing and
+    // returns its error.
     pub(crate) fn relocate(
         &mut self,
         alloc: Global,

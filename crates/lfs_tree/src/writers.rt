@@ -24,11 +24,11 @@ use lfs_lookup::Path;
 use std::alloc::Global;
 
 impl<D: BlockDevice> Tree<D> {
-    /// Returns the contents of a file for a new writer: in memory if the file is inline, otherwise
-    /// its list.
+    /// Returns the contents of a file for a new writer. Reads the bytes of an inline file into
+    /// memory, but only refers to the CTZ skip-list of any other file.
     ///
-    /// Errors: `Io` if a read failed. `NoMemory` if memory can't be allocated. The tree has failed
-    /// after either.
+    /// Errors: `Io` if a read fails, or `NoMemory` if memory can't be allocated. After an error the
+    /// tree has failed.
     pub fn open_writer_contents(
         &mut self,
         alloc: Global,
@@ -45,9 +45,10 @@ impl<D: BlockDevice> Tree<D> {
         contents
     }
 
-    /// Returns empty contents, for a writer of an empty file or of one that is truncated.
+    /// Returns empty contents for the writer of an empty file, or of a file that is truncated when
+    /// it is opened.
     ///
-    /// Errors: `NoMemory` if memory can't be allocated. The tree has then failed.
+    /// Errors: `NoMemory` if memory can't be allocated. After an error the tree has failed.
     pub fn empty_contents(&mut self, alloc: Global) -> Result<WriterContents, Error>
         requires works { self.old.failed ≡ false }
         requires idle { in_flight_count self.old.map ≡ 0 }
@@ -63,10 +64,10 @@ impl<D: BlockDevice> Tree<D> {
         contents
     }
 
-    /// Writes bytes, at least one, at an offset in bytes of a writer's contents, and fills a gap
-    /// before it with zeros. Doesn't change the image.
+    /// Writes `bytes`, at least one, at byte offset `place` of a writer's contents. Fills a gap
+    /// before `place` with zeros. Doesn't change the image.
     ///
-    /// Errors: `Io` if a device call failed. `NoMemory` if memory can't be allocated. After an
+    /// Errors: `Io` if a device call fails, or `NoMemory` if memory can't be allocated. After an
     /// error the contents are lost, and the tree has failed.
     pub fn write(
         &mut self,
@@ -86,10 +87,10 @@ impl<D: BlockDevice> Tree<D> {
         written
     }
 
-    /// Truncates a writer's contents to a size in bytes, or extends them to it with zeros. Doesn't
-    /// change the image.
+    /// Sets the size of a writer's contents in bytes: truncates them, or extends them with zeros.
+    /// Doesn't change the image.
     ///
-    /// Errors are those of [`write`](Tree::write).
+    /// Returns the same errors as [`write`](Tree::write).
     pub fn truncate(
         &mut self,
         alloc: Global,
@@ -107,10 +108,10 @@ impl<D: BlockDevice> Tree<D> {
         truncated
     }
 
-    /// Commits a writer's contents to its file. Afterwards no block is in flight. May relocate a
-    /// worn pair.
+    /// Commits a writer's contents to its file. Afterwards no block is in flight, that is,
+    /// allocated but not yet committed. May relocate one worn metadata pair.
     ///
-    /// Errors are those of [`write`](Tree::write).
+    /// Returns the same errors as [`write`](Tree::write).
     pub fn commit_writer_contents(
         &mut self,
         alloc: Global,

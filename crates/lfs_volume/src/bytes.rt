@@ -7,8 +7,8 @@ ghost use Rattle.lfs_model.specs.session.Writers.{written_contents, zero_padded}
 use lfs_device::Error;
 use std::alloc::{AllocError, Global};
 
-// Resizes the contents to `size` bytes: cuts them, or appends zeros. They are unchanged after an
-// error.
+// Resizes the contents to `size` bytes: truncates them, or extends them with zeros. Leaves the
+// contents unchanged after an error.
 pub(crate) fn resize_bytes(contents: &mut Vec<u8>, size: usize) -> Result<(), AllocError>
     ensures ok { OnOk result (contents.new.items ≡ take size (zero_padded size contents.old.items)) }
     ensures err { OnErr result (contents.new.items ≡ contents.old.items) }
@@ -17,7 +17,7 @@ pub(crate) fn resize_bytes(contents: &mut Vec<u8>, size: usize) -> Result<(), Al
     contents.resize(size, 0)
 }
 
-// Overwrites the bytes of `all` from the offset `at` on.
+// Overwrites the bytes of `all` from the offset `at`.
 fn overwrite(all: &mut Vec<u8>, at: usize, bytes: &[u8])
     requires { at + length bytes.now ≤ length all.old.items }
     ensures { all.new.items ≡ overwritten_at all.old.items at bytes.now }
@@ -25,8 +25,8 @@ fn overwrite(all: &mut Vec<u8>, at: usize, bytes: &[u8])
     all[at..at + bytes.len()].copy_from_slice(bytes);
 }
 
-// Writes bytes into the contents at the offset `at`. Fills a gap before them with zeros. The
-// contents are unchanged after an error.
+// Writes bytes to the contents at the offset `at`. Fills a gap before the bytes with zeros. Leaves
+// the contents unchanged after an error.
 pub(crate) fn write_bytes(contents: &mut Vec<u8>, at: usize, bytes: &[u8]) -> Result<(), AllocError>
     requires { at + length bytes.now < 2 ^ 63 }
     ensures ok { OnOk result (contents.new.items ≡ written_contents contents.old.items at bytes.now) }
@@ -41,7 +41,7 @@ pub(crate) fn write_bytes(contents: &mut Vec<u8>, at: usize, bytes: &[u8]) -> Re
     Ok(())
 }
 
-// Returns at most `count` bytes from the offset `at` on.
+// Returns at most `count` bytes of the contents from the offset `at`.
 pub(crate) fn bytes_from(contents: &[u8], at: usize, count: usize) -> &[u8]
     ensures { result.now ≡ take count (drop at contents.now) }
 {
@@ -49,14 +49,15 @@ pub(crate) fn bytes_from(contents: &[u8], at: usize, count: usize) -> &[u8]
     &rest[..count.min(rest.len())]
 }
 
-// Returns the bytes from the offset `at` on: none if the contents end before it.
+// Returns the bytes of the contents from the offset `at`, or no bytes if the contents end before
+// it.
 pub(crate) fn bytes_behind(contents: &[u8], at: usize) -> &[u8]
     ensures { result.now ≡ drop at contents.now }
 {
     &contents[at.min(contents.len())..]
 }
 
-// Copies bytes to the beginning of a buffer, and leaves the rest of it unchanged.
+// Copies bytes to the beginning of a buffer, and leaves the rest of the buffer unchanged.
 pub(crate) fn copy_into(buf: &mut [u8], bytes: &[u8])
     requires { length bytes.now ≤ length buf.old }
     ensures { buf.new ≡ bytes.now ++ drop (length bytes.now) buf.old }
@@ -64,7 +65,7 @@ pub(crate) fn copy_into(buf: &mut [u8], bytes: &[u8])
     buf[..bytes.len()].copy_from_slice(bytes);
 }
 
-// Returns a copy of bytes. Errors: `NoMemory` if memory for it isn't granted.
+// Returns a copy of the bytes. Returns `NoMemory` if memory for the copy can't be allocated.
 pub(crate) fn copied(alloc: Global, bytes: &[u8]) -> Result<Vec<u8>, Error>
     ensures are { IfOk result (λ v. v.items ≡ bytes.now) }
     ensures none { IfErr result (λ e. e ≡ Error.NoMemory) }
@@ -75,7 +76,7 @@ pub(crate) fn copied(alloc: Global, bytes: &[u8]) -> Result<Vec<u8>, Error>
     }
 }
 
-// Returns a copy of bytes.
+// Returns a copy of the bytes.
 pub(crate) fn copy_of(alloc: Global, bytes: &[u8]) -> Result<Vec<u8>, AllocError>
     ensures { IfOk result (λ v. v.items ≡ bytes.now) }
 {

@@ -1,4 +1,4 @@
-// The definitions of a volume, by examples.
+// Examples of the definitions of a volume.
 
 ghost use Rattle.std.specs.Prelude.{◌≡◌, ◌≢◌, ◌∷◌, ◌++◌, ℕ, List, [], codes, false, length, replicate, true, None, Ok, Some};
 ghost use Rattle.lfs_model.specs.session.Operations as ops;
@@ -15,8 +15,8 @@ ghost use Rattle.lfs_volume.specs.Opened.{LeadsToFile};
 ghost use Rattle.lfs_volume.specs.Volume.{VolumeView, loaded_node, opened_node, resized_node, stored_bytes, unlinked_node, written_node};
 ghost use Rattle.lfs_volume.specs.VolumeCalls.{IsSoundNode, IsSoundVolume, IsVolumeCall};
 
-/// A file is opened for reading, writing or both. Create, truncate and append need writing, and
-/// exclusive needs create.
+/// Shows that a file is opened for reading, writing or both. `CREATE`, `TRUNCATE` and `APPEND`
+/// require `WRITE`, and `EXCLUSIVE` requires `CREATE`.
 pub fn flags_of_volume_are_checked()
     ensures { volume_replies 16
         (Open (codes "/a") read_flags ∷ Open (codes "/a") (record read_flags { create = true })
@@ -27,8 +27,8 @@ pub fn flags_of_volume_are_checked()
         ∷ ops.Opened 1 ∷ [] }
 {}
 
-/// An open returns the least free handle. A handle that isn't open is refused, and so is a read or
-/// a write that it wasn't opened for.
+/// Shows that an open returns the lowest free handle. A call with a handle that isn't open is
+/// refused, and so is a read or a write for which the handle wasn't opened.
 pub fn least_free_number_is_opened()
     ensures { volume_replies 16
         (Open (codes "/a") creating_flags ∷ Open (codes "/b") new_flags ∷ Open (codes "/a") read_flags ∷ Close 1
@@ -37,8 +37,8 @@ pub fn least_free_number_is_opened()
         ∷ ops.Refused BadFile ∷ ops.Refused BadFile ∷ ops.Refused BadFile ∷ ops.Refused BadFile ∷ [] }
 {}
 
-/// Handles on one path share the file's contents, and each has its own position. The tree has the
-/// new contents after a sync.
+/// Shows that handles on the same path share the file's contents, while each has its own position.
+/// The tree has the new contents after a sync.
 pub fn handles_share_one_contents()
     ensures { volume_replies 16
         (Open (codes "/a") new_flags ∷ Open (codes "/a") read_flags ∷ Write 0 (codes "hello") ∷ Read 1 2 ∷ Tell 0 ∷ Tell 1
@@ -49,7 +49,7 @@ pub fn handles_share_one_contents()
         ∷ ops.Done ∷ ops.Bytes (codes "hullo") ∷ ops.Done ∷ ops.Count 2 ∷ [] }
 {}
 
-/// Positions and sizes past the longest file are refused.
+/// Shows that positions and sizes above the maximum size of a file are refused.
 pub fn positions_past_limit_are_refused()
     ensures { volume_replies 16
         (Open (codes "/a") new_flags ∷ Seek 0 2147483647 ∷ Seek 0 2147483648 ∷ Tell 0 ∷ Write 0 (codes "x") ∷ Write 0 []
@@ -58,8 +58,8 @@ pub fn positions_past_limit_are_refused()
         ∷ ops.Refused TooBig ∷ ops.Bytes [] ∷ ops.Count 0 ∷ [] }
 {}
 
-/// Open files move with a directory that is renamed. A file stays if its path only begins with the
-/// same letters.
+/// Shows that open files move with a directory that is renamed. A file doesn't move if its path
+/// only begins with the same characters.
 pub fn open_files_go_with_directory()
     ensures replies { volume_replies 16
         (Perform (ops.Mkdir (codes "/d")) ∷ Open (codes "/d/a") new_flags ∷ Open (codes "/dd") new_flags ∷ Write 0 (codes "moved")
@@ -74,8 +74,8 @@ pub fn open_files_go_with_directory()
     ensures removed { moved_path (codes "/d") (codes "/e") (unlinked_node (opened_node (codes "/d") 0)) ≡ None }
 {}
 
-/// A removed file can still be read and written through its open handles, and no sync brings it
-/// back. The same holds for a file that was replaced.
+/// Shows that a file that was removed or replaced can still be read and written through its open
+/// handles, and that no sync brings the file back.
 pub fn removed_file_stays_open()
     ensures removed { volume_replies 16
         (Open (codes "/a") new_flags ∷ Write 0 (codes "kept") ∷ Close 0 ∷ Open (codes "/a") new_flags ∷ Perform (ops.Remove (codes "/a"))
@@ -92,8 +92,8 @@ pub fn removed_file_stays_open()
         ∷ ops.Refused NoEnt ∷ [] }
 {}
 
-/// A sync needs two free blocks, and those of a list of the file's length. If it is refused, the
-/// bytes stay in memory; after a close they are lost.
+/// Shows that a sync needs two free blocks, and the blocks of a CTZ skip-list of the file's size.
+/// If the sync is refused, the bytes stay in memory until the file is closed, and are then lost.
 pub fn sync_without_room_is_refused()
     ensures full { volume_replies 6
         (Open (codes "/a") new_flags ∷ Write 0 (replicate 128 7) ∷ Write 0 (replicate 128 7) ∷ Sync 0 ∷ Write 0 (replicate 20 7) ∷ Sync 0
@@ -105,8 +105,8 @@ pub fn sync_without_room_is_refused()
         ≡ ops.Opened 0 ∷ ops.Count 128 ∷ ops.Count 124 ∷ ops.Done ∷ ops.StatIs (Some 252) ∷ [] }
 {}
 
-/// A hull is the range of bytes that may differ from the stored ones. A write extends it, and so
-/// does a greater length; a cut of the contents cuts it, too. No byte outside it may differ.
+/// Shows that bytes outside the hull never differ from the stored ones. The hull grows when bytes
+/// are written or appended, and is truncated with the contents.
 pub fn changed_bytes_are_in_hull()
     ensures first { hull_with None 3 5 ≡ record { from = 3; end = 5 } }
     ensures grows { hull_with (Some (record { from = 3; end = 5 })) 7 9 ≡ record { from = 3; end = 9 } }
@@ -118,7 +118,7 @@ pub fn changed_bytes_are_in_hull()
     ensures other { DiffersInHull (1 ∷ 2 ∷ []) (1 ∷ 3 ∷ []) None → ⊥ }
 {}
 
-/// The effect of writes, cuts and removes on an open file of four bytes.
+/// Shows the effects of writes, truncations and removals on an open file of four bytes.
 pub fn node_is_changed_in_memory()
     ensures written { written_node 1 (codes "XY") (codes "abcd") (opened_node (codes "/a") 4) ≡ record { path = Some (codes "/a"); size = 4; contents = Some (codes "aXYd"); hull = Some (record { from = 1; end = 3 }) } }
     ensures gap { written_node 5 (codes "X") (codes "abcd") (opened_node (codes "/a") 4) ≡ record { path = Some (codes "/a"); size = 6; contents = Some (codes "abcd" ++ 0 ∷ codes "X"); hull = Some (record { from = 4; end = 6 }) } }
@@ -127,7 +127,7 @@ pub fn node_is_changed_in_memory()
     ensures removed { unlinked_node (loaded_node (codes "abcd") (opened_node (codes "/a") 4)) ≡ record { path = None; size = 4; contents = Some (codes "abcd"); hull = None } }
 {}
 
-/// Calls that may want memory of the volume's own, and calls that never do.
+/// Shows which calls may allocate memory for the volume itself, and which never do.
 pub fn calls_that_want_memory()
     ensures open { may_want_memory fresh_volume (Open (codes "/a") read_flags) ≡ true }
     ensures longer { may_want_memory one_open_file (Write 0 (codes "abcde")) ≡ true }
@@ -137,15 +137,16 @@ pub fn calls_that_want_memory()
     ensures rename { may_want_memory one_open_file (Perform (ops.Rename (codes "/a") (codes "/b"))) ≡ true }
 {}
 
-/// A volume that has failed replies `Failed` to each call, and nothing changes. It never replies
-/// `Done`.
+/// Shows that a volume that has failed replies `Failed` to each call and changes nothing. A failed
+/// volume never replies `Done`.
 pub fn failed_volume_changes_nothing()
     ensures refused { (v : VolumeView) (call : Call) → v.session.tree.failed ≡ true → IsVolumeCall v call (Ok (ops.Refused Failed)) v }
     ensures other { (v w : VolumeView) (call : Call) → v.session.tree.failed ≡ true → IsVolumeCall v call (Ok ops.Done) w → ⊥ }
 {}
 
-/// A volume without open files is sound if its session is idle. It isn't sound if a handle names no
-/// node, or if a node whose bytes aren't in memory has a hull, or another size than its file.
+/// Shows that a volume without handles is sound if its session hasn't failed and has no open file.
+/// A volume isn't sound if a handle refers to no node. A node isn't sound if its bytes aren't in
+/// memory and it has a hull, or if its size isn't that of its file.
 pub fn volume_is_sound_or_not()
     ensures empty { (h : SessionView) → h.tree.failed ≡ false → h.files ≡ [] → IsSoundVolume (record { session = h; nodes = []; handles = [] }) }
     ensures handle { (h : SessionView) (g : Handle) → IsSoundVolume (record { session = h; nodes = []; handles = Some g ∷ [] }) → ⊥ }
@@ -153,7 +154,8 @@ pub fn volume_is_sound_or_not()
     ensures hull { (h : SessionView) (path : List ℕ) (size : ℕ) (hull : Hull) → IsSoundNode h (record (opened_node path size) { hull = Some hull }) → ⊥ }
 {}
 
-/// A path leads to a file if it is absolute and the tree has a file there, and not otherwise.
+/// Shows that the path of a file in the tree leads to a file, while the root's path and the path of
+/// a missing entry don't.
 pub fn path_leads_to_file_or_not()
     ensures file { LeadsToFile (volume_after 16 (Open (codes "/a") new_flags ∷ [])).tree (codes "/a") }
     ensures none { LeadsToFile (volume_after 16 (Open (codes "/a") new_flags ∷ [])).tree (codes "/b") → ⊥ }

@@ -1,4 +1,4 @@
-// The flags that a file of a volume is opened with.
+// The flags with which a file of a volume is opened.
 
 ghost use Rattle.std.specs.Prelude.{◌≡◌};
 ghost use Rattle.lfs_fs.specs.FlagsView.{flags_view};
@@ -7,12 +7,12 @@ ghost use Rattle.lfs_volume.specs.Calls.{session_flags, volume_flags_allowed};
 use bitflags::Flags;
 use lfs_fs::OpenFlags;
 
-// All bits that name a flag.
+// The bits of all known flags.
 const NAMED: u32 = 0xf03;
 
-/// Returns whether a volume accepts these flags for an open: reading, writing or both; `CREATE`,
-/// `TRUNCATE` and `APPEND` only with `WRITE`, and `EXCLUSIVE` only with `CREATE`. An unknown bit is
-/// refused.
+/// Returns whether a volume can open a file with these flags. The flags must include `READ`,
+/// `WRITE` or both. `CREATE`, `TRUNCATE` and `APPEND` are allowed only with `WRITE`, and
+/// `EXCLUSIVE` only with `CREATE`. Unknown bits aren't allowed.
 pub fn allows_volume_flags(flags: OpenFlags) -> bool
     ensures { result ≡ volume_flags_allowed (flags_view flags) }
 {
@@ -29,8 +29,8 @@ pub fn allows_volume_flags(flags: OpenFlags) -> bool
         && (creates || !flags.contains(OpenFlags::EXCLUSIVE))
 }
 
-// Returns the flags with which the volume opens the file in the session, to learn whether it may be
-// opened, and to create it.
+// Returns the flags with which the volume opens a file in the session. This open checks whether the
+// file may be opened, and creates it if necessary.
 pub(crate) fn session_flags(flags: OpenFlags) -> OpenFlags
     ensures { flags_view result ≡ session_flags (flags_view flags) }
 {
@@ -48,7 +48,7 @@ pub(crate) fn session_flags(flags: OpenFlags) -> OpenFlags
     }
 }
 
-// Returns whether an open with these flags cuts the file to no bytes.
+// Returns whether an open with these flags truncates the file to 0 bytes.
 pub(crate) fn truncates(flags: OpenFlags) -> bool
     ensures { result ≡ (flags_view flags).truncate }
 {

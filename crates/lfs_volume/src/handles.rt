@@ -1,4 +1,4 @@
-// Handles: a program's view of an open file.
+// Handles, through which a program reads and writes open files.
 
 ghost use Rattle.std.specs.Prelude.{◌≡◌, ◌<◌, IfErr, IfOk, OnOk, is_none, slice_set, vec_capacity, vec_len, None, Some};
 ghost use Rattle.std.specs.List.{position_or_len};
@@ -11,8 +11,8 @@ use bitflags::Flags;
 use lfs_device::Error;
 use lfs_fs::OpenFlags;
 
-/// A handle on the open file `nodes[node]`: the offset at which its next read or write begins, in
-/// bytes, and whether it may read, may write, and writes at the file's end alone.
+/// A handle on the open file `nodes[node]`. The position of a handle is the offset in bytes at
+/// which its next read or write begins. A handle that appends writes only at the end of the file.
 #[derive(Clone, Copy)]
 pub struct Handle {
     pub node: usize,
@@ -22,7 +22,7 @@ pub struct Handle {
     pub appends: bool,
 }
 
-// Returns a handle on a node, at the beginning of the file.
+// Returns a handle on a node. The position of the handle is 0.
 pub(crate) fn new_handle(node: usize, flags: OpenFlags) -> Handle
     ensures { result ≡ new_handle node (flags_view flags) }
 {
@@ -35,7 +35,7 @@ pub(crate) fn new_handle(node: usize, flags: OpenFlags) -> Handle
     }
 }
 
-// Returns the handle of that number, or None if there is none.
+// Returns the handle with the number `handle`, or None if there is none.
 pub(crate) fn handle_at(handles: &[Option<Handle>], handle: u32) -> Option<Handle>
     ensures { result ≡ entry_at handles.now handle }
 {
@@ -45,7 +45,7 @@ pub(crate) fn handle_at(handles: &[Option<Handle>], handle: u32) -> Option<Handl
     }
 }
 
-// Returns the least free index of a table, or its length if none is free.
+// Returns the lowest free index of a table, or the table's length if no index is free.
 pub(crate) fn free_entry<T>(entries: &[Option<T>]) -> usize
     ensures { result ≡ position_or_len is_none entries.now }
 {
@@ -59,7 +59,7 @@ pub(crate) fn free_entry<T>(entries: &[Option<T>]) -> usize
     number
 }
 
-// Reserves memory for one more entry. Errors: `NoMemory` if it isn't granted.
+// Reserves memory for one more entry. Returns `NoMemory` if this memory can't be allocated.
 pub(crate) fn reserve_entry<T>(entries: &mut Vec<Option<T>>) -> Result<(), Error>
     ensures same { entries.new.items ≡ entries.old.items }
     ensures room { OnOk result (vec_len entries.new < vec_capacity entries.new) }
@@ -71,8 +71,8 @@ pub(crate) fn reserve_entry<T>(entries: &mut Vec<Option<T>>) -> Result<(), Error
     }
 }
 
-// Returns the number for the next handle, the least that is free. Errors: `NoMemory` if it exceeds
-// a u32.
+// Returns the number for the next handle, which is the lowest free one. Returns `NoMemory` if this
+// number doesn't fit in a `u32`.
 pub(crate) fn free_number(handles: &[Option<Handle>]) -> Result<u32, Error>
     ensures is { IfOk result (λ n. n ≡ free_entry handles.now) }
     ensures none { IfErr result (λ e. e ≡ Error.NoMemory) }
@@ -84,7 +84,7 @@ pub(crate) fn free_number(handles: &[Option<Handle>]) -> Result<u32, Error>
     Ok(number as u32)
 }
 
-// Sets the entry of an index, or appends it if the table is shorter.
+// Sets the entry at an index, or appends the entry if the table is shorter.
 pub(crate) fn put_entry<T: Drop>(entries: &mut Vec<Option<T>>, index: usize, entry: T)
     requires { vec_len entries.old < vec_capacity entries.old }
     ensures { entries.new.items ≡ with_entry entries.old.items index (Some entry) }
@@ -105,7 +105,7 @@ pub(crate) fn free_at<T: Drop>(entries: &mut Vec<Option<T>>, index: usize)
     }
 }
 
-// Returns whether a handle is on the node of that index.
+// Returns whether a handle refers to the node with the index `node`.
 pub(crate) fn is_named(handles: &[Option<Handle>], node: usize) -> bool
     ensures { result ≡ named handles.now node }
 {

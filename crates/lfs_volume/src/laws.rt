@@ -1,4 +1,4 @@
-// Laws of the calls that a volume makes of its session.
+// Laws of the session's calls that a volume makes.
 
 ghost use Rattle.std.specs.Prelude.{◌≡◌, ◌++◌, List, Ok, Result, false};
 ghost use Rattle.lfs_device.specs.declared.error.Error.{Error};
@@ -16,9 +16,11 @@ ghost use Rattle.lfs_volume.specs.Stops.{StopLeaves};
 ghost use Rattle.lfs_volume.specs.Volume.{VolumeView};
 ghost use Rattle.lfs_volume.specs.VolumeCalls.{IsVolumeCall};
 
-/// The session's calls within a call of a volume are turns of the session's life, also if the
-/// volume failed in it. After each of them a volume that works has the tree that its disk shows. A
-/// loss of power anywhere in them is survived, and so are any number of losses after it.
+/// Proves that the session calls that a volume makes in each of its calls form a life of the
+/// session, even if the volume fails. A life is a sequence of calls that were answered or failed.
+/// After each call, the session of a volume that hasn't failed has the tree that its disk shows.
+/// The session survives a power loss during any call of the volume, and any number of further power
+/// losses.
 pub fn volume_calls_are_lives()
     ensures call { (old new : VolumeView) (call : Call) (result : Result Reply Error) → IsVolumeCall old call result new → (turns : List Turn) × IsLife (system_state old.session) turns (system_state new.session) }
     ensures shows { (old new : VolumeView) (call : Call) (result : Result Reply Error) → IsVolumeCall old call result new → HealthyHasDiskTree old.session.tree.disk (system_state old.session).state → HealthyHasDiskTree new.session.tree.disk (system_state new.session).state }
@@ -29,14 +31,15 @@ pub fn volume_calls_are_lives()
     ensures ended { (e : Error) (old new : SessionView) (operations : List Operation) → EndsInCall e old operations new → is_refusal e ≡ false → (turns : List Turn) × IsRunInTurns (system_state old) operations turns (system_state new) }
 {}
 
-/// If power is lost in a call that the volume replied to, the disk has the tree from before the
-/// call, or the one from after it.
+/// Proves that a power loss during a call to which the volume replied leaves the tree from before
+/// the call or the tree from after it.
 pub fn stop_in_volume_call_leaves_either_tree()
     ensures call { (old new : VolumeView) (call : Call) (reply : Reply) → old.session.tree.failed ≡ false → IsVolumeCall old call (Ok reply) new → StopLeaves old.session new.session }
     ensures steps { (old new : SessionView) (operations : List Operation) → AreVolumeSteps old operations new → StopLeaves old new }
 {}
 
-/// A volume that works, and replied to a call, also by a refusal, works afterwards.
+/// Proves that a call to which a working volume replies, even with a refusal, leaves the volume
+/// working.
 pub fn replied_volume_works()
     ensures { (old new : VolumeView) (call : Call) (reply : Reply) → old.session.tree.failed ≡ false → IsVolumeCall old call (Ok reply) new → new.session.tree.failed ≡ false }
 {}

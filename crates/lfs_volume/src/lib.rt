@@ -1,6 +1,7 @@
 // SPDX-License-Identifier: BSD-3-Clause
-//! Volumes over a littlefs image: any number of open files, each for reading and writing, several
-//! handles on one file, and files that stay open while they are renamed or removed.
+//! Volumes over a littlefs image. A volume has any number of open files, each for reading, writing
+//! or both. A file may be open under several handles, and stays open while it is renamed or
+//! removed.
 #![tactic(auto)]
 
 mod bytes;

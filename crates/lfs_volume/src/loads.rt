@@ -1,5 +1,5 @@
-// How the session is asked for a file, and for its bytes. A file is open in the session only within
-// one of these calls.
+// The session's calls that look for a file and load its bytes. A file is open in the session only
+// during one of these calls.
 
 ghost use Rattle.std.specs.Prelude.{◌≡◌, ◌∷◌, [], IfErr, IfOk, IfSome, false, length};
 ghost use Rattle.lfs_tree.specs.TreeState.{shown_tree};
@@ -16,8 +16,8 @@ use lfs_fs::{OpenFlags, Session};
 use std::alloc::Global;
 use std::mem;
 
-// Returns `count` bytes of spare memory, if `spare` has room for as many, and at most for twice as
-// many.
+// Returns `count` bytes of memory from `spare`, or None if the capacity of `spare` is less than
+// `count` bytes, or so much more that too much memory would be wasted.
 fn spare_bytes(alloc: Global, spare: &mut Vec<u8>, count: usize) -> Option<Vec<u8>>
     ensures { IfSome result (λ v. length v.items ≡ count) }
 {
@@ -31,9 +31,10 @@ fn spare_bytes(alloc: Global, spare: &mut Vec<u8>, count: usize) -> Option<Vec<u
     }
 }
 
-// Reads an open file into these bytes, and returns those that were read: fewer where the file ends.
+// Reads an open file into `bytes`, and returns the bytes that were read. Returns fewer bytes if the
+// file ends earlier.
 //
-// Errors: those of the session's `read`.
+// Returns the same errors as the session's `read_into`.
 fn read_over<D: BlockDevice>(
     session: &mut Session<D>,
     fd: u32,
@@ -46,9 +47,9 @@ fn read_over<D: BlockDevice>(
     Ok(bytes)
 }
 
-// Reads at most `count` bytes of an open file, into spare memory if it fits.
+// Reads at most `count` bytes of an open file. Uses the memory in `spare` if its size is suitable.
 //
-// Errors: those of the session's `read`.
+// Returns the same errors as the session's `read`.
 fn read_bytes<D: BlockDevice>(
     alloc: Global,
     session: &mut Session<D>,
@@ -64,10 +65,10 @@ fn read_bytes<D: BlockDevice>(
     }
 }
 
-// Returns all bytes of a file, in spare memory if it fits.
+// Returns all bytes of a file. Uses the memory in `spare` if its size is suitable.
 //
-// Errors: those of the session's `open` for reading. `Io`, and `NoMemory` within the session: the
-// session has failed then.
+// Returns the same errors as the session's `open` for reading. Returns `Io` if a read fails, and
+// `NoMemory` if the session can't allocate memory. After `Io` or `NoMemory` the session has failed.
 pub(crate) fn load<D: BlockDevice>(
     alloc: Global,
     session: &mut Session<D>,
@@ -85,10 +86,10 @@ pub(crate) fn load<D: BlockDevice>(
     Ok(bytes)
 }
 
-// Asks the session whether a file may be opened with these flags, and returns its size. A file that
-// is to be made is made.
+// Checks with the session whether a file may be opened with these flags, and returns the file's
+// size. If the flags create a file, creates it in the tree.
 //
-// Errors: those of the session's `open`.
+// Returns the same errors as the session's `open`.
 pub(crate) fn find_file<D: BlockDevice>(
     alloc: Global,
     session: &mut Session<D>,

@@ -27,7 +27,7 @@ use std::alloc::Global;
 ///
 /// # Errors
 ///
-/// Those of `lfs_fs::mount`, with the device.
+/// Returns the same errors as `lfs_fs::mount`, with the device.
 pub fn mount<D: BlockDevice>(alloc: Global, device: D) -> Result<Volume<D>, (D, Error)>
     ensures begun { IfOk result (λ v. HasNoHandles v × BeginsByMount (ordered_disk v.session.tree.disk.order (disk_of_device D.BlockDevice device)) (D.history device) v.session) }
     ensures state { IfOk result (λ v. IsMounted (ordered_disk v.session.tree.disk.order (disk_of_device D.BlockDevice device)) (system_state v.session)) }
@@ -42,12 +42,12 @@ pub fn mount<D: BlockDevice>(alloc: Global, device: D) -> Result<Volume<D>, (D, 
     }
 }
 
-/// Mounts a device by a profile and the limits of its image, as `lfs_fs::mount_with_limits` does,
-/// and returns a volume over the session. No file is open.
+/// Mounts a device with the limits of its image, as `lfs_fs::mount_with_limits` does, and returns a
+/// volume over the session. No file is open.
 ///
 /// # Errors
 ///
-/// Those of `lfs_fs::mount_with_limits`, with the device.
+/// Returns the same errors as `lfs_fs::mount_with_limits`, with the device.
 pub fn mount_with_limits<D: BlockDevice>(
     alloc: Global,
     device: D,
@@ -66,12 +66,12 @@ pub fn mount_with_limits<D: BlockDevice>(
     }
 }
 
-/// Writes an empty file system to a device, in littlefs's own order of names, and returns a volume
+/// Writes an empty file system to a device in littlefs's own order of names, and returns a volume
 /// over it. No file is open.
 ///
 /// # Errors
 ///
-/// Those of [`format_ordered`], with the device.
+/// Returns the same errors as [`format_ordered`], with the device.
 pub fn format<D: BlockDevice>(alloc: Global, device: D) -> Result<Volume<D>, (D, Error)>
     ensures formatted { IfOk result (λ v. HasNoHandles v × IsFormatted (kept_thread v.session.tree)) }
     ensures state { IfOk result (λ v. (system_state v.session).state ≡ Healthy (mounted_session empty_tree)) }
@@ -82,12 +82,12 @@ pub fn format<D: BlockDevice>(alloc: Global, device: D) -> Result<Volume<D>, (D,
     format_ordered(alloc, device, NameOrder::LongerFirst)
 }
 
-/// Writes an empty file system to a device, as `lfs_fs::format_ordered` does, and returns a volume
+/// Writes an empty file system to a device as `lfs_fs::format_ordered` does, and returns a volume
 /// over it. No file is open.
 ///
 /// # Errors
 ///
-/// Those of `lfs_fs::format_ordered`, with the device.
+/// Returns the same errors as `lfs_fs::format_ordered`, with the device.
 pub fn format_ordered<D: BlockDevice>(
     alloc: Global,
     device: D,

@@ -1,4 +1,4 @@
-// A node: an open file, whose contents are in memory once they were read or written.
+// A node: an open file. Its contents are in memory after the first read or write.
 
 ghost use Rattle.std.specs.Prelude.{◌≡◌, ◌+◌, ◌<◌, ◌≤◌, ◌^◌, ◌==◌, [], length, List, ℕ, IfOk, IfSome, IsSome, None, Some, OnErr, OnOk, is_some, unwrap_or, vec_capacity, true};
 ghost use Rattle.std.specs.Option.{option_map};
@@ -11,19 +11,20 @@ use crate::hull::{Hull, hull_with, resized_hull};
 use std::alloc::{AllocError, Global};
 use std::marker::Model;
 
-// The most bytes of memory that are kept for the next file that is loaded.
+// The maximum number of bytes of memory that are kept for the next file that is loaded.
 const SPARE_MAX: usize = 1 << 22;
 
 /// An open file.
 #[derive(Drop)]
 pub struct Node {
-    // None once the file was removed or replaced.
+    // The path of the file, or None after the file was removed or replaced.
     path: Option<Vec<u8>>,
-    // How many bytes the file has, with what isn't synced.
+    // The size of the file in bytes, including changes that aren't synced.
     size: u32,
-    // None as long as nothing was read or written.
+    // The contents, or None if nothing has been read or written yet.
     contents: Option<Vec<u8>>,
-    // Where the contents aren't what is stored, if they aren't.
+    // The range in which the contents may differ from the stored ones, or None if they are the
+    // same.
     hull: Option<Hull>,
 }
 
@@ -52,7 +53,7 @@ impl Node {
         }
     }
 
-    // Returns the path, unless the file was removed or replaced.
+    // Returns the path, or None if the file was removed or replaced.
     pub(crate) fn path(&self) -> Option<&[u8]>
         ensures { option_map (λ p. p.now) result ≡ self.now.path }
     {
@@ -62,14 +63,14 @@ impl Node {
         }
     }
 
-    // Returns how many bytes the file has.
+    // Returns the size of the file in bytes.
     pub(crate) fn size(&self) -> u32
         ensures { result ≡ self.now.size }
     {
         self.size
     }
 
-    // Returns the contents, if they are in memory.
+    // Returns the contents if they are in memory.
     pub(crate) fn contents(&self) -> Option<&[u8]>
         ensures is { option_map (λ p. p.now) result ≡ self.now.contents }
         ensures size { IfSome result (λ p. length p.now ≡ self.now.size) }
@@ -89,7 +90,7 @@ impl Node {
         self.contents.is_some()
     }
 
-    // Returns where the contents aren't what is stored.
+    // Returns the range in which the contents may differ from the stored ones.
     pub(crate) fn hull(&self) -> Option<Hull>
         ensures is { result ≡ self.now.hull }
         ensures within { IfSome result (λ h. (h.from ≤ h.end) × (h.end ≤ self.now.size)) }
@@ -98,7 +99,7 @@ impl Node {
         self.hull
     }
 
-    // Returns whether the node has that path.
+    // Returns whether the node's path is `path`.
     pub(crate) fn has_path(&self, path: &[u8]) -> bool
         ensures { result ≡ has_path path.now (Some self.now) }
     {
@@ -108,7 +109,7 @@ impl Node {
         }
     }
 
-    // Keeps the bytes of the file, as many as the node has, in memory.
+    // Stores the contents of the file in the node. Their length must be the node's size.
     pub(crate) fn keep_contents(&mut self, contents: Vec<u8>)
         requires { length contents.items ≡ self.old.size }
         ensures { self.new ≡ loaded_node contents.items self.old }
@@ -116,7 +117,7 @@ impl Node {
         self.contents = Some(contents);
     }
 
-    // Writes bytes into the contents at a place. Zeros fill a gap before them.
+    // Writes bytes to the contents at the offset `at`. Fills a gap before the bytes with zeros.
     pub(crate) fn write(&mut self, at: u32, bytes: &[u8]) -> Result<(), AllocError>
         requires { at + length bytes.now < 2 ^ 31 }
         ensures ok { OnOk result (IsSome self.old.contents → self.new ≡ written_node at bytes.now (unwrap_or self.old.contents []) self.old) }
@@ -136,7 +137,7 @@ impl Node {
         Ok(())
     }
 
-    // Gives the contents that many bytes: they are cut, or zeros fill them up.
+    // Resizes the contents to `size` bytes: truncates them, or extends them with zeros.
     pub(crate) fn resize(&mut self, size: u32) -> Result<(), AllocError>
         ensures ok { OnOk result (IsSome self.old.contents → self.new ≡ resized_node size (unwrap_or self.old.contents []) self.old) }
         ensures err { OnErr result (self.new ≡ self.old) }
@@ -165,14 +166,14 @@ impl Node {
         }
     }
 
-    // Notes that the contents are stored.
+    // Marks the contents as stored.
     pub(crate) fn note_synced(&mut self)
         ensures { self.new ≡ synced_node self.old }
     {
         self.hull = None;
     }
 
-    // Takes the path away. The contents stay.
+    // Removes the node's path, but keeps the contents.
     pub(crate) fn unlink(&mut self)
         ensures { self.new ≡ unlinked_node self.old }
     {
@@ -180,8 +181,8 @@ impl Node {
         self.hull = None;
     }
 
-    // Drops the node. Keeps the memory of its contents in `spare`, if it is larger than what `spare`
-    // has, and not too large to be kept.
+    // Drops the node. Moves the memory of its contents to `spare` if it is larger than the memory
+    // in `spare`, but at most `SPARE_MAX` bytes.
     pub(crate) fn leave_contents(self, spare: &mut Vec<u8>)
         ensures { vec_capacity spare.old ≤ vec_capacity spare.new }
     {
@@ -198,7 +199,7 @@ impl Node {
         }
     }
 
-    // Gives the node another path.
+    // Sets the node's path.
     pub(crate) fn set_path(&mut self, path: Vec<u8>)
         ensures { self.new ≡ record self.old { path = Some path.items } }
     {
@@ -206,7 +207,7 @@ impl Node {
     }
 }
 
-// Returns whether two paths are the same bytes.
+// Returns whether two paths consist of the same bytes.
 pub(crate) fn is_same_path(path: &[u8], other: &[u8]) -> bool
     ensures { result ≡ same_name path.now other.now }
 {

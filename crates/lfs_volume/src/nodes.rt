@@ -1,4 +1,4 @@
-// The open files of a volume.
+// The table of a volume's nodes, which are its open files.
 
 ghost use Rattle.std.specs.Prelude.{◌≡◌, ◌+◌, ◌<◌, ◌≤◌, ◌^◌, [], if◌then◌else◌, IfErr, IfOk, IfSome, OnErr, OnOk, List, ℕ, None, Some, drop, false, length, map, slice_set, take, unwrap_or, vec_capacity, vec_len};
 ghost use Rattle.std.specs.List.{position_or_len};
@@ -19,7 +19,7 @@ use lfs_device::{BlockDevice, Error};
 use lfs_fs::Session;
 use std::alloc::{AllocError, Global};
 
-// Returns the number of the node with that path, or how many numbers there are.
+// Returns the index of the node with the path `path`, or the length of the table if there is none.
 pub(crate) fn node_with_path(nodes: &[Option<Node>], path: &[u8]) -> usize
     ensures { result ≡ position_or_len (has_path path.now) nodes.now }
 {
@@ -42,9 +42,9 @@ fn is_at_path(entry: &Option<Node>, path: &[u8]) -> bool
     }
 }
 
-// Returns the bytes that are stored of a node: none, where the file was removed.
+// Returns the stored bytes of a node's file, or no bytes if the file was removed or replaced.
 //
-// Errors: those of a load.
+// Returns the same errors as `load`.
 fn stored_bytes<D: BlockDevice>(
     alloc: Global,
     session: &mut Session<D>,
@@ -63,10 +63,10 @@ fn stored_bytes<D: BlockDevice>(
     }
 }
 
-// Brings a node's bytes into memory, where they aren't yet.
+// Loads a node's bytes into memory if they aren't in memory yet.
 //
-// Errors: those of a load. `Corrupt` where the file has another size than the node, which no file of
-// a volume has.
+// Returns the same errors as `load`. Returns `Corrupt` if the size of the file isn't that of the
+// node, which never happens in a volume.
 pub(crate) fn load_node<D: BlockDevice>(
     alloc: Global,
     session: &mut Session<D>,
@@ -87,10 +87,9 @@ pub(crate) fn load_node<D: BlockDevice>(
     Ok(())
 }
 
-// Stores what changed of a node. Nothing is called where nothing changed, or where the node has no
-// path.
+// Stores the changes of a node. Does nothing if there are no changes, or if the node has no path.
 //
-// Errors: those of a save.
+// Returns the same errors as `save`.
 pub(crate) fn sync_node<D: BlockDevice>(
     alloc: Global,
     session: &mut Session<D>,
@@ -114,7 +113,7 @@ pub(crate) fn sync_node<D: BlockDevice>(
     Ok(())
 }
 
-// Brings the bytes of the node with that number into memory, if there is one.
+// Loads the bytes of the node with the index `number` into memory, if there is such a node.
 pub(crate) fn load_at<D: BlockDevice>(
     alloc: Global,
     session: &mut Session<D>,
@@ -137,7 +136,7 @@ pub(crate) fn load_at<D: BlockDevice>(
     }
 }
 
-// Stores what changed of the node with that number, if there is one.
+// Stores the changes of the node with the index `number`, if there is such a node.
 pub(crate) fn sync_at<D: BlockDevice>(
     alloc: Global,
     session: &mut Session<D>,
@@ -160,7 +159,7 @@ pub(crate) fn sync_at<D: BlockDevice>(
     }
 }
 
-// Returns the node with that number.
+// Returns the node with the index `number`, if there is one.
 pub(crate) fn node_at(nodes: &[Option<Node>], number: usize) -> Option<&Node>
     ensures { option_map (λ n. n.now) result ≡ entry_at nodes.now number }
 {
@@ -170,7 +169,7 @@ pub(crate) fn node_at(nodes: &[Option<Node>], number: usize) -> Option<&Node>
     }
 }
 
-// Returns the bytes of a node from a place on, at most `count`.
+// Returns at most `count` bytes of a node's contents from the offset `at`.
 pub(crate) fn bytes_of(node: &Node, at: u32, count: usize) -> &[u8]
     ensures few { length result.now ≤ count }
     ensures are { result.now ≡ take count (drop at (unwrap_or node.now.contents [])) }
@@ -182,7 +181,7 @@ pub(crate) fn bytes_of(node: &Node, at: u32, count: usize) -> &[u8]
     }
 }
 
-// Returns where a handle writes.
+// Returns the offset at which a handle's next write begins.
 pub(crate) fn write_place(found: Handle, node: &Node) -> u32
     ensures { result ≡ write_place found node.now }
 {
@@ -193,7 +192,7 @@ pub(crate) fn write_place(found: Handle, node: &Node) -> u32
     }
 }
 
-// Frees the number of a node, and returns the node, if there is one.
+// Removes the node with the index `number` from the table and returns it, if there is one.
 fn take_node(nodes: &mut Vec<Option<Node>>, number: usize) -> Option<Node>
     ensures { nodes.new.items ≡ slice_set nodes.old.items number None }
 {
@@ -203,8 +202,8 @@ fn take_node(nodes: &mut Vec<Option<Node>>, number: usize) -> Option<Node>
     nodes[number].take()
 }
 
-// Frees the number of a node, if no handle names the node. The memory of its contents may be kept in
-// `spare`.
+// Removes the node with the index `number` from the table if no handle refers to it. May move the
+// memory of the node's contents to `spare`.
 pub(crate) fn drop_unnamed(
     handles: &[Option<Handle>],
     nodes: &mut Vec<Option<Node>>,
@@ -220,7 +219,7 @@ pub(crate) fn drop_unnamed(
     }
 }
 
-// Writes bytes into the contents of the node with that number, which are in memory.
+// Writes bytes to the contents of the node with the index `number`, which are in memory.
 pub(crate) fn write_at(
     nodes: &mut Vec<Option<Node>>,
     number: usize,
@@ -245,7 +244,7 @@ pub(crate) fn write_at(
     }
 }
 
-// Gives the contents of the node with that number, which are in memory, that many bytes.
+// Resizes the contents of the node with the index `number`, which are in memory, to `size` bytes.
 pub(crate) fn resize_at(
     nodes: &mut Vec<Option<Node>>,
     number: usize,
@@ -268,7 +267,7 @@ pub(crate) fn resize_at(
     }
 }
 
-// Makes the contents of the node with that number empty.
+// Makes the contents of the node with the index `number` empty.
 fn clear_at(alloc: Global, nodes: &mut Vec<Option<Node>>, number: usize)
     ensures { nodes.new.items ≡ slice_set nodes.old.items number (option_map (resized_node 0 []) (entry_at nodes.old.items number)) }
 {
@@ -281,8 +280,8 @@ fn clear_at(alloc: Global, nodes: &mut Vec<Option<Node>>, number: usize)
     }
 }
 
-// Returns the number of the node with that path, which gets a new one of that size where there is
-// none. The table has room for it.
+// Returns the index of the node with the path `path`. If there is none, adds a node with this size.
+// The table has memory for one more entry.
 fn open_path(nodes: &mut Vec<Option<Node>>, path: Vec<u8>, size: u32) -> usize
     requires { vec_len nodes.old < vec_capacity nodes.old }
     ensures number { result ≡ node_of_path nodes.old.items path.items }
@@ -297,8 +296,8 @@ fn open_path(nodes: &mut Vec<Option<Node>>, path: Vec<u8>, size: u32) -> usize
     number
 }
 
-// Returns the number of the node of an opened file, which is empty where the file is to be cut. The
-// table has room for a new node.
+// Returns the index of the node of an opened file, and empties the node if the open truncates the
+// file. The table has memory for one more entry.
 pub(crate) fn open_node(
     alloc: Global,
     nodes: &mut Vec<Option<Node>>,
@@ -318,7 +317,7 @@ pub(crate) fn open_node(
     number
 }
 
-// Takes the path from the node that has it.
+// Removes the path from the node that has it, if there is one.
 pub(crate) fn unlink_path(nodes: &mut Vec<Option<Node>>, path: &[u8])
     ensures { nodes.new.items ≡ without_path path.now nodes.old.items }
 {
@@ -331,7 +330,7 @@ pub(crate) fn unlink_path(nodes: &mut Vec<Option<Node>>, path: &[u8])
     }
 }
 
-// Returns whether a path is another one, or is beneath it.
+// Returns whether `path` is `old`, or is beneath it.
 fn is_at_or_beneath(old: &[u8], path: &[u8]) -> bool
     ensures { result ≡ is_at_or_beneath old.now path.now }
 {
@@ -339,7 +338,7 @@ fn is_at_or_beneath(old: &[u8], path: &[u8]) -> bool
         && (path.len() == old.len() || bytes_behind(path, old.len()).starts_with(b"/"))
 }
 
-// Returns the path that a node gets by a rename, if it moves.
+// Returns the new path of a node after a rename, or None if the rename doesn't move the node.
 fn moved_path(
     alloc: Global,
     entry: &Option<Node>,
@@ -362,7 +361,8 @@ fn moved_path(
     Ok(Some(moved))
 }
 
-// Returns for each number the path that its node gets by a rename, if it moves.
+// Returns for each index the new path of its node after a rename, or None if the rename doesn't
+// move the node.
 pub(crate) fn moved_paths(
     alloc: Global,
     nodes: &[Option<Node>],
@@ -379,7 +379,7 @@ pub(crate) fn moved_paths(
     Ok(paths)
 }
 
-// Gives the node with that number its new path, if it moves.
+// Sets the path of the node with the index `number`, unless `path` is None.
 fn move_node(nodes: &mut Vec<Option<Node>>, number: usize, path: Option<Vec<u8>>)
     ensures { nodes.new.items ≡ changed_at number (with_path (option_map (λ p. p.items) path)) nodes.old.items }
 {
@@ -394,7 +394,7 @@ fn move_node(nodes: &mut Vec<Option<Node>>, number: usize, path: Option<Vec<u8>>
     }
 }
 
-// Gives each node that moves its new path.
+// Sets the new path of each node that a rename moves.
 pub(crate) fn move_nodes(nodes: &mut Vec<Option<Node>>, mut paths: Vec<Option<Vec<u8>>>)
     ensures { nodes.new.items ≡ with_paths (map (option_map (λ p. p.items)) paths.items) nodes.old.items }
 {

@@ -1,4 +1,4 @@
-// Stores the changed bytes of a file through the session.
+// Saves: calls of the session that store the changed bytes of a file.
 
 ghost use Rattle.std.specs.Prelude.{◌≡◌, ◌≤◌, ◌+◌, ◌<◌, ◌^◌, ◌∷◌, [], ◌++◌, length, IfErr, IfOk, false, true, List, ℕ};
 ghost use Rattle.lfs_model.specs.format.Disk.{profile_file_max};
@@ -18,7 +18,7 @@ use lfs_file::blocks_for;
 use lfs_fs::{OpenFlags, Session};
 use std::alloc::Global;
 
-// Returns how many free blocks a save of a file of `size` bytes needs.
+// Returns how many free blocks are needed to save a file of `size` bytes.
 fn saving_need(geometry: Geometry, size: u32) -> u64
     ensures need { result ≡ 2 + list_block_count geometry.profile geometry.block_size size }
     ensures few { result < 2 ^ 34 }
@@ -30,7 +30,7 @@ fn saving_need(geometry: Geometry, size: u32) -> u64
     }
 }
 
-// Returns whether the device has the free blocks that a save of a file of `size` bytes needs.
+// Returns whether enough blocks are free to save a file of `size` bytes.
 fn has_saving_room<D: BlockDevice>(session: &Session<D>, size: u32) -> Result<bool, Error>
     ensures { session.now.tree.failed ≡ false → IsRoomAnswer session.now size result }
 {
@@ -39,7 +39,7 @@ fn has_saving_room<D: BlockDevice>(session: &Session<D>, size: u32) -> Result<bo
     Ok(u64::from(used) + saving_need(geometry, size) <= u64::from(geometry.block_count))
 }
 
-// Opens a file for writing, and moves to the offset `from`. Returns the file's number in the
+// Opens a file for writing and sets its position to `from`. Returns the file's number in the
 // session.
 fn open_at<D: BlockDevice>(
     alloc: Global,
@@ -56,7 +56,8 @@ fn open_at<D: BlockDevice>(
     Ok(fd)
 }
 
-// Cuts the open file to its new length if that is shorter, and writes the bytes of the hull.
+// Truncates the open file if its new contents are shorter. Then writes the bytes of the hull, the
+// range in which the new contents may differ from the stored ones.
 fn write_hull<D: BlockDevice>(
     alloc: Global,
     session: &mut Session<D>,
@@ -79,12 +80,14 @@ fn write_hull<D: BlockDevice>(
     Ok(())
 }
 
-// Stores the new bytes of a file, which may differ from the stored ones in the hull alone. Asks for
-// the room before anything is written. The tree changes only when the file is closed.
+// Stores the new bytes of a file. The new bytes may differ from the stored ones only in the range
+// `hull`. Checks that enough blocks are free before it writes anything. The tree changes only when
+// the file is closed.
 //
-// Errors: those of the session's `open` for writing, and `NoSpace` if there are fewer free blocks
-// than the save needs; the tree is unchanged then. `Io`, and `NoMemory` within the session: the
-// session has failed then.
+// Returns the same errors as the session's `open` for writing. Returns `NoSpace` if too few blocks
+// are free for the save; the tree is unchanged in this case. Returns `Io` if a device call fails,
+// and `NoMemory` if the session can't allocate memory. After `Io` or `NoMemory` the session has
+// failed.
 pub(crate) fn save<D: BlockDevice>(
     alloc: Global,
     session: &mut Session<D>,

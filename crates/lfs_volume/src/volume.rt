@@ -1,4 +1,4 @@
-// A volume, and its calls.
+// A volume and its calls.
 
 ghost use Rattle.std.specs.Prelude.{◌≡◌, ◌↔◌, ◌+◌, ◌<◌, ◌≤◌, ◌^◌, ℕ, [], false, true, IfErr, IfOk, IsTrue, MatchResult, Ok, OnOk, Some, drop, length, map, take, unwrap_or};
 ghost use Rattle.lfs_model.specs.format.Disk.{ordered_disk, profile_file_max};
@@ -37,21 +37,22 @@ use std::marker::Model;
 
 /// A volume: a tree of files on a device, and any number of open files.
 ///
-/// A file may be open under several handles, for reading and writing both. All of them see the same
-/// bytes at once. Their positions are their own. What was written is in the tree after a sync or a
-/// close. A file that is open may be renamed and removed.
+/// A file may be open under several handles, each for reading, writing or both. A write by one
+/// handle is visible to all handles of the file at once. Each handle has its own position. A sync
+/// or a close commits the changes of a file to the tree. An open file may be renamed or removed.
 ///
-/// A call may be refused, or fail. After a refusal nothing has changed. It fails with `Io` where a
-/// call of the device failed, with `NoMemory` where the session wants memory that isn't granted, and
-/// a remount with `Corrupt`, too. After that each call but [`remount`](Volume::remount) returns
-/// `Failed`. Where the volume itself wants memory, for a handle, a node or its bytes, the error is
-/// `NoMemory` too; the volume works on, and all is as it was.
+/// A call may be refused or may fail. A refused call changes nothing. A call fails with `Io` if a
+/// device call fails, and with `NoMemory` if the underlying session can't allocate memory. A
+/// remount may also fail with `Corrupt`. After a call has failed, each call except
+/// [`remount`](Volume::remount) returns `Failed`. If the volume can't allocate its own memory for a
+/// handle or for the bytes of a file, the call also returns `NoMemory`, but changes nothing, and
+/// the volume hasn't failed.
 #[derive(Drop)]
 pub struct Volume<D: BlockDevice> {
     session: Session<D>,
     nodes: Vec<Option<Node>>,
     handles: Vec<Option<Handle>>,
-    // The memory of a closed file's contents, for the next file that is loaded.
+    // Memory of a closed file's contents, to be reused for the next file that is loaded.
     spare: Vec<u8>,
 }
 
@@ -67,7 +68,7 @@ impl<D: BlockDevice> Model for Volume<D> {
 }
 
 impl<D: BlockDevice> Volume<D> {
-    // Returns `Failed` where the session has failed.
+    // Returns `Failed` if the session has failed.
     fn check_works(&self) -> Result<(), Error>
         ensures works { OnOk result (IsWorking self.now.session) }
         ensures sound { OnOk result (IsSoundVolume self.now) }
@@ -77,7 +78,7 @@ impl<D: BlockDevice> Volume<D> {
         Ok(())
     }
 
-    // Returns the handle of that number, in a volume that works.
+    // Returns the handle with the number `handle`. Returns `Failed` if the session has failed.
     fn find_handle(&self, handle: u32) -> Result<Handle, Error>
         ensures found { IsFoundHandle self.now handle result }
         ensures sound { OnOk result (IsSoundVolume self.now) }
@@ -89,14 +90,15 @@ impl<D: BlockDevice> Volume<D> {
         }
     }
 
-    /// Opens a file, for reading, for writing or for both, and returns the handle's number: the least
-    /// that isn't open. The position is 0. A file that is made is in the tree at once. One that is
-    /// cut to nothing is empty for all its handles, and in the tree after a sync.
+    /// Opens a file for reading, for writing or for both. Returns the number of a new handle, which
+    /// is the lowest one that isn't in use. The position of the handle is 0. A new file is
+    /// committed to the tree at once. A file that is truncated becomes empty for all its handles at
+    /// once, and in the tree after a sync.
     ///
     /// # Errors
     ///
-    /// `Invalid` where the flags aren't allowed together; the refusals of a session's `open`, for
-    /// writing where the file is to be written, but never `Busy`.
+    /// `Invalid` if the flags aren't allowed together. All other errors are those of a session's
+    /// `open`, for writing if the flags include `WRITE`, but never `Busy`.
     pub fn open(&mut self, alloc: Global, path: &[u8], flags: OpenFlags) -> Result<u32, Error>
         ensures { IsVolumeCall self.old (calls.Open path.now (flags_view flags)) (reply_from ops.Opened result) self.new }
     {
@@ -114,15 +116,15 @@ impl<D: BlockDevice> Volume<D> {
         Ok(number)
     }
 
-    // Returns the most bytes that a file may have.
+    // Returns the maximum size of a file in bytes.
     fn file_max(&self) -> u32
         ensures { result ≡ profile_file_max self.now.session.tree.disk.profile }
     {
         self.session.device().geometry().file_max()
     }
 
-    // Returns the handle of that number, which is open for reading, with the bytes of its node in
-    // memory.
+    // Returns the handle with the number `handle`, which must be open for reading. Loads the bytes
+    // of its file into memory.
     fn handle_to_read(&mut self, alloc: Global, handle: u32) -> Result<Handle, Error>
         ensures found { IfOk result (λ h. IsReadyToRead self.old handle h self.new) }
         ensures ended { IfErr result (λ e. (count : ℕ) → IsVolumeCall self.old (calls.Read handle count) (error_result e) self.new) }
@@ -141,7 +143,7 @@ impl<D: BlockDevice> Volume<D> {
         Ok(found)
     }
 
-    // Returns the bytes from a handle's position on, at most `count`.
+    // Returns at most `count` bytes from a handle's position.
     fn bytes_at(&self, found: Handle, count: usize) -> &[u8]
         ensures few { length result.now ≤ count }
         ensures are { (n : NodeView) → entry_at self.now.nodes found.node ≡ Some n → result.now ≡ take count (drop found.position (unwrap_or n.contents [])) }
@@ -153,12 +155,12 @@ impl<D: BlockDevice> Volume<D> {
         }
     }
 
-    /// Returns the bytes of a file from the handle's position on, at most `count`. There are fewer
-    /// where the file ends. The position advances by as many.
+    /// Reads at most `count` bytes of a file from the handle's position. Returns fewer bytes at the
+    /// end of the file. Advances the position by the number of bytes read.
     ///
     /// # Errors
     ///
-    /// `BadFile` where no handle of that number is open for reading.
+    /// `BadFile` if no handle with the number `handle` is open for reading.
     pub fn read(&mut self, alloc: Global, handle: u32, count: u32) -> Result<Vec<u8>, Error>
         ensures { IsVolumeCall self.old (calls.Read handle count) (reply_from (λ v. ops.Bytes v.items) result) self.new }
     {
@@ -169,12 +171,13 @@ impl<D: BlockDevice> Volume<D> {
         Ok(bytes)
     }
 
-    /// Reads the bytes of a file into a buffer, as [`read`](Volume::read) does. Returns how many
-    /// these are; the rest of the buffer stays, and all of it after an error.
+    /// Reads bytes of a file into a buffer, and advances the position as [`read`](Volume::read)
+    /// does. Returns the number of bytes read, and leaves the rest of the buffer unchanged. An
+    /// error leaves the whole buffer unchanged.
     ///
     /// # Errors
     ///
-    /// `BadFile` where no handle of that number is open for reading.
+    /// `BadFile` if no handle with the number `handle` is open for reading.
     pub fn read_into(&mut self, alloc: Global, handle: u32, buf: &mut [u8]) -> Result<usize, Error>
         ensures call { IfOk result (λ n. IsVolumeCall self.old (calls.Read handle (length buf.old)) (Ok (ops.Bytes (take n buf.new))) self.new) }
         ensures rest { MatchResult result (λ n. (n ≤ length buf.old) × (drop n buf.new ≡ drop n buf.old)) (λ _. buf.new ≡ buf.old) }
@@ -188,7 +191,8 @@ impl<D: BlockDevice> Volume<D> {
         Ok(count)
     }
 
-    // Returns where bytes are to be written, if the file may be so long.
+    // Returns the offset at which a handle would write `count` bytes. Returns `TooBig` if the
+    // profile doesn't allow a file of the resulting size.
     fn place_to_write(&self, found: Handle, count: usize) -> Result<u32, Error>
         ensures fits { IfOk result (λ at. FitsAt self.now found count at) }
         ensures small { IfOk result (λ at. at + count < 2 ^ 31) }
@@ -205,14 +209,15 @@ impl<D: BlockDevice> Volume<D> {
         Ok(at)
     }
 
-    /// Writes bytes at the handle's position, or at the end of the file where it appends. Returns how
-    /// many these are. Zeros fill a gap before them, and the position is after them then. They are in
-    /// the tree after a sync or a close. All of them are written, or none.
+    /// Writes bytes at the handle's position, or at the end of the file if the handle was opened
+    /// with `APPEND`. Returns the number of bytes written. Fills a gap before the bytes with zeros,
+    /// and sets the position to their end. A sync or a close commits the bytes to the tree. Writes
+    /// either all of the bytes or none.
     ///
     /// # Errors
     ///
-    /// `BadFile` where no handle of that number is open for writing; `TooBig` where the file would
-    /// have more bytes than the profile allows.
+    /// `BadFile` if no handle with the number `handle` is open for writing. `TooBig` if the file
+    /// would have more bytes than the profile allows.
     pub fn write(&mut self, alloc: Global, handle: u32, bytes: &[u8]) -> Result<u32, Error>
         ensures { IsVolumeCall self.old (calls.Write handle bytes.now) (reply_from ops.Count result) self.new }
     {
@@ -237,12 +242,13 @@ impl<D: BlockDevice> Volume<D> {
         Ok(count)
     }
 
-    /// Sets the position of a handle, in bytes from the file's beginning. It may be after the end.
+    /// Sets the position of a handle, in bytes from the beginning of the file. The position may be
+    /// after the end of the file.
     ///
     /// # Errors
     ///
-    /// `BadFile` where no handle has that number; `Invalid` for a position past the profile's longest
-    /// file.
+    /// `BadFile` if no handle has the number `handle`. `Invalid` if the position is above the
+    /// profile's limit for files.
     pub fn seek(&mut self, handle: u32, position: u32) -> Result<(), Error>
         ensures { IsVolumeCall self.old (calls.Seek handle position) (reply_from (λ _. ops.Done) result) self.new }
     {
@@ -254,22 +260,22 @@ impl<D: BlockDevice> Volume<D> {
         Ok(())
     }
 
-    /// Returns the position of a handle, in bytes from the file's beginning.
+    /// Returns the position of a handle, in bytes from the beginning of the file.
     ///
     /// # Errors
     ///
-    /// `BadFile` where no handle has that number.
+    /// `BadFile` if no handle has the number `handle`.
     pub fn position(&self, handle: u32) -> Result<u32, Error>
         ensures { IsVolumeCall self.now (calls.Tell handle) (reply_from ops.Count result) self.now }
     {
         Ok(self.find_handle(handle)?.position)
     }
 
-    /// Returns the size of an open file in bytes, with what isn't synced.
+    /// Returns the size of an open file in bytes. The size includes changes that aren't synced.
     ///
     /// # Errors
     ///
-    /// `BadFile` where no handle has that number.
+    /// `BadFile` if no handle has the number `handle`.
     pub fn size(&self, handle: u32) -> Result<u32, Error>
         ensures { IsVolumeCall self.now (calls.Size handle) (reply_from ops.Count result) self.now }
     {
@@ -280,12 +286,13 @@ impl<D: BlockDevice> Volume<D> {
         }
     }
 
-    /// Gives an open file that many bytes: it is cut, or zeros fill it up. Positions stay.
+    /// Sets the size of an open file in bytes: truncates the file, or extends it with zeros.
+    /// Doesn't change the positions of handles.
     ///
     /// # Errors
     ///
-    /// `BadFile` where no handle of that number is open for writing; `TooBig` where the size is more
-    /// than the profile allows.
+    /// `BadFile` if no handle with the number `handle` is open for writing. `TooBig` if the size is
+    /// above the profile's limit for files.
     pub fn truncate(&mut self, alloc: Global, handle: u32, size: u32) -> Result<(), Error>
         ensures { IsVolumeCall self.old (calls.Truncate handle size) (reply_from (λ _. ops.Done) result) self.new }
     {
@@ -307,13 +314,13 @@ impl<D: BlockDevice> Volume<D> {
         Ok(())
     }
 
-    /// Brings what was written of an open file into the tree. Nothing is done where nothing was
-    /// written, or where the file was removed.
+    /// Commits the changes of an open file to the tree. Does nothing if there are no changes, or if
+    /// the file was removed.
     ///
     /// # Errors
     ///
-    /// `BadFile` where no handle has that number; `NoSpace` where fewer blocks are free than the file
-    /// takes anew: two, and those of a list of its length.
+    /// `BadFile` if no handle has the number `handle`. `NoSpace` if too few blocks are free: a sync
+    /// needs two blocks, and the blocks of a CTZ skip-list of the file's size.
     pub fn sync(&mut self, alloc: Global, handle: u32) -> Result<(), Error>
         ensures { IsVolumeCall self.old (calls.Sync handle) (reply_from (λ _. ops.Done) result) self.new }
     {
@@ -322,12 +329,12 @@ impl<D: BlockDevice> Volume<D> {
         Ok(())
     }
 
-    /// Syncs an open file, and closes the handle. The number is free then, even where the sync was
-    /// refused. What wasn't stored is lost if no other handle is open on the file.
+    /// Syncs an open file, and closes the handle even if the sync fails or is refused. Changes that
+    /// couldn't be synced are lost unless another handle is open on the file.
     ///
     /// # Errors
     ///
-    /// Errors are those of [`sync`](Volume::sync).
+    /// Returns the same errors as [`sync`](Volume::sync).
     pub fn close(&mut self, alloc: Global, handle: u32) -> Result<(), Error>
         ensures { IsVolumeCall self.old (calls.Close handle) (reply_from (λ _. ops.Done) result) self.new }
     {
@@ -344,7 +351,7 @@ impl<D: BlockDevice> Volume<D> {
         }
     }
 
-    // Makes a handle's number free. A node that no handle names is gone.
+    // Frees a handle's number, and drops the node if no other handle refers to it.
     fn drop_handle(&mut self, handle: u32, found: Handle)
         ensures { IsDropped self.old handle found self.new }
     {
@@ -352,33 +359,35 @@ impl<D: BlockDevice> Volume<D> {
         drop_unnamed(&self.handles, &mut self.nodes, found.node, &mut self.spare);
     }
 
-    /// Returns whether a path leads to a file or a directory, and a file's size as it is in the tree.
+    /// Returns the kind of the entry at a path, and the size in bytes if the entry is a file. The
+    /// size doesn't include changes that aren't synced.
     ///
     /// # Errors
     ///
-    /// Errors are those of a session's `stat`.
+    /// Returns the same errors as a session's `stat`.
     pub fn stat(&mut self, alloc: Global, path: &[u8]) -> Result<Stat, Error>
         ensures { IsSessionCall self.old (ops.Stat path.now) (reply_from (λ stat. ops.StatIs (stat_view stat)) result) self.new }
     {
         self.session.stat(alloc, path)
     }
 
-    /// Returns the entries of a directory, in name order, with sizes as they are in the tree.
+    /// Returns the entries of a directory in name order. The sizes of files don't include changes
+    /// that aren't synced.
     ///
     /// # Errors
     ///
-    /// Errors are those of a session's `list`.
+    /// Returns the same errors as a session's `list`.
     pub fn list(&mut self, alloc: Global, path: &[u8]) -> Result<Vec<Item>, Error>
         ensures { IsSessionCall self.old (ops.ListAll path.now) (reply_from (λ items. ops.Items (map listed_item_view items.items)) result) self.new }
     {
         self.session.list(alloc, path)
     }
 
-    /// Returns the bytes of an entry's attribute.
+    /// Returns the bytes of an entry's attribute of type `kind`.
     ///
     /// # Errors
     ///
-    /// Errors are those of a session's `get_attr`.
+    /// Returns the same errors as a session's `get_attr`.
     pub fn get_attr(&mut self, alloc: Global, path: &[u8], kind: u8) -> Result<Vec<u8>, Error>
         ensures { IsSessionCall self.old (ops.GetAttr path.now kind) (reply_from (λ v. ops.Bytes v.items) result) self.new }
     {
@@ -389,7 +398,7 @@ impl<D: BlockDevice> Volume<D> {
     ///
     /// # Errors
     ///
-    /// `Failed` alone.
+    /// `Failed` if the volume has failed.
     pub fn gstate(&self) -> Result<Gstate, Error>
         ensures { IsSessionCall self.now ops.AskGstate (reply_from returned_gstate_reply result) self.now }
     {
@@ -400,18 +409,18 @@ impl<D: BlockDevice> Volume<D> {
     ///
     /// # Errors
     ///
-    /// `Invalid` where the image has no such block.
+    /// `Invalid` if the image has no block with this number.
     pub fn is_used(&self, block: u32) -> Result<bool, Error>
         ensures { IsSessionCall self.now (ops.IsUsed block) (reply_from ops.Yes result) self.now }
     {
         self.session.is_used(block)
     }
 
-    /// Returns how many blocks the image uses.
+    /// Returns the number of blocks that the image uses.
     ///
     /// # Errors
     ///
-    /// `Failed` alone.
+    /// `Failed` if the volume has failed.
     pub fn used_count(&self) -> Result<u32, Error>
         ensures { IsSessionCall self.now ops.UsedCount (reply_from ops.Count result) self.now }
     {
@@ -422,18 +431,18 @@ impl<D: BlockDevice> Volume<D> {
     ///
     /// # Errors
     ///
-    /// Errors are those of a session's `mkdir`.
+    /// Returns the same errors as a session's `mkdir`.
     pub fn mkdir(&mut self, alloc: Global, path: &[u8]) -> Result<(), Error>
         ensures { IsSessionCall self.old (ops.Mkdir path.now) (reply_from (λ _. ops.Done) result) self.new }
     {
         self.session.mkdir(alloc, path)
     }
 
-    /// Sets an attribute of an entry.
+    /// Sets an entry's attribute of type `kind`.
     ///
     /// # Errors
     ///
-    /// Errors are those of a session's `set_attr`.
+    /// Returns the same errors as a session's `set_attr`.
     pub fn set_attr(
         &mut self,
         alloc: Global,
@@ -446,34 +455,34 @@ impl<D: BlockDevice> Volume<D> {
         self.session.set_attr(alloc, path, kind, value)
     }
 
-    /// Removes an attribute of an entry.
+    /// Removes an entry's attribute of type `kind`.
     ///
     /// # Errors
     ///
-    /// Errors are those of a session's `remove_attr`.
+    /// Returns the same errors as a session's `remove_attr`.
     pub fn remove_attr(&mut self, alloc: Global, path: &[u8], kind: u8) -> Result<(), Error>
         ensures { IsSessionCall self.old (ops.RemoveAttr path.now kind) (reply_from (λ _. ops.Done) result) self.new }
     {
         self.session.remove_attr(alloc, path, kind)
     }
 
-    /// Ends what a loss of power left in the image.
+    /// Completes what a power loss left half done in the image.
     ///
     /// # Errors
     ///
-    /// Errors are those of a session's `recover`.
+    /// Returns the same errors as a session's `recover`.
     pub fn recover(&mut self, alloc: Global) -> Result<(), Error>
         ensures { IsSessionCall self.old ops.Recover (reply_from (λ _. ops.Done) result) self.new }
     {
         self.session.recover(alloc)
     }
 
-    /// Removes a file, or a directory without entries. A file that is open loses its path. Its
-    /// handles keep its bytes, which no sync brings back.
+    /// Removes a file or an empty directory. An open file that is removed keeps its bytes for its
+    /// handles, and no sync brings the file back.
     ///
     /// # Errors
     ///
-    /// Errors are those of a session's `remove`, but never `Busy`.
+    /// Returns the same errors as a session's `remove`, but never `Busy`.
     pub fn remove(&mut self, alloc: Global, path: &[u8]) -> Result<(), Error>
         ensures { IsVolumeCall self.old (calls.Perform (ops.Remove path.now)) (reply_from (λ _. ops.Done) result) self.new }
     {
@@ -491,12 +500,12 @@ impl<D: BlockDevice> Volume<D> {
         Ok(())
     }
 
-    /// Gives an entry another path. Open files at the old path or beneath it go with it. One at the
-    /// new path loses its path, and its handles keep its bytes.
+    /// Renames or moves an entry. Open files at the old path or beneath it move with the entry. An
+    /// open file that is replaced at the new path keeps its bytes for its handles.
     ///
     /// # Errors
     ///
-    /// Errors are those of a session's `rename`, but never `Busy`.
+    /// Returns the same errors as a session's `rename`, but never `Busy`.
     pub fn rename(&mut self, alloc: Global, from: &[u8], to: &[u8]) -> Result<(), Error>
         ensures { IsVolumeCall self.old (calls.Perform (ops.Rename from.now to.now)) (reply_from (λ _. ops.Done) result) self.new }
     {
@@ -506,7 +515,7 @@ impl<D: BlockDevice> Volume<D> {
         self.rename_apart(alloc, from, to)
     }
 
-    // Gives an entry another path, which isn't its own.
+    // Renames or moves an entry to a different path.
     fn rename_apart(&mut self, alloc: Global, from: &[u8], to: &[u8]) -> Result<(), Error>
         requires { same_name from.now to.now ≡ false }
         ensures { IsVolumeCall self.old (calls.Perform (ops.Rename from.now to.now)) (reply_from (λ _. ops.Done) result) self.new }
@@ -527,11 +536,12 @@ impl<D: BlockDevice> Volume<D> {
         Ok(())
     }
 
-    /// Closes all handles, without what wasn't synced, and reads the device anew, after an error too.
+    /// Closes all handles and mounts the device again, even after an error. Changes that aren't
+    /// synced are lost.
     ///
     /// # Errors
     ///
-    /// Errors are those of a session's `remount`.
+    /// Returns the same errors as a session's `remount`.
     pub fn remount(&mut self, alloc: Global) -> Result<(), Error>
         ensures { IsRemount self.old (reply_from (λ _. ops.Done) result) self.new }
     {
@@ -540,29 +550,30 @@ impl<D: BlockDevice> Volume<D> {
         self.session.remount(alloc)
     }
 
-    /// Returns whether the volume has failed. Then each call that can fail returns `Failed`, but
-    /// [`remount`](Volume::remount). Makes no call of the device.
+    /// Returns whether the volume has failed. In a failed volume, each call that can fail, except
+    /// [`remount`](Volume::remount), returns `Failed`. Doesn't access the device.
     pub fn has_failed(&self) -> bool
         ensures { result ≡ self.now.session.tree.failed }
     {
         self.session.has_failed()
     }
 
-    /// Returns whether files may be written: the volume hasn't failed, and its image is in the writing
-    /// profile. Then no call is refused as `ReadOnly`. Makes no call of the device.
+    /// Returns whether files may be written, which means that the volume hasn't failed and its
+    /// image is in the writing profile. If files may be written, no call is refused as `ReadOnly`.
+    /// Doesn't access the device.
     pub fn is_writable(&self) -> bool
         ensures { IsTrue result ↔ MayWrite self.now.session }
     {
         self.session.is_writable()
     }
 
-    /// Returns why the image is read only, as `read_only_reason` of a session does: None exactly if the
-    /// volume may write, and then no call of the device is made.
+    /// Returns why the image is read only, as a session's `read_only_reason` does. Returns None,
+    /// without a device call, if and only if the volume may write.
     ///
     /// # Errors
     ///
-    /// `Failed` in a failed volume. `Io` if a read failed, and `NoMemory` if memory isn't granted; the
-    /// volume has failed after either.
+    /// `Failed` if the volume has failed. `Io` if a read fails. `NoMemory` if memory can't be
+    /// allocated. After `Io` or `NoMemory` the volume has failed.
     pub fn read_only_reason(&mut self, alloc: Global) -> Result<Option<ProfileBreach>, Error>
         ensures is { IfOk result (IsReadOnlyReason self.old.session) }
         ensures read { OnOk result (OnlyReadsSession self.old.session self.new.session) }
@@ -573,21 +584,22 @@ impl<D: BlockDevice> Volume<D> {
         self.session.read_only_reason(alloc)
     }
 
-    /// Returns the order in which the image's directories have their names. A list doesn't depend on
-    /// it: there the shorter name always comes first.
+    /// Returns the order of names in the image's directories. The result of [`list`](Volume::list)
+    /// doesn't depend on the order of names, since `list` always returns a shorter name before the
+    /// longer names that begin with it.
     pub fn order(&self) -> NameOrder
         ensures { result ≡ self.now.session.tree.disk.order }
     {
         self.session.order()
     }
 
-    /// Returns the image's superblock: the version, the sizes of the device and the limits that the
-    /// image has. The call takes at most one read.
+    /// Returns the image's superblock: its version, its block size and count, and its limits. Makes
+    /// at most one read.
     ///
     /// # Errors
     ///
-    /// `Failed` in a failed volume. `Io` if the read failed, and `NoMemory` if memory isn't granted; the
-    /// volume has failed after either.
+    /// `Failed` if the volume has failed. `Io` if the read fails. `NoMemory` if memory can't be
+    /// allocated. After `Io` or `NoMemory` the volume has failed.
     pub fn superblock(&mut self, alloc: Global) -> Result<Superblock, Error>
         ensures is { IfOk result (λ f. image_fields self.old.session.tree.pairs ≡ Some (superblock_view f)) }
         ensures read { OnOk result (OnlyReadsSession self.old.session self.new.session) }
@@ -598,7 +610,7 @@ impl<D: BlockDevice> Volume<D> {
         self.session.superblock(alloc)
     }
 
-    /// Borrows the device, as the last call left it.
+    /// Returns a reference to the device in the state that the last call left.
     pub fn device(&self) -> &D
         ensures disk { ordered_disk self.now.session.tree.disk.order (disk_of_device D.BlockDevice result.now) ≡ self.now.session.tree.disk }
         ensures history { D.history result.now ≡ self.now.session.tree.history }
@@ -606,7 +618,8 @@ impl<D: BlockDevice> Volume<D> {
         self.session.device()
     }
 
-    /// Ends the volume, and returns the device. Nothing is written: what wasn't synced is lost.
+    /// Ends the volume and returns the device. Writes nothing, so changes that aren't synced are
+    /// lost.
     pub fn unmount(self) -> D
         ensures disk { ordered_disk self.session.tree.disk.order (disk_of_device D.BlockDevice result) ≡ self.session.tree.disk }
         ensures history { D.history result ≡ self.session.tree.history }
@@ -615,7 +628,7 @@ impl<D: BlockDevice> Volume<D> {
     }
 }
 
-// Begins a volume over a session in which no file is open.
+// Returns a volume over a session in which no file is open.
 pub(crate) fn begin<D: BlockDevice>(alloc: Global, session: Session<D>) -> Volume<D>
     requires { session.files ≡ [] }
     ensures { result ≡ record { session = session; nodes = []; handles = [] } }

@@ -9,15 +9,15 @@ use std::str;
 /// The command of a line.
 #[derive(Drop)]
 pub enum VolumeCommand {
-    /// A command that scripts of sessions have, too.
+    /// A command that scripts of sessions also have.
     Command(Command),
-    /// Prints how many calls of a kind the device had.
+    /// Prints how many calls of a kind the device received.
     Calls(CountedCalls),
-    /// Prints the position of the handle.
+    /// Prints the position of a handle.
     Position(u32),
-    /// Prints the size of the handle's file.
+    /// Prints the size of a handle's file.
     Size(u32),
-    /// Reads at most so many bytes by the handle, into a buffer.
+    /// Reads at most the given number of bytes by the handle into a buffer.
     ReadInto(u32, u32),
 }
 
@@ -80,7 +80,7 @@ fn volume_call(words: &[&[u8]]) -> Result<Option<VolumeCommand>, LineError> {
     }
 }
 
-// Returns the command, unless volumes don't have it.
+// Returns the command, unless it is one that volumes don't have.
 fn checked_command(command: Command) -> Result<VolumeCommand, LineError> {
     match command {
         Command::Put { .. }
@@ -103,8 +103,8 @@ fn checked_command(command: Command) -> Result<VolumeCommand, LineError> {
 /// Parses the command of a line. Returns None if the line is empty or begins with `#`.
 ///
 /// # Errors
-/// - `Refused` if the line isn't a command, with the reason.
-/// - `NoMemory` if memory for its words can't be allocated.
+/// - `Refused`, with the reason, if the line isn't a command.
+/// - `NoMemory` if memory for the words of the line can't be allocated.
 pub fn read_volume_line(alloc: Global, line: &[u8]) -> Result<Option<VolumeCommand>, LineError> {
     let text = without_newline(line);
     let words: Vec<&[u8]> = text.split(|byte| *byte == b' ').collect(alloc)?;

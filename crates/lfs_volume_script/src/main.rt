@@ -1,6 +1,6 @@
 // SPDX-License-Identifier: BSD-3-Clause
-//! lfs_volume_script: performs the calls of standard input, one per line, on a volume over a
-//! littlefs image in memory, and prints the answer to each.
+//! lfs_volume_script performs calls of a volume over a littlefs image in memory. The program reads
+//! the calls from standard input, one per line, and prints an answer to each.
 #![tactic(auto)]
 
 mod help;

@@ -6,7 +6,7 @@ use lfs_script_lines::{Answer, Operation};
 use lfs_volume::Volume;
 use std::alloc::Global;
 
-// Converts a call's result to an answer: its reply, a refusal, or another error.
+// Converts the result of a call to an answer: the call's reply, a refusal, or another error.
 fn answer_of_reply(answered: Result<Reply, Error>) -> Answer {
     match answered {
         Ok(reply) => Answer::Reply(reply),
@@ -17,7 +17,7 @@ fn answer_of_reply(answered: Result<Reply, Error>) -> Answer {
     }
 }
 
-// Returns the reply `Done` to a call that returns nothing.
+// Returns the reply `Done` for a successful call that returns nothing.
 fn done(answered: Result<(), Error>) -> Result<Reply, Error> {
     answered?;
     Ok(Reply::Done)
@@ -44,7 +44,7 @@ fn any_reply<D: BlockDevice>(
     }
 }
 
-// Performs a call on a path, or another call.
+// Performs a call on a path. Passes other calls to `any_reply`.
 fn path_reply<D: BlockDevice>(
     alloc: Global,
     volume: &mut Volume<D>,
@@ -64,7 +64,7 @@ fn path_reply<D: BlockDevice>(
     }
 }
 
-/// Performs a call that sessions have too.
+/// Performs a call that sessions also have.
 pub fn perform_operation<D: BlockDevice>(
     alloc: Global,
     volume: &mut Volume<D>,
@@ -83,7 +83,7 @@ pub fn show_size<D: BlockDevice>(volume: &Volume<D>, handle: u32) -> Answer {
     answer_of_reply(volume.size(handle).map(Reply::Count))
 }
 
-/// Reads into a buffer of so many bytes, and returns those that were read as an answer.
+/// Reads into a buffer of `count` bytes, and returns the bytes that were read as an answer.
 pub fn read_into_buffer<D: BlockDevice>(
     alloc: Global,
     volume: &mut Volume<D>,

@@ -13,7 +13,7 @@ use std::alloc::Global;
 use std::rt::Files;
 use std::{fs, mem, str};
 
-// A device in memory, one of whose calls may fail.
+// A device in memory with a call that may fail.
 type Device = FaultDevice<RamDevice>;
 
 // A planned fault that never happens.
@@ -25,7 +25,7 @@ const NO_FAULT: PlannedFault = PlannedFault {
     bad_block: None,
 };
 
-// Returns the device with calls that are counted from now on, one of which may fail.
+// Returns a device over `device` that counts its calls from 0 and may let one call fail as planned.
 fn device_with_fault(
     alloc: Global,
     device: RamDevice,
@@ -43,7 +43,7 @@ fn device_with_fault(
     }
 }
 
-// Returns the device of these bytes.
+// Returns a device that contains these bytes.
 fn device_of_bytes(
     bytes: Vec<u8>,
     block_size: u32,
@@ -89,7 +89,8 @@ impl Hand {
     }
 }
 
-/// A script that is being performed: its device, and the profile of devices to come.
+/// A script that is being performed: its device, and the profile of the devices that later commands
+/// make.
 #[derive(Drop)]
 pub struct Script<'a, R: Files> {
     rt: &'a R,
@@ -99,7 +100,7 @@ pub struct Script<'a, R: Files> {
 }
 
 impl<'a, R: Files + AllocGlobal> Script<'a, R> {
-    /// Begins a script.
+    /// Begins a script that has no device.
     pub fn new(rt: &'a R) -> Script<'a, R> {
         Script {
             rt,
@@ -108,7 +109,7 @@ impl<'a, R: Files + AllocGlobal> Script<'a, R> {
         }
     }
 
-    /// Returns the runtime, which has the allocator and files.
+    /// Returns the runtime, which provides the allocator and files.
     pub fn rt(&self) -> &'a R {
         self.rt
     }
@@ -190,7 +191,7 @@ impl<'a, R: Files + AllocGlobal> Script<'a, R> {
         }
     }
 
-    // Writes the device's bytes to a file.
+    // Writes the bytes of the device to a file.
     fn save(&self, file: &[u8]) -> Answer {
         let Some(device) = self.hand.device() else {
             return Answer::Nothing;
@@ -221,7 +222,7 @@ impl<'a, R: Files + AllocGlobal> Script<'a, R> {
         }
     }
 
-    // Returns how many calls the device had, at most 2^32 - 1, as an answer.
+    // Returns as an answer how many calls the device received, but at most 2^32 - 1.
     fn calls(&self, which: CountedCalls) -> Answer {
         match self.hand.device() {
             Some(device) => {
@@ -266,7 +267,8 @@ impl<'a, R: Files + AllocGlobal> Script<'a, R> {
         }
     }
 
-    /// Performs a command, and returns its answer: `Nothing` to a call without a volume.
+    /// Performs a command and returns its answer. The answer to a call is `Nothing` if there is no
+    /// volume.
     pub fn perform(&mut self, command: &VolumeCommand) -> Answer {
         match command {
             VolumeCommand::Calls(which) => self.calls(*which),

@@ -1,4 +1,4 @@
-// Scripts, read and performed line by line.
+// Scripts, which are read and performed line by line.
 
 use crate::lines::read_volume_line;
 use crate::script::Script;
@@ -6,22 +6,22 @@ use lfs_script_lines::{LineError, LineObjection, push_answer};
 use std::io::{BufRead, ErrorKind, Write};
 use std::rt::Files;
 
-/// How a script ended.
+/// The way in which a script ended.
 #[derive(Clone, Copy)]
 pub enum ScriptEnd {
-    /// With its last line.
+    /// The script ended after its last line.
     Done,
-    /// At a line that isn't a command: its number, from 1 on, and the reason.
+    /// A line isn't a command. The values are the line's number, counted from 1, and the reason.
     Line(u64, LineObjection),
-    /// With a failed allocation.
+    /// Memory couldn't be allocated.
     NoMemory,
-    /// With a failed read of its lines.
+    /// A line of the script couldn't be read.
     Input,
-    /// With a failed write of an answer.
+    /// An answer couldn't be written.
     Output,
 }
 
-// Prints the answer to a line, if it is a command.
+// Performs a line and prints the answer, if the line is a command.
 fn perform_line<R: Files + AllocGlobal, W: Write>(
     script: &mut Script<'_, R>,
     line: &[u8],

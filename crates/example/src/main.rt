@@ -1,7 +1,7 @@
 // SPDX-License-Identifier: BSD-3-Clause
-//! Examples of file systems in memory. The first makes a directory, writes a file, mounts the
-//! device again, and reads the file. The others have a device of your own, with settings, a counter
-//! and a log on it; a power loss and its recovery; and a list of operations.
+//! Examples of file systems in memory. The first example makes a directory, writes a file, mounts
+//! the device again, and reads the file. The others show a device of your own that keeps settings,
+//! a counter and a log, the recovery after a power loss, and a list of operations.
 #![tactic(auto)]
 
 mod operations;
@@ -13,13 +13,14 @@ use lfs_fs::{OpenFlags, Session, format};
 use std::alloc::Global;
 use std::{io, str};
 
-// Formats a device of 8 blocks of 1,024 bytes in pages of 128: so small that the interpreter of `rt try` ends soon.
+// Formats a small device of 8 blocks of 1,024 bytes with pages of 128, so that the interpreter of
+// `rt try` finishes soon.
 fn new_session(alloc: Global) -> Result<Session<RamDevice>, Error> {
     let device = RamDevice::blank(alloc, Geometry::new(1024, 128, 8)?)?;
     format(alloc, device).map_err(|(_, error)| error)
 }
 
-// Writes a file, mounts the device again, and returns what it reads of the file.
+// Writes a file, mounts the device again, and returns the bytes that it reads from the file.
 fn write_and_read(alloc: Global) -> Result<Vec<u8>, Error> {
     let mut session = new_session(alloc)?;
     session.mkdir(alloc, b"/log")?;

@@ -1,11 +1,12 @@
-// A list of operations, performed by `run`.
+// A list of operations that `run` performs.
 
 use lfs_device::{Error, Geometry, RamDevice};
 use lfs_fs::{Op, OpenFlags, Reply, format};
 use std::alloc::Global;
 use std::io;
 
-// Performs operations on a new file system, and returns their replies. One of them is a refusal.
+// Performs operations on a new file system, and returns their replies. One of the replies is a
+// refusal.
 fn replies_to_example_operations(alloc: Global) -> Result<Vec<Reply>, Error> {
     let device = RamDevice::blank(alloc, Geometry::new(1024, 128, 8)?)?;
     let mut session = format(alloc, device).map_err(|(_, error)| error)?;
@@ -31,7 +32,7 @@ fn show_reply(rt: &HostRuntime, reply: &Reply) -> io::Result<()> {
     }
 }
 
-/// Prints a line for each reply.
+/// Prints the reply to each example operation on a line of its own.
 pub fn print_example_replies(rt: &HostRuntime) -> io::Result<()> {
     match replies_to_example_operations(rt.alloc()) {
         Ok(replies) => {

@@ -1,4 +1,4 @@
-// A device of your own, from scratch: a chip in memory, whose erases fill a block with 0xff.
+// A block device from scratch: a chip in memory, whose erases fill a block with 0xff.
 
 ghost use Rattle.std.specs.Prelude.{◌≡◌, ◌≤◌, ◌<◌, ◌+◌, ◌*◌, length, replicate};
 ghost use Rattle.lfs_model.specs.format.Blocks.{cut, overwritten_at};
@@ -12,7 +12,8 @@ use saved_files::{append_to_log, raise_counter, read_settings, save_settings, se
 use std::alloc::Global;
 use std::{io, str};
 
-// A chip: its bytes, block after block, and the history of its calls, which exists only in proofs.
+// A chip: the bytes of all its blocks in order, and the history of its calls, which exists only in
+// proofs.
 #[derive(Drop)]
 struct Chip {
     geometry: Geometry,
@@ -36,7 +37,7 @@ impl Chip {
         })
     }
 
-    // Returns the index in `bytes` of the byte at an offset of a block.
+    // Returns the index in `bytes` of the byte at offset `off` of a block.
     fn position(&self, block: u32, off: u32) -> usize
         requires in_device { block < self.now.geometry.block_count }
         requires in_block { off ≤ self.now.geometry.block_size }
@@ -46,7 +47,7 @@ impl Chip {
     }
 }
 
-// Overwrites bytes from an offset on.
+// Overwrites the bytes from index `at` on.
 fn overwrite_bytes(all: &mut Vec<u8>, at: usize, bytes: &[u8])
     requires { at + length bytes.now ≤ length all.old.items }
     ensures { all.new.items ≡ overwritten_at all.old.items at bytes.now }
@@ -54,7 +55,7 @@ fn overwrite_bytes(all: &mut Vec<u8>, at: usize, bytes: &[u8])
     all[at..at + bytes.len()].copy_from_slice(bytes);
 }
 
-// Fills bytes from an offset on with 0xff.
+// Fills `len` bytes from index `at` on with 0xff.
 fn fill_with_erased_bytes(all: &mut Vec<u8>, at: usize, len: usize)
     requires { at + len ≤ length all.old.items }
     ensures filled { all.new.items ≡ overwritten_at all.old.items at (replicate len 255) }
@@ -108,7 +109,8 @@ impl BlockDevice for Chip {
         Ok(())
     }
 
-    // The chip's own check: bytes are unprogrammed if each is 0xff.
+    // Returns true if all these bytes are 0xff, which on this chip means that they are
+    // unprogrammed.
     fn is_unprogrammed(&mut self, block: u32, off: u32, len: u32) -> Result<bool, Error> {
         let start = self.position(block, off);
         if self.bytes[start..start + len as usize]
@@ -122,7 +124,7 @@ impl BlockDevice for Chip {
     }
 }
 
-// Returns how many blocks are used on a chip with one directory.
+// Makes one directory on a new chip, and returns the number of used blocks.
 fn used_block_count(alloc: Global) -> Result<u32, Error> {
     let chip = Chip::new(alloc, Geometry::new(1024, 128, 8)?)?;
     let mut session = format(alloc, chip).map_err(|(_, error)| error)?;
@@ -144,7 +146,7 @@ fn keep_files(alloc: Global) -> Result<(Vec<u8>, u32), Error> {
     Ok((read_settings(&mut next, alloc)?, number))
 }
 
-/// Prints how many blocks are used on a chip with one directory.
+/// Prints the number of used blocks on a chip with one directory.
 pub fn print_used_blocks(rt: &HostRuntime) -> io::Result<()> {
     match used_block_count(rt.alloc()) {
         Ok(count) => println!(rt; "a device of your own: {count} blocks used"),

@@ -1,4 +1,4 @@
-// The rows that bench/against_c.py measures against littlefs's own code.
+// The benchmarks that bench/against_c.py compares with littlefs's own code. Each is called a row.
 
 use crate::counting_device::{CountingDevice, Counts};
 use crate::files::{self, Measured, no_memory_error, write_new_file};
@@ -11,10 +11,10 @@ use std::time::Instant;
 
 const BLOCK: u32 = 4096;
 
-// The buffer that rows write and read.
+// The buffer that rows write from and read into.
 type Buffer = [u8; BLOCK as usize];
 
-// A row, by its operations. Its name is looked up before it is timed.
+// A row, which stands for its operations. The row's name is parsed before the time is measured.
 #[derive(Clone, Copy)]
 enum Row {
     Create1,
@@ -77,14 +77,14 @@ fn row_of_name(name: &str) -> Option<Row> {
     })
 }
 
-/// The device of a row.
+/// The settings of the device that a row runs on.
 #[derive(Clone, Copy)]
 pub struct RowDevice {
-    /// How many blocks of 4,096 bytes it has.
+    /// The number of blocks, of 4,096 bytes each.
     pub blocks: u32,
-    /// After how many compactions a metadata pair is relocated. 0 for never.
+    /// The number of compactions after which a metadata pair is relocated, or 0 for never.
     pub pair_cycles: u32,
-    /// Whether it says which bytes are blank.
+    /// Whether the device reports which bytes are blank.
     pub checks_blanks: bool,
 }
 
@@ -142,7 +142,7 @@ fn make_row_files(
     }
 }
 
-// Performs the operations of a row, the only ones that are timed. Returns the last session.
+// Performs the operations of a row, and returns the last session. Only these operations are timed.
 fn perform_benchmark_row(
     alloc: Global,
     session: Measured,
@@ -162,7 +162,7 @@ fn perform_benchmark_row(
     }
 }
 
-// Performs the operations of a row that isn't about wear.
+// Performs the operations of a row that doesn't measure wear.
 fn perform_row_in_session(
     alloc: Global,
     session: &mut Measured,
@@ -222,7 +222,7 @@ fn print_device_call_counts(
     )
 }
 
-// Prints how often each block was erased, one per line.
+// Prints the number of erases of each block, one per line.
 fn show_erases(rt: &HostRuntime, session: &Measured) -> io::Result<()> {
     for count in session.device().erase_counts() {
         println!(rt; "{count}")?;
@@ -230,8 +230,8 @@ fn show_erases(rt: &HostRuntime, session: &Measured) -> io::Result<()> {
     Ok(())
 }
 
-// Prepares a session, performs the row, and prints its name and its costs. For a row about wear it
-// also prints how often each block was erased.
+// Prepares a session, performs the row, and prints its name and its costs. For a row that measures
+// wear, also prints the number of erases of each block.
 fn measure_benchmark_row(
     rt: &HostRuntime,
     session: Measured,
@@ -261,8 +261,8 @@ fn measure_benchmark_row(
 }
 
 /// Performs a row of `count` operations on a device. Prints the row's name, its reads, bytes read,
-/// programs, bytes programmed, erases and nanoseconds. For a row about wear it also prints how
-/// often each block was erased.
+/// programs, bytes programmed, erases and nanoseconds. For a row that measures wear, also prints
+/// the number of erases of each block.
 pub fn run_benchmark_row(
     rt: &HostRuntime,
     name: &str,

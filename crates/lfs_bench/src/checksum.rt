@@ -1,4 +1,4 @@
-// A benchmark of the checksum of a block of 64 KiB.
+// A benchmark that computes the checksum of a block of 64 KiB.
 
 use lfs_tag::crc;
 use std::io;
@@ -6,7 +6,7 @@ use std::time::Instant;
 
 const BLOCK: usize = 65536;
 
-// Fills the block with pseudorandom bytes, which favour no entry of a table.
+// Fills the block with pseudorandom bytes, so that all entries of a checksum table are used alike.
 fn fill_with_pseudorandom_bytes(block: &mut [u8]) {
     let mut state = 1u32;
     for byte in block.iter_mut() {
@@ -23,8 +23,8 @@ fn checksum_of_repeated_block(block: &[u8], rounds: u32) -> u32 {
     sum
 }
 
-/// Computes the checksum `rounds` times, each time from the last result on. Prints the result, and
-/// on standard error the nanoseconds (bench/crc.py compares them).
+/// Computes the checksum `rounds` times, each time starting from the last result. Prints the
+/// result, and prints the nanoseconds on standard error for bench/crc.py.
 pub fn benchmark_checksum(rt: &HostRuntime, rounds: u32) -> io::Result<()> {
     let mut block = [0u8; BLOCK];
     fill_with_pseudorandom_bytes(&mut block);

@@ -1,4 +1,4 @@
-// Writes and reads of files for the rows against littlefs's own code.
+// Writes and reads of files for the benchmarks against littlefs's own code.
 
 use crate::files::{Measured, file_path, write_new_file};
 use lfs_device::Error;
@@ -25,7 +25,7 @@ pub fn append_bytes_to_file(
     session.close(alloc, fd)
 }
 
-/// Replaces the contents of a file, or creates it.
+/// Replaces the contents of a file, or creates the file.
 pub fn replace_file_contents(
     alloc: Global,
     session: &mut Measured,
@@ -37,17 +37,17 @@ pub fn replace_file_contents(
     session.close(alloc, fd)
 }
 
-/// Pieces of the same bytes that are written to a file one after another.
+/// A piece that is written to a file several times.
 #[derive(Clone, Copy)]
 pub struct Pieces<'a> {
     pub path: &'a [u8],
     pub bytes: &'a [u8],
     pub count: u32,
-    /// Whether they are appended to the file, each with a sync after it.
+    /// Whether the pieces are appended to the file, each with a sync after it.
     pub are_appended: bool,
 }
 
-/// Opens a file, which is created if it is missing, writes pieces to it and closes it.
+/// Opens a file, which is created if it is missing, writes pieces to it, and closes it.
 #[inline(never)]
 pub fn write_pieces(
     alloc: Global,
@@ -69,7 +69,7 @@ pub fn write_pieces(
     session.close(alloc, fd)
 }
 
-/// Opens a file, appends bytes and closes it, `count` times.
+/// Opens a file, appends bytes and closes the file, `count` times.
 pub fn open_and_append(
     alloc: Global,
     session: &mut Measured,
@@ -147,7 +147,7 @@ pub fn read_at_random_positions(
     session.close(alloc, fd)
 }
 
-/// Changes ten bytes near the beginning of a file of 1 MiB, `count` times.
+/// Overwrites ten bytes near the beginning of a file of 1 MiB, `count` times.
 pub fn overwrite_bytes_repeatedly(
     alloc: Global,
     session: &mut Measured,
@@ -162,7 +162,7 @@ pub fn overwrite_bytes_repeatedly(
     Ok(())
 }
 
-/// Replaces the contents of a file by four other bytes, `count` times.
+/// Replaces the contents of a file with four other bytes, `count` times.
 pub fn replace_small_file_repeatedly(
     alloc: Global,
     session: &mut Measured,
@@ -176,7 +176,7 @@ pub fn replace_small_file_repeatedly(
     Ok(())
 }
 
-/// Nearly fills the root's pair, with seven files of 512 bytes.
+/// Nearly fills the root's metadata pair with seven files of 512 bytes.
 pub fn fill_root_pair_nearly(alloc: Global, session: &mut Measured) -> Result<(), Error> {
     write_new_file(alloc, session, b"/f90000", b"hell")?;
     for number in 0..7 {

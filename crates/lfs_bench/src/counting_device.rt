@@ -1,9 +1,9 @@
-// A device that counts its calls and their bytes, and notes in which order blocks are written.
+// A device that counts its calls and their bytes, and checks in which order blocks are written.
 
 use lfs_device::{BlockDevice, Error, Geometry};
 use std::alloc::Global;
 
-/// How often a device was read, programmed and erased, and how many bytes were read and programmed.
+/// The numbers of reads, programs and erases of a device, and of the bytes read and programmed.
 #[derive(Clone, Copy)]
 pub struct Counts {
     pub reads: u64,
@@ -11,8 +11,8 @@ pub struct Counts {
     pub programs: u64,
     pub program_bytes: u64,
     pub erases: u64,
-    /// How many programs began at the first byte of a block that was just erased, and whose address
-    /// is above that of the last such block.
+    /// The number of programs that begin at offset 0 of the block just erased, if its index is
+    /// higher than that of the last such block.
     pub in_turn: u64,
 }
 
@@ -26,7 +26,7 @@ impl Counts {
         in_turn: 0,
     };
 
-    /// Returns the counts of the calls since `before`.
+    /// Returns the counts of the calls since `before` was taken.
     pub fn since(&self, before: &Counts) -> Counts {
         Counts {
             reads: self.reads.saturating_sub(before.reads),
@@ -39,7 +39,7 @@ impl Counts {
     }
 }
 
-// The counts of the calls, and their order.
+// The counts of the calls, and what is needed to check their order.
 #[derive(Clone, Copy)]
 struct CallSequence {
     counts: Counts,
@@ -80,7 +80,7 @@ impl CallSequence {
 pub struct CountingDevice<D: BlockDevice> {
     inner: D,
     turns: CallSequence,
-    // How often each block was erased. Blocks past its end aren't counted.
+    // The number of erases of each block. Blocks past the end of this list aren't counted.
     erased: Vec<u32>,
 }
 
@@ -89,7 +89,7 @@ impl<D: BlockDevice> CountingDevice<D> {
         CountingDevice::with_erase_counts(inner, Vec::new(alloc))
     }
 
-    /// Makes a device whose counts of each block's erases begin with these numbers.
+    /// Makes a device whose number of erases of each block starts at the value in `erased`.
     pub fn with_erase_counts(inner: D, erased: Vec<u32>) -> CountingDevice<D> {
         CountingDevice {
             inner,
@@ -106,7 +106,7 @@ impl<D: BlockDevice> CountingDevice<D> {
         self.turns.counts
     }
 
-    /// Borrows how often each block was erased.
+    /// Borrows the number of erases of each block.
     pub fn erase_counts(&self) -> &[u32] {
         &self.erased
     }

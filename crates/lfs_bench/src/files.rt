@@ -1,11 +1,11 @@
-// Files and directories for the rows against littlefs's own code.
+// Files and directories for the benchmarks against littlefs's own code.
 
 use crate::counting_device::CountingDevice;
 use lfs_device::{Error, RamDevice};
 use lfs_fs::{OpenFlags, Session};
 use std::alloc::Global;
 
-/// The file system that the rows work on.
+/// The session that the benchmarks work on.
 pub type Measured = Session<CountingDevice<RamDevice>>;
 
 /// Converts any allocation error to `NoMemory`.
@@ -17,7 +17,7 @@ fn digit(number: u32) -> u8 {
     b'0' + (number % 10) as u8
 }
 
-/// Returns the path of a directory of the root, by its number below 1,000.
+/// Returns the path of a directory in the root. `number` must be below 1,000.
 pub fn directory_path(alloc: Global, number: u32) -> Result<Vec<u8>, Error> {
     let name = [
         b'/',
@@ -29,8 +29,8 @@ pub fn directory_path(alloc: Global, number: u32) -> Result<Vec<u8>, Error> {
     Vec::from_slice(alloc, &name).map_err(no_memory_error)
 }
 
-/// Returns the path of a file by its number below 100,000. The file is in the root if there are no
-/// directories, otherwise in the directory of that number modulo their count.
+/// Returns the path of a file. `number` must be below 100,000. The file is in the root if there are
+/// no directories, and otherwise in the directory `number` modulo `directories`.
 pub fn file_path(alloc: Global, number: u32, directories: u32) -> Result<Vec<u8>, Error> {
     let mut path = match number.checked_rem(directories) {
         Some(directory) => directory_path(alloc, directory)?,
@@ -70,7 +70,7 @@ pub fn make_directories(alloc: Global, session: &mut Measured, count: u32) -> Re
     Ok(())
 }
 
-/// Makes files 0 to `count - 1` of the same bytes.
+/// Makes files 0 to `count - 1` with the same contents.
 pub fn make_files(
     alloc: Global,
     session: &mut Measured,
@@ -85,7 +85,7 @@ pub fn make_files(
     Ok(())
 }
 
-/// Queries the size of each file, every seventh first.
+/// Calls `stat` for `count` files, in steps of seven.
 pub fn stat_files(
     alloc: Global,
     session: &mut Measured,
@@ -114,7 +114,7 @@ pub fn remove_files(
     Ok(())
 }
 
-/// Lists the root.
+/// Lists the root directory.
 pub fn list_root(alloc: Global, session: &mut Measured) -> Result<(), Error> {
     session.list(alloc, b"/")?;
     Ok(())
@@ -151,7 +151,7 @@ pub fn set_attribute_repeatedly(
     Ok(())
 }
 
-/// Makes a file beneath 12 directories.
+/// Makes a file beneath 12 nested directories.
 pub fn make_deeply_nested_file(alloc: Global, session: &mut Measured) -> Result<(), Error> {
     let mut path = Vec::new(alloc);
     for _ in 0..12 {
@@ -162,7 +162,7 @@ pub fn make_deeply_nested_file(alloc: Global, session: &mut Measured) -> Result<
     write_new_file(alloc, session, path.as_slice(), b"hello")
 }
 
-/// Queries the size of that file, `count` times.
+/// Calls `stat` for the file of `make_deeply_nested_file`, `count` times.
 pub fn stat_deeply_nested_file(
     alloc: Global,
     session: &mut Measured,

@@ -1,5 +1,5 @@
-// How many device reads a byte of a CTZ skip list of 1,000 blocks costs, compared with a walk back
-// by each block's first pointer.
+// Counts the device reads that one byte of a CTZ skip-list of 1,000 blocks costs. Compares them
+// with a walk that follows only each block's first pointer.
 
 use lfs_device::{BlockDevice, CountedCalls, Error, FaultDevice, Geometry, RamDevice};
 use lfs_file::read_at;
@@ -12,8 +12,8 @@ const BLOCKS: u32 = 1000;
 
 const SHOWN: [u32; 6] = [0, 1, 500, 512, 998, 999];
 
-// How many reads the first byte of a block of the list costs: by all pointers, and by first
-// pointers only.
+// The number of device reads for the first byte of a block of the list: with all pointers, and with
+// first pointers only.
 #[derive(Clone, Copy)]
 struct ReadsOfListBlock {
     block: u32,
@@ -21,7 +21,8 @@ struct ReadsOfListBlock {
     plain: u64,
 }
 
-// Makes a device whose block i is block i of the list. Returns it with the list's size.
+// Makes a device in which block i is block i of the list. Returns the device and the list's size in
+// bytes.
 fn device_with_skip_list(alloc: Global) -> Result<(RamDevice, u32), Error> {
     let mut bytes = Vec::new(alloc);
     let mut size = 0u32;
@@ -41,7 +42,7 @@ fn device_with_skip_list(alloc: Global) -> Result<(RamDevice, u32), Error> {
     Ok((RamDevice::from_bytes(geometry, bytes)?, size))
 }
 
-// Reads a byte of the block that is `steps` first pointers back from the head.
+// Reads a byte of the block that is reached from the head by following `steps` first pointers.
 fn read_along_first_pointers<D: BlockDevice>(
     dev: &mut D,
     head: u32,
@@ -63,7 +64,7 @@ fn read_along_first_pointers<D: BlockDevice>(
     Ok(())
 }
 
-// Reads the first byte of each block both ways, and counts the reads.
+// Reads the first byte of each block in both ways, and counts the reads.
 fn measure_skip_list_reads(alloc: Global) -> Result<Vec<ReadsOfListBlock>, Error> {
     let (device, size) = device_with_skip_list(alloc)?;
     let mut device = FaultDevice::new(device, CountedCalls::Read, 0, false);
@@ -94,8 +95,8 @@ fn measure_skip_list_reads(alloc: Global) -> Result<Vec<ReadsOfListBlock>, Error
     Ok(all)
 }
 
-/// Prints both counts for some of the blocks, and their maximum and sum over all of them
-/// (bench/ctz_reads.py judges these).
+/// Prints both numbers of reads for some of the blocks, and the maximum and the sums over all
+/// blocks. The script bench/ctz_reads.py judges these numbers.
 pub fn print_list_reads(rt: &HostRuntime) -> io::Result<()> {
     let all = match measure_skip_list_reads(rt.alloc()) {
         Ok(all) => all,

@@ -1,5 +1,5 @@
-// A benchmark of look-ups in a block of 64 KiB with the names of a thousand files, each created at
-// id 0.
+// A benchmark of look-ups in a block of 64 KiB that holds the names of a thousand files, each
+// created with id 0.
 
 use lfs_model::NameOrder;
 use lfs_tag::kinds::{CREATE, FILE_NAME};
@@ -12,12 +12,12 @@ const BLOCK: usize = 65536;
 
 const FILES: u32 = 1000;
 
-// Returns the name of a file. The names fall as the numbers rise.
+// Returns the name of a file. A higher number gives a name that comes earlier in name order.
 fn file_name_of_number(number: u32) -> [u8; 4] {
     u32::MAX.wrapping_sub(number).to_be_bytes()
 }
 
-// Writes the files' names into the block, in one commit.
+// Writes the names of all files to the block, in one commit.
 fn fill_block_with_log(block: &mut [u8]) {
     let mut commit = CommitBuilder::new(512, block, Tag::from_bits(0xffff_ffff), Some(1));
     for number in 0..FILES {
@@ -43,7 +43,7 @@ fn read_log_repeatedly(block: &[u8], rounds: u32) -> u64 {
     sum
 }
 
-// Makes the log from its known end `rounds` times, and returns the sum of the ends.
+// Constructs the log from its known end `rounds` times, and returns the sum of the ends.
 fn take_known_log(block: &[u8], rounds: u32) -> u64 {
     let log = Log::read(block);
     let (end, last) = (log.end(), log.last_log_tag());
@@ -78,9 +78,9 @@ fn read_log_content_repeatedly(alloc: Global, log: &Log<'_>, rounds: u32) -> u64
     sum
 }
 
-/// Prints the ids of two names. Prints on standard error the nanoseconds of `rounds` reads of the
-/// log, logs made from their known ends, look-ups of a name, and reads of the content
-/// (bench/lookups.py judges these).
+/// Prints the ids of two names. Also times `rounds` reads of the log, logs constructed from their
+/// known ends, look-ups of a name, and reads of the contents. Prints the nanoseconds on standard
+/// error for bench/lookups.py.
 pub fn benchmark_log_lookups(rt: &HostRuntime, rounds: u32) -> io::Result<()> {
     let mut block = [0xffu8; BLOCK];
     fill_block_with_log(&mut block);

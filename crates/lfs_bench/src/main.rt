@@ -1,11 +1,13 @@
 // SPDX-License-Identifier: BSD-3-Clause
-//! Figures that benchmarks judge: the checksum of a block, look-ups in a block, the device reads of
-//! a list, the writes of a file over a session, and the rows that are measured against littlefs's
-//! own code. The first word names one of them; without it all run except these rows. The second is
-//! the number of rounds that are timed, or of pieces that are written. For a row the words are its
-//! name, the device's number of blocks, the number of operations, the profile's `pair_cycles`
-//! (after how many compactions a metadata pair is relocated; 0 for never), and `blanks` if the
-//! device says which bytes are blank.
+//! Benchmarks whose results are judged by scripts in bench/. The benchmarks measure the checksum of
+//! a block, look-ups in a block, the device reads of a CTZ skip-list, and the writes of a file in a
+//! session. A row is a benchmark that is compared with littlefs's own code.
+//!
+//! The first argument selects a benchmark. Without it, all benchmarks but the rows run. The second
+//! argument is the number of timed rounds or of written pieces. The arguments of a row are its
+//! name, the device's number of blocks, the number of operations, the profile's `pair_cycles`, and
+//! `blanks` if the device reports which bytes are blank. `pair_cycles` is the number of compactions
+//! after which a metadata pair is relocated, or 0 for never.
 #![tactic(auto)]
 
 mod c_rows;
@@ -20,7 +22,7 @@ mod writes;
 
 use std::{env, io};
 
-// How many pieces are written if no number is given.
+// The number of pieces that are written if the arguments don't give one.
 const PIECES: u32 = 12;
 
 fn run_all_benchmarks(rt: &HostRuntime) -> io::Result<()> {
@@ -30,7 +32,7 @@ fn run_all_benchmarks(rt: &HostRuntime) -> io::Result<()> {
     writes::benchmark_file_writes(rt, PIECES)
 }
 
-// Parses the word at an index as a number. Returns `otherwise` if it isn't one.
+// Parses the argument at an index as a number. Returns `otherwise` if it isn't a number.
 fn argument_number_or(words: &[String], place: usize, otherwise: u32) -> u32 {
     match words.get(place) {
         Some(word) => word.as_str().parse::<u32>().unwrap_or(otherwise),
@@ -38,7 +40,7 @@ fn argument_number_or(words: &[String], place: usize, otherwise: u32) -> u32 {
     }
 }
 
-// Runs the row that the words name.
+// Runs the row that the arguments name.
 fn run_row_of_arguments(rt: &HostRuntime, words: &[String]) -> io::Result<()> {
     let Some(row) = words.get(2) else {
         return eprintln!(rt; "row NAME BLOCKS COUNT [CYCLES [blanks]]");

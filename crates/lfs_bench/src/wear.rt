@@ -8,7 +8,7 @@ use std::alloc::Global;
 
 const FILE: [u8; 700] = [b'x'; 700];
 
-// Appends to a log, which is removed after it has more than 40,000 bytes.
+// Appends to a log, which is removed once it has more than 40,000 bytes.
 fn append_log(alloc: Global, session: &mut Measured, bytes: &[u8]) -> Result<(), Error> {
     append_bytes_to_file(alloc, session, b"/log", bytes)?;
     if session.stat(alloc, b"/log")?.size > 40000 {
@@ -17,8 +17,8 @@ fn append_log(alloc: Global, session: &mut Measured, bytes: &[u8]) -> Result<(),
     Ok(())
 }
 
-// Performs one pseudorandom operation: replaces a file, appends to a log, or removes a file if
-// there is one.
+// Performs one pseudorandom operation: replaces a file, appends to a log, or removes a file if it
+// exists.
 fn perform_pseudorandom_operation(
     alloc: Global,
     session: &mut Measured,
@@ -39,7 +39,7 @@ fn perform_pseudorandom_operation(
     }
 }
 
-// Ends a session and mounts its device, as after a boot.
+// Ends a session and mounts its device again, as a reboot does.
 fn mount_again(alloc: Global, session: Measured) -> Result<Measured, Error> {
     match mount(alloc, session.unmount()) {
         Ok(session) => Ok(session),
@@ -47,7 +47,8 @@ fn mount_again(alloc: Global, session: Measured) -> Result<Measured, Error> {
     }
 }
 
-/// Performs `count` pseudorandom operations, with a mount after each 20. Returns the last session.
+/// Performs `count` pseudorandom operations, and mounts again after every 20th. Returns the last
+/// session.
 pub fn perform_pseudorandom_operations(
     alloc: Global,
     session: Measured,
@@ -66,7 +67,8 @@ pub fn perform_pseudorandom_operations(
     Ok(session)
 }
 
-/// Mounts `count` times, each time with 100 bytes appended to a log. Returns the last session.
+/// Mounts the device `count` times, and appends 100 bytes to a log after each mount. Returns the
+/// last session.
 pub fn append_each_mount(alloc: Global, session: Measured, count: u32) -> Result<Measured, Error> {
     let mut session = session;
     for _ in 0..count {
@@ -76,7 +78,8 @@ pub fn append_each_mount(alloc: Global, session: Measured, count: u32) -> Result
     Ok(session)
 }
 
-/// Mounts `count` times, each time with a counter that is written again. Returns the last session.
+/// Mounts the device `count` times, and rewrites a counter after each mount. Returns the last
+/// session.
 pub fn count_each_mount(alloc: Global, session: Measured, count: u32) -> Result<Measured, Error> {
     let mut session = session;
     for _ in 0..count {

@@ -1,4 +1,4 @@
-// A benchmark of a file that is written in pieces of 4 KiB, over a session on a device in memory.
+// A benchmark that writes a file in pieces of 4 KiB, in a session on a device in memory.
 
 use crate::counting_device::{CountingDevice, Counts};
 use lfs_device::{Error, Geometry, RamDevice};
@@ -25,7 +25,8 @@ fn pseudorandom_file_piece() -> [u8; PIECE as usize] {
     piece
 }
 
-// Makes a session over an empty file system with room for `pieces` pieces, and opens a new file.
+// Begins a session on an empty file system with enough free blocks for `pieces` pieces, and opens a
+// new file.
 fn open_new_file(alloc: Global, pieces: u32) -> Result<(Writing, u32), Error> {
     let blocks = pieces.saturating_add(pieces / 64).saturating_add(16);
     let device = RamDevice::blank(alloc, Geometry::new(BLOCK, 256, blocks)?)?;
@@ -51,7 +52,7 @@ fn write_pieces_and_close(
     session.close(alloc, fd)
 }
 
-// Returns whether the file has `pieces` pieces.
+// Returns whether the file consists of `pieces` pieces.
 fn has_file_all_pieces(alloc: Global, session: &mut Writing, pieces: u32) -> Result<bool, Error> {
     let piece = pseudorandom_file_piece();
     let fd = session.open(alloc, b"/file", OpenFlags::READ)?;
@@ -74,9 +75,9 @@ fn print_write_call_counts(rt: &HostRuntime, pieces: u32, counts: Counts) -> io:
     )
 }
 
-/// Writes `pieces` pieces. Prints how many blocks the file has, how many erases and programs its
-/// writes and its close cost, and whether its bytes are read back. Prints the nanoseconds on
-/// standard error (bench/writes.py judges these).
+/// Writes `pieces` pieces. Prints the number of the file's blocks, the erases and programs of its
+/// writes and its close, and whether the bytes can be read back. Prints the nanoseconds on standard
+/// error for bench/writes.py.
 pub fn benchmark_file_writes(rt: &HostRuntime, pieces: u32) -> io::Result<()> {
     let (mut session, fd) = match open_new_file(rt.alloc(), pieces) {
         Ok(open_new_file) => open_new_file,

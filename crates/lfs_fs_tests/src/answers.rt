@@ -1,12 +1,12 @@
-// What an operation is to answer.
+// The expected replies of operations.
 
 use lfs_device::Error;
 use lfs_fs::{Gstate, Item as Listed, Kind, Op, Reply};
 
-/// A name, and a file's size or None for a directory.
+/// An entry's name, with a file's size or with None for a directory.
 pub type ExpectedItem<'a> = (&'a [u8], Option<u32>);
 
-/// An expected reply.
+/// The expected reply of an operation.
 #[derive(Clone, Copy)]
 pub enum ExpectedReply<'a> {
     Done,
@@ -18,7 +18,7 @@ pub enum ExpectedReply<'a> {
     Refused(Error),
 }
 
-/// An operation with its answer.
+/// An operation and its expected reply.
 pub type Row<'a> = (Op<'a>, ExpectedReply<'a>);
 
 fn are_expected_items(items: &[Listed], rows: &[ExpectedItem<'_>]) -> bool {
@@ -37,7 +37,7 @@ fn are_expected_items(items: &[Listed], rows: &[ExpectedItem<'_>]) -> bool {
     true
 }
 
-/// Whether a reply is the answer.
+/// Returns whether a reply is the expected one.
 pub fn is_expected_reply(reply: &Reply, answer: ExpectedReply<'_>) -> bool {
     match answer {
         ExpectedReply::Done => matches!(reply, Reply::Done),

@@ -1,4 +1,4 @@
-// Devices one of whose blocks can't be written.
+// Tests on devices with a block that can't be written.
 
 use crate::answers::ExpectedReply::{Bytes, Count, Done, Fd, Items};
 use crate::answers::Row;
@@ -15,7 +15,7 @@ const BLOCKS: u32 = 24;
 
 const CONTENTS: [u8; 3000] = [b'x'; 3000];
 
-// Operations that are tried again together.
+// Operations that are repeated together after a failure.
 type Step = [Row<'static>; 3];
 
 fn written_file(path: &'static [u8], new: OpenFlags) -> Step {
@@ -26,7 +26,8 @@ fn written_file(path: &'static [u8], new: OpenFlags) -> Step {
     ]
 }
 
-// Steps that take free blocks for pairs and for lists, and leave the root as it was.
+// Returns steps that allocate free blocks for pairs and CTZ skip-lists, and that finally empty the
+// root.
 fn steps() -> [Step; 5] {
     let new = OpenFlags::WRITE | OpenFlags::CREATE | OpenFlags::TRUNCATE;
     [
@@ -50,8 +51,8 @@ fn steps() -> [Step; 5] {
     ]
 }
 
-// Performs a step, and performs it again after an `Io` and a remount. Returns how many tries failed,
-// of two at most.
+// Performs a step, and repeats it once if it returned `Io`, after a remount. Returns the number of
+// failed tries, at most two.
 fn count_failed_tries(
     alloc: Global,
     session: &mut Session<Faulty>,
@@ -68,7 +69,8 @@ fn count_failed_tries(
     Ok(2)
 }
 
-// How often a try failed of these steps, up to one whose second try failed, too.
+// Performs the steps `rounds` times on a device with a bad block. Returns the number of failed
+// tries, and whether each step succeeded at the latest on its second try.
 fn count_failures(
     alloc: Global,
     empty: &RamDevice,
@@ -90,7 +92,8 @@ fn count_failures(
     Ok((failures, true))
 }
 
-// Each block behind the root's pair is met, and each step succeeds on other blocks.
+// Whichever block outside of the root's pair is bad, some step fails on it, and then succeeds on
+// other blocks.
 #[test]
 fn steps_succeed_beside_a_bad_block(rt: HostRuntime) -> Result<(), Fail> {
     let empty = device_with_start_image(rt.alloc(), Start::Fresh(1024, 128, BLOCKS))?;
@@ -101,7 +104,7 @@ fn steps_succeed_beside_a_bad_block(rt: HostRuntime) -> Result<(), Fail> {
     Ok(())
 }
 
-// The root's pair stays at its blocks, so a step ends in `Io` again.
+// The root's pair doesn't move to other blocks, so a step that failed on it fails again.
 #[test]
 fn steps_end_at_a_bad_block_of_the_root(rt: HostRuntime) -> Result<(), Fail> {
     let empty = device_with_start_image(rt.alloc(), Start::Fresh(1024, 128, BLOCKS))?;

@@ -1,4 +1,5 @@
-// Commits of a session, byte for byte, where the device says that the bytes behind a log are blank.
+// Tests the bytes of a session's commits on a device that reports that the bytes after a log are
+// blank.
 
 use crate::answers::ExpectedReply::{Done, Fd};
 use crate::answers::Row;
@@ -10,7 +11,7 @@ use lfs_fs::{OpenFlags, Session, format};
 use std::alloc::Global;
 use std::test::Fail;
 
-// The superblock's commit: the revision, its name and its struct, and a checksum.
+// The superblock's commit: the revision count, the superblock's name and struct, and a checksum.
 const SUPERBLOCK: [u8; 52] = [
     0x01, 0x00, 0x00, 0x00, 0xf0, 0x0f, 0xff, 0xf7, 0x6c, 0x69, 0x74, 0x74, 0x6c, 0x65, 0x66, 0x73,
     0x2f, 0xe0, 0x00, 0x10, 0x00, 0x00, 0x02, 0x00, 0x00, 0x10, 0x00, 0x00, 0x10, 0x00, 0x00, 0x00,
@@ -18,29 +19,29 @@ const SUPERBLOCK: [u8; 52] = [
     0x4a, 0x7f, 0x27, 0xf3,
 ];
 
-// A file `b` comes behind it.
+// The commit that creates the file `b` after the superblock.
 const FILE_B: [u8; 21] = [
     0x10, 0x1f, 0xf8, 0xd0, 0x40, 0x00, 0x00, 0x01, 0x62, 0x20, 0x00, 0x00, 0x01, 0x70, 0x1f, 0xf8,
     0xef, 0xa8, 0xc4, 0xff, 0x1e,
 ];
 
-// A file `a` in front of `b`.
+// The commit that creates the file `a` before `b`.
 const FILE_A: [u8; 21] = [
     0x10, 0x1f, 0xf8, 0xef, 0x40, 0x00, 0x00, 0x01, 0x61, 0x20, 0x00, 0x00, 0x01, 0x70, 0x1f, 0xf8,
     0xef, 0x2f, 0x08, 0x30, 0xda,
 ];
 
-// `a` goes.
+// The commit that removes `a`.
 const NO_FILE_A: [u8; 12] = [
     0x1f, 0xff, 0xf8, 0xef, 0x1f, 0xff, 0xf8, 0xf8, 0xe4, 0xe0, 0xd4, 0x27,
 ];
 
-// `b` gets an attribute.
+// The commit that adds an attribute to `b`.
 const ATTRIBUTE: [u8; 13] = [
     0x64, 0x1f, 0xf8, 0xf9, 0x78, 0x64, 0x1f, 0xf8, 0xf6, 0x9a, 0x37, 0xc9, 0x3a,
 ];
 
-// A session over an empty image on a device that knows which bytes are blank.
+// Returns a session on an empty image, on a device that knows which bytes are blank.
 fn session_on_blank_device(alloc: Global) -> Result<Session<RamDevice>, Error> {
     let device = RamDevice::blank(alloc, Geometry::new(4096, 256, 16)?)?.with_blank_checks();
     match format(alloc, device) {
@@ -51,8 +52,8 @@ fn session_on_blank_device(alloc: Global) -> Result<Session<RamDevice>, Error> {
 
 const MARKING: Row<'static> = (SetAttr(b"/b", 0x41, b"x"), Done);
 
-// Each commit begins a page. 15 of them fill the block behind the superblock's, and the next one goes into
-// the other block.
+// Each commit begins on a new page. The superblock's commit and 15 others fill a block, so the next
+// commit goes to the other block of the pair.
 #[test]
 fn commits_are_appended(rt: HostRuntime) -> Result<(), Fail> {
     let alloc = rt.alloc();

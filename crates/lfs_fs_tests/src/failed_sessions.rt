@@ -1,4 +1,4 @@
-// What a session answers that has failed.
+// The replies of a session that has failed.
 
 use crate::answers::ExpectedReply::Refused;
 use crate::answers::{ExpectedReply, Row};
@@ -10,12 +10,12 @@ use lfs_fs::Op::{
 use lfs_fs::{OpenFlags, Session};
 use std::alloc::Global;
 
-/// A device in memory, one of whose calls fails.
+/// A device in memory that fails in one of its calls.
 pub type Faulty = FaultDevice<RamDevice>;
 
 const FAILED: ExpectedReply<'static> = Refused(Error::Failed);
 
-// Not even a path is looked at.
+// A failed session refuses these operations without checking even their paths.
 const AFTER: [Row<'static>; 13] = [
     (Stat(b"/"), FAILED),
     (Stat(b"d"), FAILED),
@@ -32,7 +32,7 @@ const AFTER: [Row<'static>; 13] = [
     (UsedCount, FAILED),
 ];
 
-/// Whether a session answers that it has failed, without a call of the device.
+/// Returns whether a session replies that it has failed, without calling the device.
 pub fn has_session_failed(alloc: Global, session: &mut Session<Faulty>) -> Result<bool, Error> {
     let before = session.device().calls(CountedCalls::Any);
     let wrong = first_operation_with_wrong_reply(alloc, session, &AFTER)?;

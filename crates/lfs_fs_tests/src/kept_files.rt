@@ -1,4 +1,4 @@
-// Settings, a counter and a log of an application on devices that stop: what the next start finds.
+// Tests of an application's settings, counter and log after power losses.
 
 use crate::starts::copy_device;
 use lfs_device::{BlockDevice, CountedCalls, Error, FaultDevice, Geometry, RamDevice};
@@ -20,7 +20,7 @@ enum Change {
     Log,
 }
 
-// A device with settings, a counter and a log.
+// Returns a device with settings, a counter and a log.
 fn device_with_files(alloc: Global) -> Result<RamDevice, Error> {
     let blank = RamDevice::blank(alloc, Geometry::new(1024, 128, 32)?)?;
     let mut session = format_and_save(alloc, blank, b"old")?;
@@ -52,7 +52,8 @@ fn read_log(session: &mut Session<RamDevice>, alloc: Global) -> Result<Vec<u8>, 
     Ok(bytes)
 }
 
-// Whether a start finds the new state, or the old one. None where it finds another.
+// Returns whether the next start finds the new state: true for the new state, false for the old
+// one. Returns None if it finds neither.
 fn is_change_found(
     alloc: Global,
     device: RamDevice,
@@ -75,7 +76,8 @@ fn is_change_found(
     Ok(if seen == new { Some(true) } else { None })
 }
 
-// Makes a change on a device that stops. Returns whether it was made without an error, and what a start finds.
+// Makes a change on a device that loses power. Returns whether the change succeeded, and which
+// state the next start finds.
 fn outcome_of_change(
     alloc: Global,
     device: Stopping,
@@ -91,7 +93,7 @@ fn outcome_of_change(
     Ok((is_done, is_change_found(alloc, left, change)?))
 }
 
-// Copies that stop before their call of that number, in the middle of it, behind it.
+// Returns copies of a device that lose power before, during and after the `nth` call.
 fn stopping_copies(alloc: Global, device: &RamDevice, nth: u64) -> Result<[Stopping; 3], Error> {
     let before = FaultDevice::new(copy_device(alloc, device)?, CountedCalls::Any, nth, true);
     let within = FaultDevice::new(copy_device(alloc, device)?, CountedCalls::Any, nth, true);
@@ -99,7 +101,8 @@ fn stopping_copies(alloc: Global, device: &RamDevice, nth: u64) -> Result<[Stopp
     Ok([before, within.torn(20), behind.whole()])
 }
 
-// After how many stops a start found the old state, and the new one. None where it found another.
+// Returns the number of power losses after which a start finds the old state, and the number after
+// which it finds the new one. Returns None if a start finds neither.
 fn count_found_states(alloc: Global, change: Change) -> Result<Option<(u64, u64)>, Error> {
     let device = device_with_files(alloc)?;
     let (mut old, mut new) = (0u64, 0u64);
@@ -121,7 +124,8 @@ fn count_found_states(alloc: Global, change: Change) -> Result<Option<(u64, u64)
     Ok(None)
 }
 
-// Whether at each stop the old state or the new one is found, and each of them at some.
+// Returns whether a start after each power loss finds the old state or the new one, and finds each
+// of them more than three times.
 fn is_change_safe(alloc: Global, change: Change) -> Result<bool, Error> {
     Ok(count_found_states(alloc, change)?.is_some_and(|(old, new)| old > 3 && new > 3))
 }
@@ -144,8 +148,8 @@ fn log_has_whole_entries_after_a_stop(rt: HostRuntime) -> Result<(), Fail> {
     Ok(())
 }
 
-// Appends pairs of letters, each in a session whose device stops at a later call than the one before did.
-// Returns the log.
+// Appends pairs of letters, each in a session of its own. In each session the device loses power
+// one call later than in the previous session. Returns the log.
 fn log_of_stopped_sessions(alloc: Global) -> Result<Vec<u8>, Error> {
     let mut device = device_with_files(alloc)?;
     for letter in b'a'..=b'z' {
@@ -163,7 +167,7 @@ fn log_of_stopped_sessions(alloc: Global) -> Result<Vec<u8>, Error> {
     read_log(&mut session, alloc)
 }
 
-// Whether these are pairs of equal letters, in their order.
+// Returns whether the letters form pairs of equal letters in alphabetical order.
 fn are_pairs_in_order(letters: &[u8]) -> bool {
     letters.len().is_multiple_of(2)
         && letters.chunks_exact(2).all(|pair| pair[0] == pair[1])

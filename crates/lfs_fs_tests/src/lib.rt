@@ -1,6 +1,6 @@
 // SPDX-License-Identifier: BSD-3-Clause
-//! Tests of sessions whose device or memory fails, of images with limits of their own, of devices that
-//! know blank bytes, and of the lines of scripts.
+//! Tests of sessions whose device or memory fails, of images with their own limits, of devices that
+//! know which bytes are blank, and of the lines of scripts.
 #![tactic(auto)]
 
 mod recovery;

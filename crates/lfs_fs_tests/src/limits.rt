@@ -1,4 +1,4 @@
-// Images that were made with lower limits than the format's.
+// Tests of images that were made with lower limits than the format's.
 
 use crate::answers::ExpectedReply::{Done, Refused};
 use crate::answers::Row;
@@ -13,7 +13,7 @@ const NAME_OF_32: &[u8] = b"/0123456789abcdef0123456789abcdef";
 
 const NAME_OF_33: &[u8] = b"/0123456789abcdef0123456789abcdefg";
 
-// A device with an empty image whose names have at most 32 bytes.
+// Returns a device with an empty image whose names have at most 32 bytes.
 fn device_with_short_names(alloc: Global) -> Result<RamDevice, Error> {
     let device = RamDevice::blank(alloc, Geometry::new(4096, 256, 16)?)?;
     let profile = Profile {
@@ -26,7 +26,8 @@ fn device_with_short_names(alloc: Global) -> Result<RamDevice, Error> {
     }
 }
 
-// What the image says of its names, and the first row with another reply.
+// Returns the superblock's limit of names, and the index of the first operation with an unexpected
+// reply.
 fn name_max_and_wrong_reply<D: BlockDevice>(
     alloc: Global,
     session: &mut Session<D>,

@@ -1,4 +1,4 @@
-// Which lines of a script are commands, and why the others are refused.
+// Tests which lines of a script are commands, and why other lines are refused.
 
 use lfs_script_lines::{LineError, read_line};
 use std::alloc::{AllocError, Global};
@@ -8,7 +8,8 @@ const LINES: [(&str, &str); 81] = [
     ("", "nothing"),
     ("# list /", "nothing"),
     (" # list /", "nothing"),
-    // One space stands between words. Spaces around them and the end of the line don't count.
+    // Words are separated by one space. Spaces around the words and the end of the line are
+    // ignored.
     ("list /", "a command"),
     (" list /", "a command"),
     ("list  /", "two spaces stand side by side"),
@@ -21,7 +22,7 @@ const LINES: [(&str, &str); 81] = [
     ("list /\n", "a command"),
     ("list /\r\n", "a command"),
     ("  list /  \r\n", "a command"),
-    // A CR counts where no newline is right behind it.
+    // A CR is part of a word unless a newline directly follows it.
     (
         "list /\r\r\n",
         "word 2 is not spelled as bytes are (--help says how)",
@@ -32,7 +33,7 @@ const LINES: [(&str, &str); 81] = [
         "list /\n\n",
         "word 2 is not spelled as bytes are (--help says how)",
     ),
-    // Each command has its name, and so many words behind it.
+    // Each command has a name and a fixed number of words after it.
     ("List /", "no command has this name (--help lists them)"),
     ("list", "too few words: list PATH"),
     ("list / /", "too many words: list PATH"),
@@ -44,7 +45,7 @@ const LINES: [(&str, &str); 81] = [
         "set-attr /a 41 x y",
         "too many words: set-attr PATH TYPE BYTES",
     ),
-    // Numbers are decimal and below 2^32, and have no sign.
+    // Numbers are decimal, below 2^32 and without a sign.
     ("read 0 4294967295", "a command"),
     (
         "read 0 4294967296",
@@ -64,7 +65,7 @@ const LINES: [(&str, &str); 81] = [
         "get-attr /a 100",
         "word 3 is no hexadecimal number up to ff",
     ),
-    // Words for bytes, and how many times they are taken.
+    // Words that stand for bytes, with the number of repetitions.
     ("stat /\\x00\\xff", "a command"),
     (
         "stat /\\x0",
@@ -106,7 +107,7 @@ const LINES: [(&str, &str); 81] = [
         "stat *x:/a",
         "word 2 is not spelled as bytes are (--help says how)",
     ),
-    // What of two sessions is compared.
+    // The parts of two sessions that a script can compare.
     ("compare", "a command"),
     ("compare entries", "a command"),
     ("compare ff", "a command"),
@@ -117,7 +118,7 @@ const LINES: [(&str, &str); 81] = [
     ),
     ("compare-with", "too few words: compare-with FILE"),
     ("compare-with a.img", "a command"),
-    // What erases leave.
+    // The bytes that an erase leaves.
     (
         "fresh 4096 256",
         "too few words: fresh B P N [longer-first | shorter-first] [fill XX | keep]",
@@ -134,7 +135,7 @@ const LINES: [(&str, &str); 81] = [
         "fresh 4096 256 16 keep 00",
         "from word 5 on there are no options of the command",
     ),
-    // Which of two names comes first.
+    // The order of two names if one begins with the other.
     ("fresh 4096 256 16 shorter-first", "a command"),
     ("fresh 4096 256 16 longer-first keep", "a command"),
     (
@@ -157,7 +158,7 @@ const LINES: [(&str, &str); 81] = [
         "fresh 4096 256 16 longer-first fill 1g",
         "word 7 is no hexadecimal number up to ff",
     ),
-    // Which call of a mounted device fails, and what it leaves.
+    // The call of a mounted device that fails, and what the call leaves.
     ("mount program 1 torn 20", "a command"),
     (
         "mount any",
@@ -188,7 +189,7 @@ const LINES: [(&str, &str); 81] = [
         "mount any 1 stop torn 1 2",
         "too many words: mount [KIND N [stop] [torn K | kept K | whole]]",
     ),
-    // Bytes of the device in hand.
+    // Bytes that a script puts on the current device.
     ("put 0 0 \\x00", "a command"),
     ("put 0 0 a keep", "a command"),
     (
@@ -207,7 +208,7 @@ const LINES: [(&str, &str); 81] = [
     ),
 ];
 
-// What is found of a line.
+// Returns "a command", "nothing", or the reason why the line is refused.
 fn line_verdict(alloc: Global, line: &str) -> Result<String, AllocError> {
     match read_line(alloc, line.as_bytes()) {
         Ok(Some(_)) => format!(in alloc; "a command"),

@@ -1,4 +1,5 @@
-// A script where any one allocation fails: this holds whichever it is (bench/fail_alloc.py).
+// A script that loses nothing if one of its allocations fails. bench/fail_alloc.py runs it once for
+// each allocation.
 
 use crate::answers::ExpectedReply::Done;
 use crate::row_runs::first_operation_with_wrong_reply;
@@ -12,7 +13,8 @@ use lfs_fs::OpenFlags;
 use std::alloc::Global;
 use std::test::Fail;
 
-// Whether the script ends as with memory enough, or with `NoMemory` and the tree of then.
+// Returns whether the script completes, or ends with `NoMemory` and a remount then finds the tree
+// from before or after the failed operation.
 fn is_tree_kept_without_memory(alloc: Global) -> Result<bool, Error> {
     let rows = operations_of_long_script(OpenFlags::WRITE | OpenFlags::CREATE);
     let script = long_script(&rows);

@@ -1,4 +1,4 @@
-// The order of names that a remount finds.
+// Tests which order of names a remount detects.
 
 use crate::answers::ExpectedReply::Done;
 use crate::answers::Row;
@@ -10,13 +10,14 @@ use lfs_model::NameOrder;
 use std::alloc::Global;
 use std::test::Fail;
 
-// The session over an empty image, whose shorter names are to come first.
+// Returns a session on an empty image that puts shorter names first.
 fn format_shorter_first(alloc: Global) -> Result<Session<RamDevice>, Error> {
     let device = RamDevice::blank(alloc, Geometry::new(1024, 128, 16)?)?;
     format_ordered(alloc, device, NameOrder::ShorterFirst).map_err(|(_, error)| error)
 }
 
-// The order of names that such a session has after these operations. `None` where a reply is another.
+// Performs operations on a new image that puts shorter names first. Returns the session's order of
+// names, or None if a reply isn't the expected one.
 fn order_after_operations(alloc: Global, rows: &[Row<'_>]) -> Result<Option<NameOrder>, Error> {
     let mut session = format_shorter_first(alloc)?;
     let wrong = first_operation_with_wrong_reply(alloc, &mut session, rows)?;
@@ -33,7 +34,8 @@ fn remount_finds_the_order_again(rt: HostRuntime) -> Result<(), Fail> {
     let longer = Ok(Some(NameOrder::LongerFirst));
     let shorter = Ok(Some(NameOrder::ShorterFirst));
     assert_eq!(rt; order_after_operations(alloc, &[]), shorter);
-    // An image without names fits both, and so does one of whose names none begins another.
+    // An image fits both orders if it has no names, or if none of its names begins with another
+    // one.
     assert_eq!(rt; order_after_operations(alloc, &[(Remount, Done)]), longer);
     let one = [
         (Mkdir(b"/log"), Done),
@@ -41,7 +43,7 @@ fn remount_finds_the_order_again(rt: HostRuntime) -> Result<(), Fail> {
         (Remount, Done),
     ];
     assert_eq!(rt; order_after_operations(alloc, &one), longer);
-    // The shorter name stands first on the device, and then it doesn't.
+    // The image first has the shorter name before the longer one, and later after it.
     let both = [
         (Mkdir(b"/log"), Done),
         (Mkdir(b"/log.old"), Done),

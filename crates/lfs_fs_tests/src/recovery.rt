@@ -1,4 +1,4 @@
-// A session whose device stops in an operation, and the session that is mounted and recovered then.
+// Functions that mount and recover a device after a power loss, with a proof of what they find.
 
 ghost use Rattle.std.specs.Prelude.{◌≡◌};
 ghost use Rattle.lfs_model.specs.format.Disk.{Disk, ordered_disk};
@@ -18,7 +18,7 @@ use lfs_fs::{Session, mount};
 use lfs_model::power_loss_leaves_disk_with_safe_tree;
 use std::alloc::Global;
 
-// The session that a mount began, with nothing left to recover.
+// Recovers a session that was just mounted.
 fn recover_session(
     alloc: Global,
     mut session: Session<RamDevice>,
@@ -33,7 +33,7 @@ fn recover_session(
     }
 }
 
-// A session over a device with an image, with nothing left to recover.
+// Mounts a device, and recovers its image.
 fn recover_device(alloc: Global, device: RamDevice) -> Result<Session<RamDevice>, Error>
     ensures { (order : NameOrder) (before after : Tree) → HasEitherTree (ordered_disk order (disk_of_blocks (ram_geometry device) (ram_blocks device))) before after
         → RecoversEitherTree before after result }
@@ -44,12 +44,12 @@ fn recover_device(alloc: Global, device: RamDevice) -> Result<Session<RamDevice>
     }
 }
 
-/// A session over what a device holds that stopped, with nothing left to recover.
+/// Mounts a device that lost power, and recovers its image.
 ///
 /// # Errors
 ///
-/// `Invalid` where a program of the device may have been torn, since its bytes are anything then.
-/// `NoMemory` where memory isn't granted.
+/// Returns `Invalid` if a program of the device may have been torn, because its bytes are then
+/// unknown. Returns `NoMemory` if memory can't be allocated.
 pub fn recover_from_stop(
     alloc: Global,
     session: Session<FaultDevice<RamDevice>>,
@@ -65,12 +65,12 @@ pub fn recover_from_stop(
     recover_device(alloc, device.into_inner())
 }
 
-/// Renames, whether or not the device stops in it, and begins a session over what is left: it has
-/// the tree from before the rename, or the one from after it.
+/// Renames a path on a device that may lose power, and then mounts and recovers what is left. The
+/// returned session has the tree from before the rename or from after it.
 ///
 /// # Errors
 ///
-/// Those of [`recover_from_stop`].
+/// Returns the errors of [`recover_from_stop`].
 pub fn rename_despite_stop(
     alloc: Global,
     mut session: Session<FaultDevice<RamDevice>>,

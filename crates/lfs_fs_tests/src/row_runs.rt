@@ -1,11 +1,12 @@
-// Rows, played on a session.
+// Performs operations and compares their replies with the expected ones.
 
 use crate::answers::{Row, is_expected_reply};
 use lfs_device::{BlockDevice, Error};
 use lfs_fs::Session;
 use std::alloc::Global;
 
-/// The first row with another reply, where all are played by one run.
+/// Performs all operations in one run of the session. Returns the index of the first operation with
+/// an unexpected reply, or None if all replies are as expected.
 pub fn first_operation_with_wrong_reply<D: BlockDevice>(
     alloc: Global,
     session: &mut Session<D>,

@@ -1,4 +1,4 @@
-// Short scripts, on devices that hold something already.
+// Short scripts on devices that already contain files.
 
 use crate::answers::ExpectedReply::{Done, Fd, Items};
 use crate::answers::Row;
@@ -37,7 +37,7 @@ const AT_D: &[u8] =
 
 const PAIR: &[u8] = &[2, 0, 0, 0, 3, 0, 0, 0];
 
-// A directory `d` whose file is being moved, and is the file `g` already.
+// An image with a pending move: the file in the directory `d` already exists as `g`.
 const MOVING: Start<'static> = Start::Image(
     &[
         (0x4010_0400, b""),
@@ -55,7 +55,7 @@ const MOVING: Start<'static> = Start::Image(
     )],
 );
 
-/// Ends a move, and what else was begun.
+/// Completes a pending move, and whatever else is left half done.
 pub const RECOVERY: [Row<'static>; 1] = [(Recover, Done)];
 
 /// Moves a file out of its directory.
@@ -80,7 +80,7 @@ pub const RENAMING: Script<'static> = Script {
     behind: &[0, 1],
 };
 
-// Makes a directory where a move is to be ended first.
+// Makes a directory on an image with a pending move, which must be completed first.
 const MAKING: Script<'static> = Script {
     rows: &[(Mkdir(b"/e"), Done)],
     trees: &[
@@ -114,7 +114,8 @@ const FOUR: ExpectedTree<'static> = (
     Some(4),
 );
 
-// Removes the files of two pairs, where the place of the cut is free.
+// Removes four files that are in two metadata pairs. A split divided the files between the pairs at
+// any place.
 const REMOVING: Script<'static> = Script {
     rows: &[
         (Remove(AT_B), Done),
@@ -159,7 +160,7 @@ fn operations_that_make_four_files(new: OpenFlags) -> [Row<'static>; 8] {
     ]
 }
 
-// The device behind these rows.
+// Returns a device on which these operations were performed.
 fn device_after_operations(
     alloc: Global,
     start: Start<'_>,
@@ -172,7 +173,7 @@ fn device_after_operations(
     }
 }
 
-/// The device whose file is moved.
+/// Returns the device for the script `RENAMING`.
 pub fn device_with_file_to_move(alloc: Global, new: OpenFlags) -> Result<RamDevice, Error> {
     device_after_operations(
         alloc,
@@ -181,7 +182,7 @@ pub fn device_with_file_to_move(alloc: Global, new: OpenFlags) -> Result<RamDevi
     )
 }
 
-/// The other scripts, and the device of each.
+/// Returns the scripts that make a directory and remove files, each with its device.
 pub fn making_and_removing_scripts(
     alloc: Global,
     new: OpenFlags,

@@ -1,4 +1,4 @@
-// A script of operations, and what stands behind each.
+// A script of operations, and the expected tree after each of them.
 
 use crate::answers::ExpectedReply::{Bytes, Count, Done, Fd, Gstate as GstateIs, Items, Refused};
 use crate::answers::{ExpectedReply, Row};
@@ -11,15 +11,17 @@ use lfs_fs::Op::{
 use lfs_fs::{Gstate, OpenFlags, Session};
 use std::alloc::Global;
 
-/// How many operations the script has.
+/// The number of operations in the long script.
 pub const LENGTH: usize = 14;
 
 const READ: OpenFlags = OpenFlags::READ;
 
-/// A tree, by what is answered of it, and how many blocks it takes, if that isn't free.
+/// A tree, described by operations and their expected replies. The second field is the number of
+/// used blocks, or None if any number is allowed.
 pub type ExpectedTree<'a> = (&'a [Row<'a>], Option<u32>);
 
-/// Operations, the trees in turn, and which of these stands behind so many operations.
+/// Operations and the trees that they lead to. `behind[n]` is the index of the tree after `n`
+/// operations.
 #[derive(Clone, Copy)]
 pub struct Script<'a> {
     pub rows: &'a [Row<'a>],
@@ -27,7 +29,8 @@ pub struct Script<'a> {
     pub behind: &'a [usize],
 }
 
-/// A file of five blocks is made, written, turned, marked and moved out of its directory, which goes.
+/// Returns operations that make a file of five blocks, write to it out of order, add an attribute,
+/// move the file out of its directory, and remove the directory.
 pub fn operations_of_long_script(new: OpenFlags) -> [Row<'static>; LENGTH] {
     [
         (Mkdir(b"/d"), Done),
@@ -103,10 +106,10 @@ const TREES: &[ExpectedTree<'static>] = &[
     ),
 ];
 
-// Which tree stands behind so many operations.
+// The index of the tree after each number of operations.
 const BEHIND: &[usize] = &[0, 1, 2, 2, 2, 2, 3, 4, 5, 6, 6, 6, 6, 6, 6];
 
-/// The long script, of these rows.
+/// Returns the long script with these operations.
 pub fn long_script<'a>(rows: &'a [Row<'a>]) -> Script<'a> {
     Script {
         rows,
@@ -115,7 +118,8 @@ pub fn long_script<'a>(rows: &'a [Row<'a>]) -> Script<'a> {
     }
 }
 
-/// Carries out rows in turn: how many are answered as they should, and what ends the others.
+/// Performs operations one after another until a reply is unexpected or an error is returned.
+/// Returns the number of expected replies, and the error.
 pub fn perform_expected_operations<D: BlockDevice>(
     alloc: Global,
     session: &mut Session<D>,
@@ -132,7 +136,7 @@ pub fn perform_expected_operations<D: BlockDevice>(
     (done, None)
 }
 
-// Whether a tree is seen.
+// Returns whether a session has this tree.
 fn is_tree_seen<D: BlockDevice>(
     alloc: Global,
     session: &mut Session<D>,
@@ -149,7 +153,7 @@ const NO_GSTATE: ExpectedReply<'static> = GstateIs(Gstate {
     moving: None,
 });
 
-// Whether nothing is left to recover, and a tree's blocks are those that are used.
+// Returns whether nothing is left to recover, and exactly the blocks of the tree are used.
 fn leaves_nothing_to_recover<D: BlockDevice>(
     alloc: Global,
     session: &mut Session<D>,
@@ -177,7 +181,8 @@ fn leaves_nothing_to_recover<D: BlockDevice>(
     )
 }
 
-// Whether a tree is seen, also behind a recovery, which leaves nothing to recover.
+// Returns whether a session has this tree before and after a recovery, and the recovery leaves
+// nothing to recover.
 fn is_tree_kept_by_recovery<D: BlockDevice>(
     alloc: Global,
     session: &mut Session<D>,
@@ -194,7 +199,7 @@ fn is_tree_kept_by_recovery<D: BlockDevice>(
     )
 }
 
-// Which trees may stand where so many operations were carried out, and the next one maybe.
+// Returns the indexes of the trees after `done` operations, and after one more.
 fn tree_indexes_before_and_after(script: &Script<'_>, done: usize) -> (usize, usize) {
     let before = script
         .behind
@@ -205,7 +210,7 @@ fn tree_indexes_before_and_after(script: &Script<'_>, done: usize) -> (usize, us
     (before, behind.unwrap_or(before))
 }
 
-/// Which tree is seen where so many operations were carried out, and the next one maybe.
+/// Returns the index of the tree that a session has after `done` operations, or after one more.
 pub fn index_of_seen_tree<D: BlockDevice>(
     alloc: Global,
     session: &mut Session<D>,
@@ -217,8 +222,8 @@ pub fn index_of_seen_tree<D: BlockDevice>(
     Ok(if is_before { before } else { behind })
 }
 
-/// Whether a session has the tree from before the operation that ended the script or from behind it,
-/// also behind a recovery, which leaves nothing to recover.
+/// Returns whether a session has the tree from before or after the operation that ended the script.
+/// The tree must also survive a recovery that leaves nothing to recover.
 pub fn has_lost_nothing<D: BlockDevice>(
     alloc: Global,
     session: &mut Session<D>,

@@ -1,21 +1,21 @@
-// Devices, made empty or with an image, and sessions over them.
+// Devices with a new file system or a given image, and sessions on them.
 
 use lfs_device::{BlockDevice, Error, Geometry, RamDevice};
 use lfs_fixtures::{BlockFilling, FixtureEntries, image_with_commit};
 use lfs_fs::{Session, format, mount};
 use std::alloc::Global;
 
-/// What a device holds.
+/// What a device contains.
 #[derive(Clone, Copy)]
 pub enum Start<'a> {
-    /// A device made empty: its block size, page and block count.
+    /// A new file system on a device with this block size, page size and block count.
     Fresh(u32, u32, u32),
-    /// What stands behind the superblock of an image of 16 blocks of 4,096 bytes, and its other
-    /// blocks.
+    /// An image of 16 blocks of 4,096 bytes: the entries after the superblock, and the contents of
+    /// other blocks.
     Image(FixtureEntries<'a>, &'a [(usize, BlockFilling<'a>)]),
 }
 
-/// The session over the image of a device.
+/// Mounts a device, and drops it if the mount fails.
 pub fn mount_image<D: BlockDevice + Drop>(alloc: Global, device: D) -> Result<Session<D>, Error> {
     match mount(alloc, device) {
         Ok(session) => Ok(session),
@@ -23,7 +23,7 @@ pub fn mount_image<D: BlockDevice + Drop>(alloc: Global, device: D) -> Result<Se
     }
 }
 
-// The session over a device made empty.
+// Formats a device, and drops it if the format fails.
 fn format_blank<D: BlockDevice + Drop>(alloc: Global, device: D) -> Result<Session<D>, Error> {
     match format(alloc, device) {
         Ok(session) => Ok(session),
@@ -31,7 +31,7 @@ fn format_blank<D: BlockDevice + Drop>(alloc: Global, device: D) -> Result<Sessi
     }
 }
 
-/// A device with the image of a start.
+/// Returns a device in memory with the contents that `start` describes.
 pub fn device_with_start_image(alloc: Global, start: Start<'_>) -> Result<RamDevice, Error> {
     match start {
         Start::Fresh(block_size, page, block_count) => {
@@ -46,7 +46,7 @@ pub fn device_with_start_image(alloc: Global, start: Start<'_>) -> Result<RamDev
     }
 }
 
-/// A device with the same bytes.
+/// Returns a device in memory with the same bytes.
 pub fn copy_device(alloc: Global, device: &RamDevice) -> Result<RamDevice, Error> {
     let bytes = Vec::from_slice(alloc, device.bytes())?;
     RamDevice::from_bytes(device.geometry(), bytes)

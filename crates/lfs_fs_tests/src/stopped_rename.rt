@@ -1,4 +1,4 @@
-// A rename on a device that stops in it, and what is there then.
+// A test of the paths that exist after a power loss during a rename.
 
 use crate::recovery::rename_despite_stop;
 use crate::scenes::device_with_file_to_move;
@@ -7,8 +7,8 @@ use lfs_fs::{OpenFlags, mount};
 use std::alloc::Global;
 use std::test::Fail;
 
-// Whether a file is at its old path and at the new one, where the device stops at a program of the
-// rename.
+// Loses power at the `nth` program of a rename. Returns whether the file then exists at its old
+// path, and whether it exists at the new one.
 fn paths_found_after_stopped_rename(alloc: Global, nth: u64) -> Result<(bool, bool), Error> {
     let device = device_with_file_to_move(alloc, OpenFlags::WRITE | OpenFlags::CREATE)?;
     let stopping = FaultDevice::new(device, CountedCalls::Program, nth, true);

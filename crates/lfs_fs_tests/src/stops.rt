@@ -1,4 +1,5 @@
-// Scripts on devices that stop, and one on devices one of whose calls fails.
+// Tests of scripts on devices that lose power, and of one script on a device that fails in one
+// call.
 
 use crate::answers::ExpectedReply::Done;
 use crate::answers::Row;
@@ -16,12 +17,12 @@ use lfs_fs::{OpenFlags, mount};
 use std::alloc::Global;
 use std::test::Fail;
 
-// A small device made empty.
+// Returns a small device with an empty file system.
 fn small_formatted_device(alloc: Global) -> Result<RamDevice, Error> {
     device_with_start_image(alloc, Start::Fresh(1024, 128, 64))
 }
 
-// A copy of a device, one of whose calls fails, and each later one where it stops.
+// Returns a copy of a device whose `nth` call fails. If `stops` is true, all later calls fail too.
 fn device_copy_with_fault(
     alloc: Global,
     device: &RamDevice,
@@ -33,7 +34,8 @@ fn device_copy_with_fault(
     Ok(FaultDevice::new(copy, CountedCalls::Any, nth, stops))
 }
 
-// How many rows are carried out until the device stops, and the device.
+// Performs operations until the device loses power. Returns the number of completed operations, and
+// the device.
 fn run_operations_until_stop(
     alloc: Global,
     device: Faulty,
@@ -56,7 +58,8 @@ fn run_operations_until_stop(
     }
 }
 
-// How many operations are carried out, and whether a mount of what is left has lost nothing.
+// Performs a script on a device that loses power. Returns the number of completed operations, and
+// whether a mount of what is left shows that nothing was lost.
 fn outcome_of_stopped_script(
     alloc: Global,
     device: Faulty,
@@ -68,7 +71,7 @@ fn outcome_of_stopped_script(
     Ok((done, is_right))
 }
 
-// Copies that stop before their call of that number, in the middle of it, behind it.
+// Returns copies of a device that lose power before, during and after the `nth` call.
 fn device_copies_with_stop_planned_at_call(
     alloc: Global,
     device: &RamDevice,
@@ -81,7 +84,8 @@ fn device_copies_with_stop_planned_at_call(
     Ok([before, within, behind])
 }
 
-// Whether nothing is lost of a script on any of them, and whether all of it is carried out on each.
+// Performs a script with a power loss before, during and after the `nth` call. Returns whether
+// nothing was lost in any case, and whether the script was completed in each case.
 fn is_stop_at_call_survived(
     alloc: Global,
     device: &RamDevice,
@@ -99,7 +103,8 @@ fn is_stop_at_call_survived(
     Ok((are_right, are_whole))
 }
 
-// At how many calls the device may stop in these ways, and nothing is lost. None where something is.
+// Makes the device lose power at each of its calls, up to the first number of a call that the
+// script doesn't make. Returns that number, or None if a power loss destroyed something.
 fn count_survived_calls(
     alloc: Global,
     device: &RamDevice,
@@ -118,8 +123,8 @@ fn count_survived_calls(
     Ok(None)
 }
 
-// Whether it survives a stop at each call. The script makes five blocks twice, two of a directory, and
-// eight commits at least, in programs alone.
+// Returns whether the long script survives a power loss at each call. The script programs a file's
+// five blocks twice and a directory's two blocks, and makes at least eight commits.
 fn survives_stop_at_each_call(alloc: Global, erased: Erased) -> Result<bool, Error> {
     let rows = operations_of_long_script(OpenFlags::WRITE | OpenFlags::CREATE);
     let calls = count_survived_calls(
@@ -145,7 +150,8 @@ fn nothing_is_lost_where_a_device_stops(rt: HostRuntime) -> Result<(), Fail> {
     Ok(())
 }
 
-// Whether each of the other scripts survives it. They mount, and make two commits at least.
+// Returns whether the scripts that make a directory and remove files survive a power loss at each
+// call. Each script mounts and makes at least two commits.
 fn other_scripts_survive_stops(alloc: Global, new: OpenFlags) -> Result<bool, Error> {
     for (device, script) in &making_and_removing_scripts(alloc, new)? {
         let calls = count_survived_calls(alloc, device, Erased::Fill(0xff), script)?;
@@ -163,7 +169,8 @@ fn nothing_is_lost_in_other_scripts(rt: HostRuntime) -> Result<(), Fail> {
     Ok(())
 }
 
-// At how many calls the recovery of a device may stop, and its tree stays. None where it is lost.
+// Makes the device lose power at each call of a recovery. Returns the number of the first call that
+// the recovery doesn't make, or None if a power loss changed the tree.
 fn count_survived_in_recovery(
     alloc: Global,
     left: &RamDevice,
@@ -180,7 +187,9 @@ fn count_survived_in_recovery(
     count_survived_calls(alloc, left, Erased::Fill(0xff), &recovery)
 }
 
-// The same where a file is moved, and where a recovery of what a stop leaves is stopped in its turn.
+// Makes the device lose power at each call of a rename, and then at each call of the recovery that
+// follows. Returns the number of the first call that the rename doesn't make, or None if a power
+// loss destroyed something.
 fn count_survived_in_rename(alloc: Global, device: &RamDevice) -> Result<Option<u64>, Error> {
     let calls = count_survived_calls(alloc, device, Erased::Fill(0xff), &RENAMING)?;
     for nth in 1..calls.unwrap_or(0) {
@@ -207,8 +216,8 @@ fn nothing_is_lost_where_a_recovery_stops(rt: HostRuntime) -> Result<(), Fail> {
     Ok(())
 }
 
-// The same of the long script where one call fails: the session has failed, and a remount has lost
-// nothing.
+// Performs the long script on a device that fails in one call. Returns the number of completed
+// operations, and whether the session then failed and a remount showed that nothing was lost.
 fn outcome_of_script_with_failure(
     alloc: Global,
     empty: &RamDevice,
@@ -236,7 +245,8 @@ fn outcome_of_script_with_failure(
     }
 }
 
-// How many calls may fail, one at a time, and nothing is lost. None where something is.
+// Makes each call of the long script fail in turn. Returns the number of the first call that the
+// script doesn't make, or None if a failure destroyed something.
 fn count_reported_failures(alloc: Global) -> Result<Option<u64>, Error> {
     let rows = operations_of_long_script(OpenFlags::WRITE | OpenFlags::CREATE);
     let script = long_script(&rows);

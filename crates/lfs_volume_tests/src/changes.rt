@@ -1,4 +1,4 @@
-// Files that are read and written under several handles.
+// Tests that read and write files through several handles.
 
 use crate::rows::Call::{
     Close, Open, Position, Read, Remount, Seek, Size, Stat, Sync, Truncate, Write,
@@ -55,7 +55,7 @@ fn what_is_written_is_there_after_a_remount(rt: HostRuntime) -> Result<(), Fail>
         (Read(0, 99), Bytes(b"0123xy67\0\0\0\0z")),
         (Truncate(0, 2), Done),
         (Size(0), Number(2)),
-        // What isn't synced is lost.
+        // Changes that aren't synced are lost.
         (Remount, Done),
         (Open(b"/a", OpenFlags::READ), Number(0)),
         (Read(0, 99), Bytes(b"0123xy67\0\0\0\0z")),
@@ -108,7 +108,7 @@ fn flags_are_checked(rt: HostRuntime) -> Result<(), Fail> {
     Ok(())
 }
 
-// The longest file, and the last position, are 2,147,483,647 bytes without another limit.
+// Without another limit, a file's size and a position are at most 2,147,483,647 bytes.
 #[test]
 fn positions_sizes_and_handles_are_checked(rt: HostRuntime) -> Result<(), Fail> {
     let new = OpenFlags::READ | OpenFlags::WRITE | OpenFlags::CREATE;

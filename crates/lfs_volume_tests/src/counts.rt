@@ -1,4 +1,4 @@
-// What a sync calls of the device.
+// Tests of the device calls that a sync makes.
 
 use bitflags::Flags;
 use lfs_device::{CountedCalls, Error, FaultDevice, Geometry, RamDevice};
@@ -8,7 +8,8 @@ use std::test::Fail;
 
 type CountedDevice = FaultDevice<RamDevice>;
 
-// Makes a volume on a device that counts erases, with a file of 4,000 bytes that is open under 0.
+// Makes a volume on a device that counts erases, with a file of 4,000 bytes that is open as number
+// 0.
 fn volume_with_file(alloc: Global) -> Result<Volume<CountedDevice>, Error> {
     let device = RamDevice::blank(alloc, Geometry::new(1024, 128, 32)?)?;
     let counted = FaultDevice::new(device, CountedCalls::Erase, 1_000_000, false);
@@ -23,7 +24,7 @@ fn volume_with_file(alloc: Global) -> Result<Volume<CountedDevice>, Error> {
     Ok(volume)
 }
 
-// Returns how many erases a sync takes after that byte was changed.
+// Changes the byte at `at`, syncs, and returns the number of erases that the sync made.
 fn erases_of_sync(
     alloc: Global,
     volume: &mut Volume<CountedDevice>,
@@ -41,8 +42,9 @@ fn erases_of_sync(
     )
 }
 
-// In blocks of 1,024 bytes a list's blocks 0 to 3 hold 1,024, 1,020, 1,016 and 1,020 bytes: the
-// file takes 4 of them. Those before the first byte that differs stay.
+// In blocks of 1,024 bytes, the first four blocks of a CTZ skip-list hold 1,024, 1,020, 1,016 and
+// 1,020 bytes, so the file needs four blocks. A sync keeps the blocks before the first changed
+// byte.
 #[test]
 fn a_sync_stores_what_differs(rt: HostRuntime) -> Result<(), Fail> {
     let mut volume = volume_with_file(rt.alloc())?;

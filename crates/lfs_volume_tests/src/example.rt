@@ -1,4 +1,4 @@
-// The example of docs/LIBRARY.md.
+// The example in docs/LIBRARY.md.
 
 use bitflags::Flags;
 use lfs_device::{Error, Geometry, RamDevice};

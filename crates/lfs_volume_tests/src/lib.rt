@@ -1,5 +1,5 @@
 // SPDX-License-Identifier: BSD-3-Clause
-//! Tests of volumes, as rows of calls with the answers that are wanted.
+//! Tests of volumes, each a list of calls with their expected results.
 #![tactic(auto)]
 
 #[cfg(test)]

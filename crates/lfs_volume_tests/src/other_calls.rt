@@ -1,4 +1,4 @@
-// Calls that are those of a session, and the forms of a mount.
+// Tests of the calls that a volume forwards to its session, and of the ways to mount.
 
 use crate::rows::new_volume;
 use bitflags::Flags;
@@ -10,7 +10,7 @@ use lfs_volume::{
 use std::alloc::Global;
 use std::test::Fail;
 
-// A format uses two blocks, and a directory two more.
+// A format uses two blocks, and a directory uses two more.
 #[test]
 fn entries_and_blocks_are_the_session_s(rt: HostRuntime) -> Result<(), Fail> {
     let alloc = rt.alloc();
@@ -47,7 +47,7 @@ fn a_buffer_is_filled_from_its_beginning(rt: HostRuntime) -> Result<(), Fail> {
     Ok(())
 }
 
-// The limits are littlefs's own where no profile says others.
+// Without another profile, the limits are littlefs's own.
 fn has_own_limits(superblock: Superblock) -> bool {
     superblock.block_size == 1024
         && superblock.block_count == 16

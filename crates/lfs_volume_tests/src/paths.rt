@@ -1,4 +1,4 @@
-// Files that are renamed, replaced and removed while they are open.
+// Tests that rename, replace and remove files while they are open.
 
 use crate::rows::Call::{Close, Mkdir, Open, Read, Remove, Rename, Seek, Stat, Sync, Write};
 use crate::rows::Want::{Bytes, Done, Number, Refused};
@@ -74,7 +74,7 @@ fn a_replaced_file_keeps_its_bytes_for_its_handles(rt: HostRuntime) -> Result<()
     Ok(())
 }
 
-// Refused calls leave the open files where they are.
+// A refused call doesn't change the paths of open files.
 #[test]
 fn refused_renames_and_removes_change_nothing(rt: HostRuntime) -> Result<(), Fail> {
     let new = OpenFlags::READ | OpenFlags::WRITE | OpenFlags::CREATE;

@@ -1,10 +1,10 @@
-// Calls of a volume, with the answers that are wanted.
+// Calls of a volume with their expected results.
 
 use lfs_device::{BlockDevice, Error, Geometry, RamDevice};
 use lfs_volume::{OpenFlags, Volume, format};
 use std::alloc::Global;
 
-/// A call of a volume. Its name is that of the call, and its fields are the call's arguments.
+/// A call of a volume. Each variant has the name of a method, and its fields are the arguments.
 #[derive(Clone, Copy)]
 pub enum Call<'a> {
     Open(&'a [u8], OpenFlags),
@@ -24,7 +24,7 @@ pub enum Call<'a> {
     Remount,
 }
 
-/// What a call is to answer.
+/// The expected result of a call.
 #[derive(Clone, Copy)]
 pub enum Want<'a> {
     Done,
@@ -33,7 +33,7 @@ pub enum Want<'a> {
     Refused(Error),
 }
 
-/// A call with its answer.
+/// A call and its expected result.
 pub type Row<'a> = (Call<'a>, Want<'a>);
 
 fn is_done(answer: Result<(), Error>, want: Want<'_>) -> bool {
@@ -69,7 +69,7 @@ fn is_size<D: BlockDevice>(
     }
 }
 
-// Whether a call gives the answer that is wanted.
+// Returns whether a call has the expected result.
 fn is_wanted<D: BlockDevice>(
     alloc: Global,
     volume: &mut Volume<D>,
@@ -94,7 +94,7 @@ fn is_wanted<D: BlockDevice>(
     }
 }
 
-/// Plays the rows on a volume, and returns the index of the first one with another answer.
+/// Performs the calls on a volume. Returns the index of the first call with an unexpected result.
 pub fn first_wrong_row<D: BlockDevice>(
     alloc: Global,
     volume: &mut Volume<D>,
@@ -108,7 +108,7 @@ pub fn first_wrong_row<D: BlockDevice>(
     None
 }
 
-/// Makes a volume on a device in memory, of that many blocks of 1,024 bytes.
+/// Makes a volume on a device in memory with `block_count` blocks of 1,024 bytes.
 pub fn new_volume(alloc: Global, block_count: u32) -> Result<Volume<RamDevice>, Error> {
     let device = RamDevice::blank(alloc, Geometry::new(1024, 128, block_count)?)?;
     match format(alloc, device) {
@@ -117,7 +117,8 @@ pub fn new_volume(alloc: Global, block_count: u32) -> Result<Volume<RamDevice>, 
     }
 }
 
-/// Plays the rows on a new volume, and returns the index of the first one with another answer.
+/// Performs the calls on a new volume. Returns the index of the first call with an unexpected
+/// result.
 pub fn first_wrong_row_on_new(
     alloc: Global,
     block_count: u32,

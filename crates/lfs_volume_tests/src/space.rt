@@ -1,4 +1,4 @@
-// Files that have no room, and devices that fail.
+// Tests of files that don't fit on the device, and of devices that fail.
 
 use crate::rows::Call::{Close, Open, Read, Remount, Size, Stat, Sync, Truncate, Write};
 use crate::rows::Want::{Bytes, Done, Number, Refused};
@@ -9,8 +9,8 @@ use lfs_volume::{OpenFlags, format};
 use std::alloc::Global;
 use std::test::Fail;
 
-// Eight blocks have six free ones: a file of four blocks is stored with the two that are held beside
-// it, and one of five isn't.
+// After a format, six of eight blocks are free. A sync reserves two free blocks, so a file of four
+// blocks can be stored, and a file of five can't.
 #[test]
 fn a_sync_without_room_changes_nothing(rt: HostRuntime) -> Result<(), Fail> {
     let new = OpenFlags::READ | OpenFlags::WRITE | OpenFlags::CREATE;
@@ -37,7 +37,7 @@ fn a_sync_without_room_changes_nothing(rt: HostRuntime) -> Result<(), Fail> {
     Ok(())
 }
 
-// A close that is refused frees the handle. Another handle still has the bytes, and stores them.
+// A refused close frees the handle. Another handle still has the bytes, and can store them.
 #[test]
 fn a_refused_close_leaves_bytes_to_other_handles(rt: HostRuntime) -> Result<(), Fail> {
     let new = OpenFlags::READ | OpenFlags::WRITE | OpenFlags::CREATE;

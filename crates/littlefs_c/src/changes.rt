@@ -1,4 +1,4 @@
-// The changes of a volume's image, for C to make the same ones on a flash of its own.
+// Calls that fetch the changes of a volume's image, so that C can apply them to its own flash.
 
 ghost use Rattle.std.specs.Prelude.{◌≡◌, ◌<◌, ◌^◌, IfNone, IfSome, List};
 ghost use Rattle.lfs_model.specs.session.History.{DeviceCall};
@@ -13,8 +13,9 @@ use lfs_volume::Volume;
 use littlefs_values::{CLOSED, copy_if_fitting};
 use std::alloc::Global;
 
-/// A change as C sees it: 1 for a program and 2 for an erase, the block, the offset in it, and how
-/// many bytes are programmed there.
+/// A change in the form that C reads: a program if `kind` is 1, or an erase if it is 2. `offset` is
+/// the first programmed byte in the block, and `len` the number of programmed bytes. For an erase,
+/// `offset` and `len` are 0.
 #[repr(C)]
 #[derive(Drop)]
 pub struct ShownChange {
@@ -24,14 +25,14 @@ pub struct ShownChange {
     pub len: usize,
 }
 
-/// What a fetch of a change gave.
+/// The result of fetching a change.
 pub enum Fetched {
     Change,
     NoneYet,
     NotKept,
 }
 
-// Minus the number of what is answered where a change isn't kept.
+// The code that is returned if a change isn't kept.
 const NOT_KEPT: i64 = -202;
 
 fn fetched_code(fetched: Fetched) -> i64
@@ -54,7 +55,7 @@ fn change_number_code(number: Option<u64>) -> i64
     }
 }
 
-// Shows a change, and puts its bytes into a buffer, if all of them fit.
+// Writes a change to `shown`, and copies its bytes to a buffer if all of them fit.
 fn show_change(change: &Change, shown: &mut ShownChange, buffer: &mut [u8])
     ensures shown { IsShownChange (change_call change.now) shown.new }
     ensures buffer { buffer.new ≡ buffer_after_change (change_call change.now) buffer.old }
@@ -80,7 +81,7 @@ fn show_change(change: &Change, shown: &mut ShownChange, buffer: &mut [u8])
     }
 }
 
-// Fetches the change of that number. Those before it aren't wanted any more.
+// Fetches the change with this number, and marks all earlier changes as unwanted.
 fn fetch_change(notes: &Notes, number: u64, shown: &mut ShownChange, buffer: &mut [u8]) -> Fetched
     ensures { (calls : List DeviceCall) → AreNoted notes.now.first notes.now.changes.items calls → FetchesChange calls number result shown.old shown.new buffer.old buffer.new }
 {
@@ -97,7 +98,7 @@ fn fetch_change(notes: &Notes, number: u64, shown: &mut ShownChange, buffer: &mu
     }
 }
 
-// Fetches the change of a volume's image that has that number.
+// Fetches the change with this number from a volume's record.
 fn fetch_volume_change(
     volume: &Volume<HeldDevice>,
     number: u64,
@@ -109,7 +110,7 @@ fn fetch_volume_change(
     fetch_change(volume.device().inner().notes(), number, shown, buffer)
 }
 
-// Keeps the changes of a volume's image from the next one on. Returns its number.
+// Keeps the changes of a volume's image from the next one on, and returns that change's number.
 fn next_change_number(volume: &Volume<HeldDevice>) -> Option<u64>
     ensures number { IsNextChange (history_writes volume.now.session.tree.history) result }
     ensures small { IfSome result (λ n. n < 2 ^ 63) }
@@ -117,14 +118,14 @@ fn next_change_number(volume: &Volume<HeldDevice>) -> Option<u64>
     volume.device().inner().notes().begin()
 }
 
-/// Keeps the changes of the image from the next one on, where none are kept yet, and returns the
-/// number of the next one. Changes are numbered from 0 on since the mount, in the order in which they
-/// are made.
+/// Keeps changes of the image from the next one on, unless they are already kept. Returns the
+/// number of the next change. Changes are numbered from 0 in the order in which they are made since
+/// the mount.
 ///
 /// # Errors
 ///
-/// 77 where nothing is mounted. 202 where there are no numbers any more, after 2 to the 62nd
-/// changes.
+/// Returns -77 if nothing is mounted, and -202 after 2^62 changes, when change numbers have run
+/// out.
 #[unsafe(no_mangle)]
 pub extern "C" fn lfs_c_note_changes(alloc: Global, volume: &mut Handle) -> i64
     ensures { CallsVolume (IsChangeNumber result) result volume.old.slot.mounted volume.new.slot.mounted }
@@ -137,15 +138,15 @@ pub extern "C" fn lfs_c_note_changes(alloc: Global, volume: &mut Handle) -> i64
     change_number_code(answer)
 }
 
-/// Shows the change of that number, puts its bytes into the buffer, if all of them fit, and returns
-/// 1; or 0 where there is no change of that number yet. Changes before that number aren't wanted
-/// any more, and may be discarded.
+/// Reads the change with this number into `change`, copies its bytes to the buffer if they fit, and
+/// returns 1. Returns 0 if no change has this number yet. Marks all earlier changes as unwanted, so
+/// that they may be dropped.
 ///
 /// # Errors
 ///
-/// 77 if nothing is mounted. 202 if the change isn't kept: none were kept then, a later one was
-/// wanted, or memory wasn't granted for it or for a later one. The arguments are then left
-/// untouched.
+/// Returns -77 if nothing is mounted. Returns -202 if the change isn't kept: it was made before
+/// [`lfs_c_note_changes`], a later change was already requested, or memory couldn't be allocated
+/// for this change or a later one. On error, `change` and `buffer` don't change.
 #[unsafe(no_mangle)]
 pub extern "C" fn lfs_c_fetch_change(
     alloc: Global,

@@ -1,4 +1,4 @@
-// Open directories: lists of entries, each with a position.
+// Open directories, each a list of entries with a position.
 
 ghost use Rattle.std.specs.Prelude.{◌≡◌, ◌<◌, ◌^◌, IfErr, IfOk};
 ghost use Rattle.lfs_volume.specs.Calls.{free_entry, with_entry};
@@ -11,8 +11,8 @@ use lfs_volume::{Error, Item, Volume};
 use std::alloc::Global;
 use std::marker::Model;
 
-/// An open directory: its path, its entries at the time of the listing, and its position, the index
-/// of the entry that is read next.
+/// An open directory: its path, its entries when they were listed, and its position, the index of
+/// the next entry to read.
 #[derive(Drop)]
 pub struct Directory {
     path: Vec<u8>,
@@ -31,7 +31,7 @@ impl Model for Directory {
     ghost invariant = { λ d. d.position ≤ length d.items.items };
 }
 
-// Returns the least free number.
+// Returns the lowest free number.
 fn free_number(directories: &[Option<Directory>]) -> usize
     ensures { result ≡ free_entry directories.now }
 {
@@ -45,8 +45,8 @@ fn free_number(directories: &[Option<Directory>]) -> usize
     number
 }
 
-// Returns an open directory with these entries, at position 0. Errors: `NoMemory` if memory isn't
-// granted.
+// Returns an open directory with these entries, at position 0. Errors: `NoMemory` if memory can't
+// be allocated.
 fn new_directory(alloc: Global, path: &[u8], items: Vec<Item>) -> Result<Directory, Error>
     ensures is { IfOk result (λ d. d ≡ opened_directory path.now items.items) }
     ensures none { IfErr result (λ e. e ≡ Error.NoMemory) }
@@ -61,8 +61,8 @@ fn new_directory(alloc: Global, path: &[u8], items: Vec<Item>) -> Result<Directo
     }
 }
 
-// Stores a directory under a free number, or appends it if the table is shorter. Errors: `NoMemory`
-// if memory isn't granted; the table is unchanged then.
+// Stores a directory under a free number, and extends the table by one if `number` is its length.
+// Errors: `NoMemory` if memory can't be allocated; the table doesn't change then.
 fn put_directory(
     directories: &mut Vec<Option<Directory>>,
     number: usize,
@@ -81,8 +81,8 @@ fn put_directory(
     }
 }
 
-// Stores a listing as an open directory. Returns its number, the least that is free. Errors: the
-// listing's own, and `NoMemory` if memory isn't granted.
+// Stores a listing as an open directory, and returns its number, the lowest that is free. Errors:
+// the error in `answer`. `NoMemory` if memory can't be allocated.
 pub(crate) fn keep_listing(
     alloc: Global,
     directories: &mut Vec<Option<Directory>>,
@@ -101,8 +101,8 @@ pub(crate) fn keep_listing(
     Ok(number as u32)
 }
 
-// Copies the entry at a directory's position to `shown` and `name`, and moves to the next one.
-// Returns false if there is no entry.
+// Copies the entry at a directory's position to `shown` and `name`, and advances the position.
+// Returns false at the end of the list.
 fn read_next(directory: &mut Directory, shown: &mut ShownEntry, name: &mut [u8]) -> bool
     ensures { ShowsNext directory.old result directory.new shown.old shown.new name.old name.new }
 {
@@ -115,8 +115,8 @@ fn read_next(directory: &mut Directory, shown: &mut ShownEntry, name: &mut [u8])
     true
 }
 
-// Reads the next entry of the directory with that number, as `read_next` does. `BadFile` if no such
-// directory is open.
+// Reads the next entry of the open directory with this number, as `read_next` does. Errors:
+// `BadFile` if no directory is open under the number.
 pub(crate) fn read_directory(
     directories: &mut Vec<Option<Directory>>,
     number: u32,
@@ -135,8 +135,8 @@ pub(crate) fn read_directory(
     }
 }
 
-// Sets the position of the directory with that number. `BadFile` if no such directory is open,
-// `Invalid` if the position is more than the number of its entries.
+// Sets the position of the open directory with this number. Errors: `BadFile` if no directory is
+// open under the number. `Invalid` if `position` is greater than the number of entries.
 pub(crate) fn seek_directory(
     directories: &mut Vec<Option<Directory>>,
     number: u32,
@@ -160,7 +160,8 @@ pub(crate) fn seek_directory(
     }
 }
 
-// Returns the position of the directory with that number. `BadFile` if no such directory is open.
+// Returns the position of the open directory with this number. Errors: `BadFile` if no directory is
+// open under the number.
 pub(crate) fn directory_position(
     directories: &[Option<Directory>],
     number: u32,
@@ -174,7 +175,7 @@ pub(crate) fn directory_position(
     }
     match &directories[index] {
         Some(directory) => {
-            // Bounds the position for the proof: a list has fewer than 2 to the 63rd entries.
+            // Bounds the position for the proof: a list has fewer than 2^63 entries.
             let _count = directory.items.len();
             Ok(directory.position)
         }
@@ -182,7 +183,7 @@ pub(crate) fn directory_position(
     }
 }
 
-// Lists a directory again, and sets its position to 0. Errors: those of the volume's `list`.
+// Lists a directory again, and sets its position to 0. Errors: those of `Volume::list`.
 fn list_again(
     alloc: Global,
     volume: &mut Volume<HeldDevice>,
@@ -196,8 +197,8 @@ fn list_again(
     Ok(())
 }
 
-// Lists the directory with that number again, and sets its position to 0. `BadFile` if no such
-// directory is open, and the errors of the volume's `list`.
+// Lists the open directory with this number again, and sets its position to 0. Errors: `BadFile` if
+// no directory is open under the number. Otherwise those of `Volume::list`.
 pub(crate) fn rewind_directory(
     alloc: Global,
     volume: &mut Volume<HeldDevice>,
@@ -216,7 +217,8 @@ pub(crate) fn rewind_directory(
     }
 }
 
-// Closes the directory with that number. `BadFile` if no such directory is open.
+// Closes the directory with this number. Errors: `BadFile` if no directory is open under the
+// number.
 pub(crate) fn close_directory(
     directories: &mut Vec<Option<Directory>>,
     number: u32,

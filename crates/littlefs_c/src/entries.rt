@@ -1,4 +1,4 @@
-// The calls about what is at a path.
+// Calls on the file or directory at a path.
 
 ghost use Rattle.std.specs.Prelude.{◌≡◌, IfNone};
 ghost use Rattle.lfs_model.specs.session.Operations as ops;
@@ -13,7 +13,8 @@ use std::alloc::Global;
 ///
 /// # Errors
 ///
-/// 77 where nothing is mounted, and the errors of a volume's `stat` (docs/OPERATIONS.md).
+/// Returns -77 if nothing is mounted, or the negated number of the error that `Volume::stat`
+/// returns (docs/OPERATIONS.md).
 #[unsafe(no_mangle)]
 pub extern "C" fn lfs_c_stat_at(alloc: Global, volume: &mut Handle, path: &[u8]) -> i64
     ensures { CallsVolume (IsStatCall path.now result) result volume.old.slot.mounted volume.new.slot.mounted }
@@ -26,15 +27,16 @@ pub extern "C" fn lfs_c_stat_at(alloc: Global, volume: &mut Handle, path: &[u8])
     size_code(answer)
 }
 
-/// Puts a line for each entry of a directory into the buffer, if all lines fit, and returns how
-/// many bytes they are. A line is `f SIZE NAME` for a file and `d 0 NAME` for a directory, in name
-/// order, the shorter names first. The bytes of a name from the space to `~` stand for themselves;
-/// the backslash and all others are `\xNN`. Where the lines don't fit, the buffer is as it was.
+/// Writes one line for each entry of a directory to the buffer if all lines fit, and returns their
+/// total length in bytes. A line is `f SIZE NAME` for a file and `d 0 NAME` for a directory. Lines
+/// are in name order: a name precedes all longer names that begin with it. In a name, the backslash
+/// and each byte outside of the range from the space to `~` are written as `\xNN`. Doesn't change
+/// the buffer if the lines don't fit.
 ///
 /// # Errors
 ///
-/// 77 where nothing is mounted, and the errors of a volume's `list` (docs/OPERATIONS.md). The
-/// buffer is as it was after an error.
+/// Returns -77 if nothing is mounted, or the negated number of the error that `Volume::list`
+/// returns (docs/OPERATIONS.md). On error, the buffer doesn't change.
 #[unsafe(no_mangle)]
 pub extern "C" fn lfs_c_list_at(
     alloc: Global,
@@ -53,11 +55,12 @@ pub extern "C" fn lfs_c_list_at(
     room_code(fill_with_lines(alloc, answer, buffer))
 }
 
-/// Makes an empty directory. Returns 0.
+/// Makes an empty directory, and returns 0.
 ///
 /// # Errors
 ///
-/// 77 where nothing is mounted, and the errors of a volume's `mkdir` (docs/OPERATIONS.md).
+/// Returns -77 if nothing is mounted, or the negated number of the error that `Volume::mkdir`
+/// returns (docs/OPERATIONS.md).
 #[unsafe(no_mangle)]
 pub extern "C" fn lfs_c_mkdir_at(alloc: Global, volume: &mut Handle, path: &[u8]) -> i64
     ensures { CallsVolume (IsUnitOperation (ops.Mkdir path.now) result) result volume.old.slot.mounted volume.new.slot.mounted }
@@ -70,11 +73,12 @@ pub extern "C" fn lfs_c_mkdir_at(alloc: Global, volume: &mut Handle, path: &[u8]
     unit_code(answer)
 }
 
-/// Removes a file, or a directory without entries. Returns 0.
+/// Removes a file or an empty directory, and returns 0.
 ///
 /// # Errors
 ///
-/// 77 where nothing is mounted, and the errors of a volume's `remove` (docs/OPERATIONS.md).
+/// Returns -77 if nothing is mounted, or the negated number of the error that `Volume::remove`
+/// returns (docs/OPERATIONS.md).
 #[unsafe(no_mangle)]
 pub extern "C" fn lfs_c_remove_at(alloc: Global, volume: &mut Handle, path: &[u8]) -> i64
     ensures { CallsVolume (IsUnitCall (calls.Perform (ops.Remove path.now)) result) result volume.old.slot.mounted volume.new.slot.mounted }
@@ -87,12 +91,13 @@ pub extern "C" fn lfs_c_remove_at(alloc: Global, volume: &mut Handle, path: &[u8
     unit_code(answer)
 }
 
-/// Renames an entry. A file at the new path is replaced by a file, and a directory without entries
-/// by a directory. Returns 0.
+/// Renames an entry, and returns 0. A file replaces a file at the new path, and a directory
+/// replaces an empty directory.
 ///
 /// # Errors
 ///
-/// 77 where nothing is mounted, and the errors of a volume's `rename` (docs/OPERATIONS.md).
+/// Returns -77 if nothing is mounted, or the negated number of the error that `Volume::rename`
+/// returns (docs/OPERATIONS.md).
 #[unsafe(no_mangle)]
 pub extern "C" fn lfs_c_rename_at(alloc: Global, volume: &mut Handle, from: &[u8], to: &[u8]) -> i64
     ensures { CallsVolume (IsUnitCall (calls.Perform (ops.Rename from.now to.now)) result) result volume.old.slot.mounted volume.new.slot.mounted }
@@ -105,13 +110,13 @@ pub extern "C" fn lfs_c_rename_at(alloc: Global, volume: &mut Handle, from: &[u8
     unit_code(answer)
 }
 
-/// Puts the bytes of an entry's attribute of type `kind` into the buffer, if all of them fit, and
-/// returns how many they are. Where they don't fit, the buffer is as it was.
+/// Copies an entry's attribute of type `kind` to the buffer if it fits, and returns the attribute's
+/// length in bytes. Doesn't change the buffer if the attribute doesn't fit.
 ///
 /// # Errors
 ///
-/// 77 where nothing is mounted, and the errors of a volume's `get_attr` (docs/OPERATIONS.md).
-/// The buffer is as it was after an error.
+/// Returns -77 if nothing is mounted, or the negated number of the error that `Volume::get_attr`
+/// returns (docs/OPERATIONS.md). On error, the buffer doesn't change.
 #[unsafe(no_mangle)]
 pub extern "C" fn lfs_c_get_attr_at(
     alloc: Global,
@@ -131,12 +136,13 @@ pub extern "C" fn lfs_c_get_attr_at(
     fill_with_bytes(answer, buffer)
 }
 
-/// Sets an entry's attribute of type `kind`, in place of the one of that type, if it has one.
-/// Returns 0.
+/// Sets an entry's attribute of type `kind`, or replaces it if the entry already has one. Returns
+/// 0.
 ///
 /// # Errors
 ///
-/// 77 where nothing is mounted, and the errors of a volume's `set_attr` (docs/OPERATIONS.md).
+/// Returns -77 if nothing is mounted, or the negated number of the error that `Volume::set_attr`
+/// returns (docs/OPERATIONS.md).
 #[unsafe(no_mangle)]
 pub extern "C" fn lfs_c_set_attr_at(
     alloc: Global,
@@ -155,12 +161,12 @@ pub extern "C" fn lfs_c_set_attr_at(
     unit_code(answer)
 }
 
-/// Removes an entry's attribute of type `kind`. Returns 0.
+/// Removes an entry's attribute of type `kind`, and returns 0.
 ///
 /// # Errors
 ///
-/// 77 where nothing is mounted, and the errors of a volume's `remove_attr`
-/// (docs/OPERATIONS.md).
+/// Returns -77 if nothing is mounted, or the negated number of the error that `Volume::remove_attr`
+/// returns (docs/OPERATIONS.md).
 #[unsafe(no_mangle)]
 pub extern "C" fn lfs_c_remove_attr_at(
     alloc: Global,

@@ -1,4 +1,4 @@
-// A volume as C holds it.
+// A volume as C keeps it.
 
 ghost use Rattle.std.specs.Prelude.{◌≡◌, Option, None, Some, option_map};
 ghost use Rattle.littlefs_c.specs.HandleSlots.{mounted_count};
@@ -10,7 +10,8 @@ use std::alloc::Global;
 use std::mem::replace;
 use std::ptr::null_mut;
 
-/// What C holds: all zeros while nothing is mounted. It may go to another thread.
+/// The struct that C keeps for a volume. The struct is all zeros while nothing is mounted, and may
+/// be sent to another thread.
 #[repr(C)]
 pub struct Handle {
     pub slot: Slot,
@@ -28,7 +29,7 @@ impl Handle {
         }
     }
 
-    // Takes the volume out.
+    // Returns the handle's mounted image, or None if nothing is mounted.
     fn into_mounted(self) -> Option<Box<Mounted, Global>>
         ensures { option_map (λ b. b.value) result ≡ self.slot.mounted }
     {
@@ -47,12 +48,14 @@ impl Drop for Handle {
     }
 }
 
-// Apart, since the check plans no call of `null_mut` where structs are about.
+// A function of its own, because the checker can't plan a call of `null_mut` in a function that
+// builds structs.
 fn null() -> *mut u8 {
     null_mut()
 }
 
-// Takes the volume out of a handle. Nothing is mounted there then.
+// Takes the mounted image out of a handle, which is then empty. Returns None if the handle was
+// already empty.
 pub(crate) fn take_volume(alloc: Global, handle: &mut Handle) -> Option<Box<Mounted, Global>>
     ensures taken { option_map (λ b. b.value) result ≡ handle.old.slot.mounted }
     ensures left { handle.new.slot.mounted ≡ None }
@@ -61,7 +64,7 @@ pub(crate) fn take_volume(alloc: Global, handle: &mut Handle) -> Option<Box<Moun
     replace(handle, Handle { slot, is_open: 0 }).into_mounted()
 }
 
-// Puts a volume into a handle. One that was there is unmounted.
+// Puts a mounted image into a handle, and unmounts the image that was there.
 pub(crate) fn put_volume(handle: &mut Handle, b: Box<Mounted, Global>)
     ensures { handle.new.slot.mounted ≡ Some b.value }
 {

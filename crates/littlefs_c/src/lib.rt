@@ -1,5 +1,6 @@
 // SPDX-License-Identifier: BSD-3-Clause
-//! littlefs over images in memory, to be called from C: volumes that C keeps a handle of.
+//! Functions that C calls to mount, read and change littlefs images in memory. C keeps each mounted
+//! image in a `Handle`. Each function returns 0 or more, or the negated number of an error.
 #![tactic(auto)]
 
 mod changes;

@@ -1,10 +1,10 @@
-// The state behind a handle in C.
+// What a handle in C points to.
 
 use crate::directories::Directory;
 use crate::noted::HeldDevice;
 use lfs_volume::Volume;
 
-/// A mounted image: a volume, and its open directories by their numbers.
+/// A mounted image: its volume, and its open directories indexed by number.
 #[derive(Drop)]
 pub struct Mounted {
     pub volume: Volume<HeldDevice>,

@@ -1,4 +1,4 @@
-// A device that records its programs and erases, and the device behind a handle in C.
+// A device that records its programs and erases, and the device of an image that C has mounted.
 
 ghost use Rattle.std.specs.Prelude.{◌≡◌, []};
 ghost use Rattle.lfs_device.specs.RamDevice.{ram_history};
@@ -9,8 +9,7 @@ use crate::notes::Notes;
 use lfs_device::{BlockDevice, Error, Geometry, Profile, Profiled, RamDevice};
 use std::alloc::Global;
 
-/// A device that records its programs and erases, in order. Its blocks and calls are those of the
-/// device below.
+/// A device that forwards all calls to an inner device, and records programs and erases in order.
 #[derive(Drop)]
 pub struct Noted<D: BlockDevice> {
     inner: D,
@@ -19,7 +18,7 @@ pub struct Noted<D: BlockDevice> {
 }
 
 impl<D: BlockDevice> Noted<D> {
-    /// Wraps a device that has had no call, and records its programs and erases.
+    /// Wraps a device that hasn't been called yet, and records its programs and erases.
     pub fn new(alloc: Global, inner: D) -> Noted<D>
         requires { D.history inner ≡ [] }
         ensures { result.inner ≡ inner }
@@ -30,14 +29,14 @@ impl<D: BlockDevice> Noted<D> {
         }
     }
 
-    /// Borrows the device below.
+    /// Borrows the inner device.
     pub fn inner(&self) -> &D
         ensures { result.now ≡ self.now.inner }
     {
         &self.inner
     }
 
-    /// Borrows the record.
+    /// Borrows the record of programs and erases.
     pub fn notes(&self) -> &Notes
         ensures { AreNoted result.now.first result.now.changes.items (history_writes (D.history self.now.inner)) }
     {
@@ -82,10 +81,11 @@ impl<D: BlockDevice> BlockDevice for Noted<D> {
     }
 }
 
-/// The device behind a handle in C: one in memory, with a record of its changes, and a profile.
+/// The device of an image that C has mounted: a [`RamDevice`] with a record of its changes and a
+/// profile.
 pub type HeldDevice = Profiled<Noted<RamDevice>>;
 
-// Returns such a device over one in memory that has had no call.
+// Returns a `HeldDevice` over a device in memory that hasn't been called yet.
 pub(crate) fn held_device(alloc: Global, ram: RamDevice, profile: Profile) -> HeldDevice
     requires { ram_history ram ≡ [] }
     ensures ram { result.inner.inner ≡ ram }

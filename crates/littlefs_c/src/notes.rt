@@ -1,4 +1,4 @@
-// A record of a device's programs and erases, for C.
+// A record of a device's programs and erases, which C can fetch.
 
 ghost use Rattle.std.specs.Prelude.{◌≡◌, ◌≤◌, ◌<◌, ◌+◌, ◌^◌, ◌∷◌, ◌++◌, [], List, IfSome, length, slice_get, Some, true};
 ghost use Rattle.lfs_model.specs.session.History.{DeviceCall};
@@ -8,35 +8,37 @@ ghost use Rattle.littlefs_c.specs.ChangeLog.{AreNoted, change_call};
 use std::alloc::Global;
 use std::cell::Cell;
 
-// The first number that no change gets, 2 to the 62nd.
+// 2^62, the largest value of `first`. Once `first` reaches it, change numbers have run out.
 const NUMBERS: u64 = 4_611_686_018_427_387_904;
 
-// The value of `wanted` before anybody wants changes: none is kept.
+// The value of `wanted` until a caller asks for changes. No change is kept until then.
 const NONE_WANTED: u64 = u64::MAX;
 
-/// A change of a block.
+/// One change of a block.
 #[derive(Drop)]
 pub enum Change {
-    /// A program: the block, the offset in it in bytes, and the programmed bytes.
+    /// A program of a block: its index, the offset in bytes, and the programmed bytes.
     Program(u32, u32, Vec<u8>),
-    /// An erase of this block.
+    /// An erase of the block with this index.
     Erase(u32),
 }
 
-/// The newest changes of a device, the oldest of them first. Changes are numbered from 0. They may
-/// be dropped once only later ones are wanted.
+/// The latest changes of a device, oldest first. Changes are numbered from 0. A change may be
+/// dropped once its reader wants only later ones.
 #[derive(Drop)]
 pub struct Notes {
     alloc: Global,
     first: u64,
     changes: Vec<Change>,
-    // The number from which on changes are wanted. A `Cell`, since callers only borrow the device.
+    // The number of the first change that is wanted. A `Cell`, because callers only borrow the
+    // device.
     wanted: Cell<u64>,
     ghost small: { first ≤ 2 ^ 62 },
 }
 
 impl Notes {
-    /// Returns the record of a device without any program or erase. No change is kept.
+    /// Returns an empty record for a device without any program or erase. Keeps no changes until
+    /// `begin` is called.
     pub fn new(alloc: Global) -> Notes
         ensures { AreNoted result.first result.changes.items [] }
     {
@@ -63,7 +65,7 @@ impl Notes {
         self.changes.clear();
     }
 
-    // Drops all changes if none of them is wanted any more.
+    // Drops all changes if none of them is wanted.
     fn let_go(&mut self)
         ensures { (before : List DeviceCall) → AreNoted self.old.first self.old.changes.items before → AreNoted self.new.first self.new.changes.items before }
     {
@@ -74,7 +76,7 @@ impl Notes {
         }
     }
 
-    // Keeps a change. Drops it and all others if memory isn't granted.
+    // Appends a change. Drops all changes, including this one, if memory can't be allocated.
     fn keep_change(&mut self, change: Change)
         ensures { (before : List DeviceCall) → AreNoted self.old.first self.old.changes.items before → AreNoted self.new.first self.new.changes.items (before ++ change_call change ∷ []) }
     {
@@ -84,7 +86,8 @@ impl Notes {
         }
     }
 
-    /// Counts a program, and keeps it if changes are wanted and memory for it is granted.
+    /// Counts a program. Also keeps the program if a caller asked for changes and memory can be
+    /// allocated.
     pub fn note_program(&mut self, block: u32, off: u32, bytes: &[u8])
         ensures { (before : List DeviceCall) → AreNoted self.old.first self.old.changes.items before → AreNoted self.new.first self.new.changes.items (before ++ Program block off bytes.now ∷ []) }
     {
@@ -98,7 +101,8 @@ impl Notes {
         }
     }
 
-    /// Counts an erase, and keeps it if changes are wanted and memory for it is granted.
+    /// Counts an erase. Also keeps the erase if a caller asked for changes and memory can be
+    /// allocated.
     pub fn note_erase(&mut self, block: u32)
         ensures { (before : List DeviceCall) → AreNoted self.old.first self.old.changes.items before → AreNoted self.new.first self.new.changes.items (before ++ Erase block ∷ []) }
     {
@@ -109,8 +113,8 @@ impl Notes {
         }
     }
 
-    /// Keeps changes from the next one on, unless some are wanted already. Returns the number of
-    /// the next change, or None if there are no numbers left.
+    /// Returns the number of the next change, or None if change numbers have run out. Keeps changes
+    /// from that number on, unless a caller already asked for changes.
     pub fn begin(&self) -> Option<u64>
         ensures number { IfSome result (λ n. (calls : List DeviceCall) → AreNoted self.now.first self.now.changes.items calls → n ≡ length calls) }
         ensures small { IfSome result (λ n. n < 2 ^ 63) }
@@ -125,20 +129,20 @@ impl Notes {
         Some(next)
     }
 
-    /// Says that no change before `number` is wanted any more. Such changes may be dropped when the
-    /// next one is recorded.
+    /// Marks all changes before `number` as unwanted, so that the record may drop them.
     pub fn want(&self, number: u64) {
         self.wanted.set(number);
     }
 
-    /// Returns whether the change of that number hasn't happened yet.
+    /// Returns whether the change with this number is yet to be made. Returns false if change
+    /// numbers have run out.
     pub fn is_to_come(&self, number: u64) -> bool
         ensures { (calls : List DeviceCall) → AreNoted self.now.first self.now.changes.items calls → result ≡ true → length calls ≤ number }
     {
         self.first < NUMBERS && number >= self.next()
     }
 
-    /// Borrows the change of that number. None if it isn't kept.
+    /// Borrows the change with this number, or returns None if it isn't kept.
     pub fn change(&self, number: u64) -> Option<&Change>
         ensures { IfSome result (λ c. (calls : List DeviceCall) → AreNoted self.now.first self.now.changes.items calls → slice_get calls number ≡ Some (change_call c.now)) }
     {

@@ -1,4 +1,4 @@
-// The calls about open directories.
+// Calls on open directories.
 
 ghost use Rattle.std.specs.Prelude.{◌≡◌, IfNone};
 ghost use Rattle.littlefs_c.specs.Directories.{RewindsDirectory};
@@ -15,13 +15,15 @@ use lfs_volume::Error;
 use littlefs_values::{CLOSED, bool_code, count_code, room_code, unit_code};
 use std::alloc::Global;
 
-/// Opens a directory: takes a list of its entries, in name order, the shorter names first. Returns
-/// its number, the least that isn't open. The position is 0.
+/// Opens a directory by reading the list of its entries, and returns its number, the lowest that is
+/// free. Entries are in name order: a name precedes all longer names that begin with it. The
+/// directory's position starts at 0, the index of the first entry.
 ///
 /// # Errors
 ///
-/// 77 where nothing is mounted, and the errors of a volume's `list` (docs/OPERATIONS.md). `NoMemory`
-/// also where the list can't be kept; the volume works on then.
+/// Returns -77 if nothing is mounted, or the negated number of the error that `Volume::list`
+/// returns (docs/OPERATIONS.md). Also returns -12 (`NoMemory`) if the list can't be stored, in
+/// which case the volume hasn't failed.
 #[unsafe(no_mangle)]
 pub extern "C" fn lfs_c_dir_open(alloc: Global, volume: &mut Handle, path: &[u8]) -> i64
     ensures { CallsVolume (IsDirOpen path.now result) result volume.old.slot.mounted volume.new.slot.mounted }
@@ -35,13 +37,14 @@ pub extern "C" fn lfs_c_dir_open(alloc: Global, volume: &mut Handle, path: &[u8]
     count_code(kept)
 }
 
-/// Shows the entry at the position of an open directory, which is one more then, and returns 1; or
-/// returns 0 at the end of the list. The name is put into the buffer, if it fits, as it does in 255
-/// bytes.
+/// Reads the entry at the position of an open directory into `entry`, advances the position by one
+/// entry, and returns 1. Returns 0 at the end of the list. Copies the name to `name` if it fits; a
+/// buffer of 255 bytes is always large enough.
 ///
 /// # Errors
 ///
-/// 77 where nothing is mounted, and `BadFile` where no directory is open under the number.
+/// Returns -77 if nothing is mounted, and -9 (`BadFile`) if `dir` isn't the number of an open
+/// directory.
 #[unsafe(no_mangle)]
 pub extern "C" fn lfs_c_dir_read(
     alloc: Global,
@@ -61,12 +64,12 @@ pub extern "C" fn lfs_c_dir_read(
     bool_code(answer)
 }
 
-/// Sets the position of an open directory: how many entries are before it. Returns 0.
+/// Sets the position of an open directory, an index into its list of entries. Returns 0.
 ///
 /// # Errors
 ///
-/// 77 where nothing is mounted, `BadFile` where no directory is open under the number, and `Invalid`
-/// for a position past the end of the list.
+/// Returns -77 if nothing is mounted, -9 (`BadFile`) if `dir` isn't the number of an open
+/// directory, and -22 (`Invalid`) if `position` is greater than the number of entries.
 #[unsafe(no_mangle)]
 pub extern "C" fn lfs_c_dir_seek(alloc: Global, volume: &mut Handle, dir: u32, position: u32) -> i64
     ensures { CallsVolume (IsDirSeek dir position result) result volume.old.slot.mounted volume.new.slot.mounted }
@@ -79,11 +82,12 @@ pub extern "C" fn lfs_c_dir_seek(alloc: Global, volume: &mut Handle, dir: u32, p
     unit_code(answer)
 }
 
-/// Returns the position of an open directory: how many entries are before it.
+/// Returns the position of an open directory, an index into its list of entries.
 ///
 /// # Errors
 ///
-/// 77 where nothing is mounted, and `BadFile` where no directory is open under the number.
+/// Returns -77 if nothing is mounted, and -9 (`BadFile`) if `dir` isn't the number of an open
+/// directory.
 #[unsafe(no_mangle)]
 pub extern "C" fn lfs_c_dir_tell(alloc: Global, volume: &mut Handle, dir: u32) -> i64
     ensures { CallsVolume (IsDirTell dir result) result volume.old.slot.mounted volume.new.slot.mounted }
@@ -96,20 +100,20 @@ pub extern "C" fn lfs_c_dir_tell(alloc: Global, volume: &mut Handle, dir: u32) -
     room_code(answer)
 }
 
-// Lists the directory with that number of a mounted image again.
+// Lists an open directory of a mounted image again. `dir` is the directory's number.
 fn rewind_mounted(alloc: Global, mounted: &mut Mounted, dir: u32) -> Result<(), Error>
     ensures { RewindsDirectory dir result mounted.old.volume mounted.old.directories.items mounted.new.volume mounted.new.directories.items }
 {
     rewind_directory(alloc, &mut mounted.volume, &mut mounted.directories, dir)
 }
 
-/// Takes the list of an open directory again, by the path of its open, and sets its position to 0.
-/// Returns 0.
+/// Lists an open directory again by the path that opened it, and sets its position to 0. Returns 0.
 ///
 /// # Errors
 ///
-/// 77 where nothing is mounted, `BadFile` where no directory is open under the number, and the errors
-/// of a volume's `list` (docs/OPERATIONS.md). The list is as it was after an error.
+/// Returns -77 if nothing is mounted, -9 (`BadFile`) if `dir` isn't the number of an open
+/// directory, or the negated number of the error that `Volume::list` returns (docs/OPERATIONS.md).
+/// On error, the directory's list and position don't change.
 #[unsafe(no_mangle)]
 pub extern "C" fn lfs_c_dir_rewind(alloc: Global, volume: &mut Handle, dir: u32) -> i64
     ensures { CallsVolume (IsDirRewind dir result) result volume.old.slot.mounted volume.new.slot.mounted }
@@ -122,11 +126,12 @@ pub extern "C" fn lfs_c_dir_rewind(alloc: Global, volume: &mut Handle, dir: u32)
     unit_code(answer)
 }
 
-/// Closes an open directory. Its number is free then. Returns 0.
+/// Closes an open directory and frees its number. Returns 0.
 ///
 /// # Errors
 ///
-/// 77 where nothing is mounted, and `BadFile` where no directory is open under the number.
+/// Returns -77 if nothing is mounted, and -9 (`BadFile`) if `dir` isn't the number of an open
+/// directory.
 #[unsafe(no_mangle)]
 pub extern "C" fn lfs_c_dir_close(alloc: Global, volume: &mut Handle, dir: u32) -> i64
     ensures { CallsVolume (IsDirClose dir result) result volume.old.slot.mounted volume.new.slot.mounted }

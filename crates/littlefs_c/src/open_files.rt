@@ -1,4 +1,4 @@
-// The calls about open files.
+// Calls on open files.
 
 ghost use Rattle.std.specs.Prelude.{◌≡◌, ◌≤◌, ◌<◌, ◌^◌, IfNone, IfOk, MatchResult, drop, length};
 ghost use Rattle.lfs_model.specs.session.Operations as ops;
@@ -14,12 +14,13 @@ use lfs_volume::{Error, OpenFlags, Volume};
 use littlefs_values::{CLOSED, count_code, room_code, unit_code};
 use std::alloc::Global;
 
-/// Opens a file, for reading, writing or both, as the bits of `flags` say, and returns its number:
-/// the least that isn't open. Any number of files may be open, also several times.
+/// Opens a file, and returns its number, the lowest that is free. The bits of `flags` select
+/// reading, writing or both. Any number of files may be open, and a file may be open several times.
 ///
 /// # Errors
 ///
-/// 77 where nothing is mounted, and the errors of a volume's `open` (docs/OPERATIONS.md).
+/// Returns -77 if nothing is mounted, or the negated number of the error that `Volume::open`
+/// returns (docs/OPERATIONS.md).
 #[unsafe(no_mangle)]
 pub extern "C" fn lfs_c_open(alloc: Global, volume: &mut Handle, path: &[u8], flags: u32) -> i64
     ensures { CallsVolume (IsCountCall (calls.Open path.now (flags_of_number flags)) ops.Opened result) result volume.old.slot.mounted volume.new.slot.mounted }
@@ -34,7 +35,7 @@ pub extern "C" fn lfs_c_open(alloc: Global, volume: &mut Handle, path: &[u8], fl
     count_code(answer)
 }
 
-// Reads an open file into a buffer. Returns how many bytes were read.
+// Reads an open file into a buffer, and returns the number of bytes read.
 fn read_file(
     alloc: Global,
     volume: &mut Volume<HeldDevice>,
@@ -51,14 +52,14 @@ fn read_file(
     }
 }
 
-/// Reads an open file from its position on into the buffer, and returns how many bytes it read.
-/// These are as many as the buffer has room for, or fewer where the file ends; the rest of the
-/// buffer stays. The position is after them then.
+/// Reads an open file from its position into the buffer, and returns the number of bytes read.
+/// Fills the whole buffer unless the file ends first, and doesn't change the rest of the buffer.
+/// Advances the position by the number of bytes read.
 ///
 /// # Errors
 ///
-/// 77 where nothing is mounted, and the errors of a volume's `read_into` (docs/OPERATIONS.md).
-/// The buffer is as it was after an error.
+/// Returns -77 if nothing is mounted, or the negated number of the error that `Volume::read_into`
+/// returns (docs/OPERATIONS.md). On error, the buffer doesn't change.
 #[unsafe(no_mangle)]
 pub extern "C" fn lfs_c_file_read(
     alloc: Global,
@@ -77,12 +78,14 @@ pub extern "C" fn lfs_c_file_read(
     room_code(answer)
 }
 
-/// Writes bytes at the position of a file that is open for writing, or at its end where it appends.
-/// Returns how many they are. They are in the tree after a sync or a close of the file.
+/// Writes bytes at the position of a file that is open for writing, or at the file's end if it was
+/// opened to append. Returns the number of bytes written. A sync or a close of the file commits the
+/// written bytes.
 ///
 /// # Errors
 ///
-/// 77 where nothing is mounted, and the errors of a volume's `write` (docs/OPERATIONS.md).
+/// Returns -77 if nothing is mounted, or the negated number of the error that `Volume::write`
+/// returns (docs/OPERATIONS.md).
 #[unsafe(no_mangle)]
 pub extern "C" fn lfs_c_file_write(
     alloc: Global,
@@ -104,7 +107,8 @@ pub extern "C" fn lfs_c_file_write(
 ///
 /// # Errors
 ///
-/// 77 where nothing is mounted, and the errors of a volume's `seek` (docs/OPERATIONS.md).
+/// Returns -77 if nothing is mounted, or the negated number of the error that `Volume::seek`
+/// returns (docs/OPERATIONS.md).
 #[unsafe(no_mangle)]
 pub extern "C" fn lfs_c_file_seek(
     alloc: Global,
@@ -126,8 +130,8 @@ pub extern "C" fn lfs_c_file_seek(
 ///
 /// # Errors
 ///
-/// 77 where nothing is mounted, `Failed` where the volume has failed, and `BadFile` where no file is
-/// open under the number.
+/// Returns -77 if nothing is mounted, -200 (`Failed`) if the volume has failed, and -9 (`BadFile`)
+/// if `file` isn't the number of an open file.
 #[unsafe(no_mangle)]
 pub extern "C" fn lfs_c_file_tell(alloc: Global, volume: &mut Handle, file: u32) -> i64
     ensures { CallsVolume (IsCountCall (calls.Tell file) ops.Count result) result volume.old.slot.mounted volume.new.slot.mounted }
@@ -140,12 +144,12 @@ pub extern "C" fn lfs_c_file_tell(alloc: Global, volume: &mut Handle, file: u32)
     count_code(answer)
 }
 
-/// Returns the size of an open file in bytes, with what isn't synced.
+/// Returns the size of an open file in bytes, including changes that aren't synced.
 ///
 /// # Errors
 ///
-/// 77 where nothing is mounted, `Failed` where the volume has failed, and `BadFile` where no file is
-/// open under the number.
+/// Returns -77 if nothing is mounted, -200 (`Failed`) if the volume has failed, and -9 (`BadFile`)
+/// if `file` isn't the number of an open file.
 #[unsafe(no_mangle)]
 pub extern "C" fn lfs_c_file_size(alloc: Global, volume: &mut Handle, file: u32) -> i64
     ensures { CallsVolume (IsCountCall (calls.Size file) ops.Count result) result volume.old.slot.mounted volume.new.slot.mounted }
@@ -158,12 +162,13 @@ pub extern "C" fn lfs_c_file_size(alloc: Global, volume: &mut Handle, file: u32)
     count_code(answer)
 }
 
-/// Sets the size of a file open for writing: truncates it, or extends it with zeros. The position
-/// stays. Returns 0.
+/// Truncates a file that is open for writing to `size` bytes, or extends it with zeros. Doesn't
+/// change the file's position. Returns 0.
 ///
 /// # Errors
 ///
-/// 77 where nothing is mounted, and the errors of a volume's `truncate` (docs/OPERATIONS.md).
+/// Returns -77 if nothing is mounted, or the negated number of the error that `Volume::truncate`
+/// returns (docs/OPERATIONS.md).
 #[unsafe(no_mangle)]
 pub extern "C" fn lfs_c_file_truncate(
     alloc: Global,
@@ -181,11 +186,12 @@ pub extern "C" fn lfs_c_file_truncate(
     unit_code(answer)
 }
 
-/// Commits the changes of an open file to the tree. Returns 0.
+/// Commits the changes of an open file, and returns 0.
 ///
 /// # Errors
 ///
-/// 77 where nothing is mounted, and the errors of a volume's `sync` (docs/OPERATIONS.md).
+/// Returns -77 if nothing is mounted, or the negated number of the error that `Volume::sync`
+/// returns (docs/OPERATIONS.md).
 #[unsafe(no_mangle)]
 pub extern "C" fn lfs_c_file_sync(alloc: Global, volume: &mut Handle, file: u32) -> i64
     ensures { CallsVolume (IsUnitCall (calls.Sync file) result) result volume.old.slot.mounted volume.new.slot.mounted }
@@ -198,12 +204,13 @@ pub extern "C" fn lfs_c_file_sync(alloc: Global, volume: &mut Handle, file: u32)
     unit_code(answer)
 }
 
-/// Commits the changes of an open file to the tree, and closes it. Its number is free then, even
-/// where the commit is refused. Returns 0.
+/// Commits the changes of an open file, and closes it. Frees the file's number even if the commit
+/// is refused. Returns 0.
 ///
 /// # Errors
 ///
-/// 77 where nothing is mounted, and the errors of a volume's `close` (docs/OPERATIONS.md).
+/// Returns -77 if nothing is mounted, or the negated number of the error that `Volume::close`
+/// returns (docs/OPERATIONS.md).
 #[unsafe(no_mangle)]
 pub extern "C" fn lfs_c_file_close(alloc: Global, volume: &mut Handle, file: u32) -> i64
     ensures { CallsVolume (IsUnitCall (calls.Close file) result) result volume.old.slot.mounted volume.new.slot.mounted }

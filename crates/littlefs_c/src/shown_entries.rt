@@ -1,4 +1,4 @@
-// Entries of a directory, as C gets them.
+// Directory entries in the form that C reads.
 
 ghost use Rattle.std.specs.Prelude.{◌≡◌};
 ghost use Rattle.littlefs_values.specs.Buffers.{buffer_if_fitting};
@@ -7,8 +7,8 @@ ghost use Rattle.littlefs_c.specs.Directories.{kind_number, shown_entry};
 use lfs_volume::{Item, Kind};
 use littlefs_values::copy_if_fitting;
 
-/// An entry of a directory as C gets it: 1 for a file and 2 for a directory, a file's size, and how
-/// many bytes the name has.
+/// A directory entry in the form that C reads. `kind` is 1 for a file and 2 for a directory. `size`
+/// is a file's size, and `name_len` the length of the name, both in bytes.
 #[repr(C)]
 #[derive(Drop)]
 pub struct ShownEntry {
@@ -26,7 +26,7 @@ fn kind_number(kind: Kind) -> u32
     }
 }
 
-// Shows an entry, and puts its name into a buffer, if it fits.
+// Writes an entry to `shown`, and copies its name to a buffer if the name fits.
 pub(crate) fn show_entry(item: &Item, shown: &mut ShownEntry, name: &mut [u8])
     ensures shown { shown.new ≡ shown_entry item.now }
     ensures named { name.new ≡ buffer_if_fitting item.now.name.items name.old }

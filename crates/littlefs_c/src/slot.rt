@@ -1,4 +1,4 @@
-// A box with a volume as its pointer, or none, in a struct that C may hold.
+// An owning pointer to a mounted image, or none, in a struct that C may hold.
 
 ghost use Rattle.std.specs.Prelude.{◌≡◌, Option, None, Some, IsSome};
 ghost use Rattle.littlefs_c.specs.HandleSlots.{handle_owns};
@@ -9,7 +9,7 @@ use littlefs_values::Parts;
 use std::alloc::Global;
 use std::marker::Model;
 
-/// A pointer to a mounted image that it owns, or none. An allocator takes no bytes.
+/// An owning pointer to a mounted image, or a pointer to nothing. The `alloc` field has no size.
 #[repr(C)]
 pub struct Slot {
     at: *mut u8,

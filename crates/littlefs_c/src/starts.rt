@@ -1,4 +1,4 @@
-// How volumes begin and end in a handle.
+// Calls that mount, format and unmount a volume in a handle.
 
 ghost use Rattle.std.specs.Prelude.{◌≡◌, [], pos, None, IfOk, IfErr};
 ghost use Rattle.littlefs_c.specs.Images.{IsImageDevice};
@@ -15,7 +15,7 @@ use lfs_volume::{Error, Volume, format_ordered, mount, mount_with_limits};
 use littlefs_values::unit_code;
 use std::alloc::Global;
 
-// Makes a mounted image of a volume: no directory is open.
+// Returns a mounted image of a volume, without open directories.
 fn new_mounted(alloc: Global, volume: Volume<HeldDevice>) -> Mounted
     ensures volume { result.volume ≡ volume }
     ensures none { result.directories.items ≡ [] }
@@ -26,7 +26,7 @@ fn new_mounted(alloc: Global, volume: Volume<HeldDevice>) -> Mounted
     }
 }
 
-// Puts a mounted image into a box.
+// Moves a mounted image into a box. Errors: `NoMemory` if memory can't be allocated.
 fn box_mounted(alloc: Global, mounted: Mounted) -> Result<Box<Mounted, Global>, Error>
     ensures ok { IfOk result (λ b. b.value ≡ mounted) }
     ensures err { IfErr result (λ e. e ≡ Error.NoMemory) }
@@ -37,7 +37,9 @@ fn box_mounted(alloc: Global, mounted: Mounted) -> Result<Box<Mounted, Global>, 
     }
 }
 
-// Makes a device in memory that has a copy of an image, by a configuration.
+// Returns a device in memory with a copy of an image, as `config` describes it. Errors: `Invalid`
+// if a field is out of range or the bytes aren't an image of that geometry. `NoMemory` if memory
+// can't be allocated.
 fn copy_of_image(alloc: Global, config: &ImageConfig, image: &[u8]) -> Result<RamDevice, Error>
     ensures ok { IfOk result (λ d. IsValidConfig config.now × IsImageDevice config.now.block_size config.now.page (config_profile config.now) image.now d) }
     ensures err { IfErr result (PreventsMount config.now image.now) }
@@ -49,7 +51,7 @@ fn copy_of_image(alloc: Global, config: &ImageConfig, image: &[u8]) -> Result<Ra
     device_by_profile(alloc, image, config.block_size, config.page, profile)
 }
 
-// Mounts a volume over a copy of an image, by a configuration.
+// Mounts a volume over a copy of an image, with the limits of `config`.
 fn mount_volume(alloc: Global, config: &ImageConfig, image: &[u8]) -> Result<Mounted, Error>
     ensures ok { IfOk result (MountsImage config.now image.now) }
     ensures err { IfErr result (PreventsMount config.now image.now) }
@@ -62,7 +64,7 @@ fn mount_volume(alloc: Global, config: &ImageConfig, image: &[u8]) -> Result<Mou
     }
 }
 
-// Mounts a volume over a copy of an image, by a configuration and the limits of the image.
+// Mounts a volume over a copy of an image, with the limits that the image's superblock states.
 fn mount_by_limits(alloc: Global, config: &ImageConfig, image: &[u8]) -> Result<Mounted, Error>
     ensures ok { IfOk result (MountsLimited config.now image.now) }
     ensures err { IfErr result (PreventsMount config.now image.now) }
@@ -75,7 +77,7 @@ fn mount_by_limits(alloc: Global, config: &ImageConfig, image: &[u8]) -> Result<
     }
 }
 
-// Mounts a copy of an image, where the handle has no volume.
+// Mounts a copy of an image, and puts the volume into an empty handle.
 fn mount_into_handle(
     alloc: Global,
     volume: &mut Handle,
@@ -94,14 +96,15 @@ fn mount_into_handle(
     Ok(())
 }
 
-/// Mounts a copy of an image. Returns 0. Where both orders of names fit, the longer
-/// names come first.
+/// Mounts a copy of an image, and returns 0. If the image's names fit either order, the volume uses
+/// littlefs's order, which puts longer names first.
 ///
 /// # Errors
 ///
-/// `Busy` where an image is mounted already. `Invalid` where a number of the configuration is out of
-/// range, or the bytes are no image of that geometry. `Corrupt` where the image is accepted in
-/// neither order. `NoMemory` where memory isn't granted. The handle is as it was after an error.
+/// Returns -16 (`Busy`) if the handle already has a volume. Returns -22 (`Invalid`) if a field of
+/// `config` is out of range, or if the bytes aren't an image of that geometry. Returns -84
+/// (`Corrupt`) if the image is accepted in neither order of names, and -12 (`NoMemory`) if memory
+/// can't be allocated. On error, the handle doesn't change.
 #[unsafe(no_mangle)]
 pub extern "C" fn lfs_c_mount(
     alloc: Global,
@@ -114,7 +117,7 @@ pub extern "C" fn lfs_c_mount(
     unit_code(mount_into_handle(alloc, volume, config, image))
 }
 
-// Mounts a copy of an image by its own limits, where the handle has none.
+// Mounts a copy of an image with the image's own limits, and puts the volume into an empty handle.
 fn begin_by_limits(
     alloc: Global,
     volume: &mut Handle,
@@ -133,13 +136,13 @@ fn begin_by_limits(
     Ok(())
 }
 
-/// Mounts a copy of an image, as [`lfs_c_mount`], with the limits of the image in
-/// place of the configuration's. So an image that was made with lower limits may be changed, and
-/// stays within them. Returns 0.
+/// Mounts a copy of an image as [`lfs_c_mount`] does, but with the limits that the image's
+/// superblock states. Thus an image that was made with lower limits can be changed without
+/// exceeding them. Returns 0.
 ///
 /// # Errors
 ///
-/// Those of [`lfs_c_mount`]. The handle is as it was after an error.
+/// Returns the errors of [`lfs_c_mount`]. On error, the handle doesn't change.
 #[unsafe(no_mangle)]
 pub extern "C" fn lfs_c_mount_with_limits(
     alloc: Global,
@@ -152,7 +155,7 @@ pub extern "C" fn lfs_c_mount_with_limits(
     unit_code(begin_by_limits(alloc, volume, config, image))
 }
 
-// Makes a device in memory of so many blocks by a configuration, whose bytes are 255.
+// Returns a device in memory with `block_count` blocks, in which every byte is 255.
 fn blank_device(alloc: Global, config: &ImageConfig, block_count: u32) -> Result<RamDevice, Error>
     ensures ok { IfOk result (IsBlankDevice config.now block_count) }
     ensures err { IfErr result (PreventsFormat config.now block_count) }
@@ -164,7 +167,7 @@ fn blank_device(alloc: Global, config: &ImageConfig, block_count: u32) -> Result
     RamDevice::blank(alloc, geometry.with_profile(config.profile()))
 }
 
-// Makes an empty file system of so many blocks, with a volume over it.
+// Makes an empty file system of `block_count` blocks, and returns a mounted volume over it.
 fn format_volume(alloc: Global, config: &ImageConfig, block_count: u32) -> Result<Mounted, Error>
     ensures ok { IfOk result (FormatsImage config.now block_count) }
     ensures err { IfErr result (PreventsFormat config.now block_count) }
@@ -173,12 +176,12 @@ fn format_volume(alloc: Global, config: &ImageConfig, block_count: u32) -> Resul
     let device = held_device(alloc, ram, config.profile());
     match format_ordered(alloc, device, config.name_order()) {
         Ok(volume) => Ok(new_mounted(alloc, volume)),
-        // The device had no fault, so memory wasn't granted.
+        // A device in memory never fails, so the only possible error is `NoMemory`.
         Err((_device, error)) => Err(error),
     }
 }
 
-// Makes an empty file system, where the handle has no volume.
+// Makes an empty file system, and puts its volume into an empty handle.
 fn format_into_handle(
     alloc: Global,
     volume: &mut Handle,
@@ -197,13 +200,14 @@ fn format_into_handle(
     Ok(())
 }
 
-/// Makes an empty file system of so many blocks, and mounts it. All bytes are 255 but those of the
-/// blocks 0 and 1. Returns 0.
+/// Makes an empty file system of `block_count` blocks, and mounts it. Every byte outside of blocks
+/// 0 and 1 is 255. Returns 0.
 ///
 /// # Errors
 ///
-/// `Busy` where an image is mounted already. `Invalid` where a number is out of range. `NoMemory`
-/// where memory isn't granted. The handle is as it was after an error.
+/// Returns -16 (`Busy`) if the handle already has a volume, -22 (`Invalid`) if a field of `config`
+/// or `block_count` is out of range, and -12 (`NoMemory`) if memory can't be allocated. On error,
+/// the handle doesn't change.
 #[unsafe(no_mangle)]
 pub extern "C" fn lfs_c_mkfs(
     alloc: Global,
@@ -216,8 +220,8 @@ pub extern "C" fn lfs_c_mkfs(
     unit_code(format_into_handle(alloc, volume, config, block_count))
 }
 
-/// Unmounts a volume, and frees its memory. Nothing is written: what an open file hasn't synced is
-/// lost. Returns 0, also where nothing is mounted.
+/// Unmounts a volume, and frees its memory. Writes nothing, so changes that aren't synced are lost.
+/// Returns 0, even if nothing is mounted.
 #[unsafe(no_mangle)]
 pub extern "C" fn lfs_c_unmount(alloc: Global, volume: &mut Handle) -> i64
     ensures closed { volume.new.slot.mounted ≡ None }

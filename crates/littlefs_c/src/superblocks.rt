@@ -1,4 +1,4 @@
-// The calls about an image's superblock, and about why the image is read only.
+// Calls that read an image's superblock, or report why the image is read-only.
 
 ghost use Rattle.std.specs.Prelude.{◌≡◌, IfNone};
 ghost use Rattle.littlefs_c.specs.Superblocks.{IsReasonCall, IsSuperblockCall, IsWritableCall, ShowsReason, ShowsSuperblock, breach_number, limit_number, limit_value, shown_breach};
@@ -9,8 +9,9 @@ use lfs_volume::{Error, OtherLimit, ProfileBreach, Superblock};
 use littlefs_values::{CLOSED, FsInfo, count_code, unit_code};
 use std::alloc::Global;
 
-/// Where an image breaks a rule, as C gets it: the metadata pair, the slot in it, and the limit that
-/// the superblock has. A slot or a limit that the rule doesn't speak of is 0.
+/// The location at which an image breaks a rule of the writing profile, in the form that C reads:
+/// the metadata pair, the slot in it, and the limit in the superblock. `slot` or `limit` is 0 if
+/// the rule doesn't refer to one.
 #[repr(C)]
 #[derive(Drop)]
 pub struct ShownBreach {
@@ -19,7 +20,7 @@ pub struct ShownBreach {
     pub limit: u32,
 }
 
-// Shows a superblock, if there is one.
+// Writes a superblock's fields to `shown`, or returns the error.
 fn show_superblock(answer: Result<Superblock, Error>, shown: &mut FsInfo) -> Result<(), Error>
     ensures { ShowsSuperblock answer result shown.old shown.new }
 {
@@ -28,13 +29,13 @@ fn show_superblock(answer: Result<Superblock, Error>, shown: &mut FsInfo) -> Res
     Ok(())
 }
 
-/// Shows what the image's superblock says: the version, the sizes of the device and the limits that
-/// the image has. Returns 0.
+/// Reads the image's superblock into `info`: the version, the block size and count, and the limits.
+/// Returns 0.
 ///
 /// # Errors
 ///
-/// 77 where nothing is mounted, `Failed` where the volume has failed, and `NoMemory` where memory
-/// isn't granted; the volume has failed then.
+/// Returns -77 if nothing is mounted, and -200 (`Failed`) if the volume has failed. Returns -12
+/// (`NoMemory`) if memory can't be allocated; the volume has then failed.
 #[unsafe(no_mangle)]
 pub extern "C" fn lfs_c_superblock(alloc: Global, volume: &mut Handle, info: &mut FsInfo) -> i64
     ensures call { CallsVolume (IsSuperblockCall info.old info.new result) result volume.old.slot.mounted volume.new.slot.mounted }
@@ -48,12 +49,12 @@ pub extern "C" fn lfs_c_superblock(alloc: Global, volume: &mut Handle, info: &mu
     unit_code(show_superblock(answer, info))
 }
 
-/// Returns 1 if the image may be changed, and else 0: then a change is refused as `ReadOnly`, or as
-/// `Failed` where the volume has failed.
+/// Returns 1 if the image may be changed, and 0 otherwise. In the second case, changes are refused
+/// with `ReadOnly`, or with `Failed` if the volume has failed.
 ///
 /// # Errors
 ///
-/// 77 where nothing is mounted.
+/// Returns -77 if nothing is mounted.
 #[unsafe(no_mangle)]
 pub extern "C" fn lfs_c_is_writable(alloc: Global, volume: &mut Handle) -> i64
     ensures { CallsVolume (IsWritableCall result) result volume.old.slot.mounted volume.new.slot.mounted }
@@ -66,7 +67,7 @@ pub extern "C" fn lfs_c_is_writable(alloc: Global, volume: &mut Handle) -> i64
     i64::from(answer)
 }
 
-// Returns the number of a rule about a limit: 1 for names, 2 for files, 3 for attributes.
+// Returns the number of the rule about a limit: 1 for names, 2 for files, 3 for attributes.
 fn limit_number(limit: OtherLimit) -> u32
     ensures { result ≡ limit_number limit }
 {
@@ -87,7 +88,7 @@ fn limit_value(limit: OtherLimit) -> u32
     }
 }
 
-// Returns the number of the rule that an image breaks, from 1 on.
+// Returns the number of the rule that an image breaks, from 1 to 6.
 fn breach_number(breach: ProfileBreach) -> u32
     ensures { result ≡ breach_number breach }
 {
@@ -126,7 +127,8 @@ fn shown_breach(breach: ProfileBreach) -> ShownBreach
     }
 }
 
-// Shows where an image breaks a rule, and returns the rule's number; or 0, where it breaks none.
+// Writes the location at which an image breaks a rule to `shown`, and returns the rule's number.
+// Returns 0 if the image breaks no rule.
 fn show_breach(
     answer: Result<Option<ProfileBreach>, Error>,
     shown: &mut ShownBreach,
@@ -142,13 +144,13 @@ fn show_breach(
     }
 }
 
-/// Returns 0 if the image may be changed. Else it returns the number of a rule that the image breaks,
-/// 1 to 6, and shows where.
+/// Returns 0 if the image may be changed. Otherwise, returns the number of a rule that the image
+/// breaks, from 1 to 6, and writes the location to `breach`.
 ///
 /// # Errors
 ///
-/// 77 where nothing is mounted, `Failed` where the volume has failed, and `NoMemory` where memory
-/// isn't granted; the volume has failed then.
+/// Returns -77 if nothing is mounted, and -200 (`Failed`) if the volume has failed. Returns -12
+/// (`NoMemory`) if memory can't be allocated; the volume has then failed.
 #[unsafe(no_mangle)]
 pub extern "C" fn lfs_c_read_only_reason(
     alloc: Global,

@@ -1,4 +1,4 @@
-// The calls about a whole volume, and its image.
+// Calls on a whole volume and its image.
 
 ghost use Rattle.std.specs.Prelude.{◌≡◌, ◌^◌, ◌<◌, IfNone};
 ghost use Rattle.lfs_model.specs.session.Operations as ops;
@@ -10,11 +10,13 @@ use lfs_volume::Volume;
 use littlefs_values::{CLOSED, bool_code, copy_if_fitting, copy_part, count_code, unit_code};
 use std::alloc::Global;
 
-/// Closes all files and directories, and reads the image again, after a failure too. Returns 0.
+/// Closes all files and directories, and mounts the image again, even if the volume has failed.
+/// Returns 0.
 ///
 /// # Errors
 ///
-/// 77 where nothing is mounted. `NoMemory` where memory isn't granted; the volume has failed then.
+/// Returns -77 if nothing is mounted. Returns -12 (`NoMemory`) if memory can't be allocated; the
+/// volume has then failed.
 #[unsafe(no_mangle)]
 pub extern "C" fn lfs_c_remount(alloc: Global, volume: &mut Handle) -> i64
     ensures { CallsVolume (IsRemountCall result) result volume.old.slot.mounted volume.new.slot.mounted }
@@ -28,11 +30,12 @@ pub extern "C" fn lfs_c_remount(alloc: Global, volume: &mut Handle) -> i64
     unit_code(answer)
 }
 
-/// Ends what a loss of power left in the image. The tree stays. Returns 0.
+/// Completes what a power loss left half done in the image, without changing the tree. Returns 0.
 ///
 /// # Errors
 ///
-/// 77 where nothing is mounted, and the errors of a volume's `recover` (docs/OPERATIONS.md).
+/// Returns -77 if nothing is mounted, or the negated number of the error that `Volume::recover`
+/// returns (docs/OPERATIONS.md).
 #[unsafe(no_mangle)]
 pub extern "C" fn lfs_c_recover(alloc: Global, volume: &mut Handle) -> i64
     ensures { CallsVolume (IsUnitOperation ops.Recover result) result volume.old.slot.mounted volume.new.slot.mounted }
@@ -45,11 +48,11 @@ pub extern "C" fn lfs_c_recover(alloc: Global, volume: &mut Handle) -> i64
     unit_code(answer)
 }
 
-/// Returns how many blocks the image uses.
+/// Returns the number of blocks that the image uses.
 ///
 /// # Errors
 ///
-/// 77 where nothing is mounted, and `Failed` where the volume has failed.
+/// Returns -77 if nothing is mounted, and -200 (`Failed`) if the volume has failed.
 #[unsafe(no_mangle)]
 pub extern "C" fn lfs_c_used_blocks(alloc: Global, volume: &mut Handle) -> i64
     ensures { CallsVolume (IsCountOperation ops.UsedCount ops.Count result) result volume.old.slot.mounted volume.new.slot.mounted }
@@ -62,12 +65,12 @@ pub extern "C" fn lfs_c_used_blocks(alloc: Global, volume: &mut Handle) -> i64
     count_code(answer)
 }
 
-/// Returns 1 if the image uses a block, and else 0.
+/// Returns 1 if the image uses a block, and 0 if the block is free.
 ///
 /// # Errors
 ///
-/// 77 where nothing is mounted, `Failed` where the volume has failed, and `Invalid` where the image
-/// has no such block.
+/// Returns -77 if nothing is mounted, -200 (`Failed`) if the volume has failed, and -22 (`Invalid`)
+/// if the image has no such block.
 #[unsafe(no_mangle)]
 pub extern "C" fn lfs_c_is_used(alloc: Global, volume: &mut Handle, block: u32) -> i64
     ensures { CallsVolume (IsBoolCall (ops.IsUsed block) ops.Yes result) result volume.old.slot.mounted volume.new.slot.mounted }
@@ -87,7 +90,7 @@ fn image_of_volume(volume: &Volume<HeldDevice>) -> &[u8]
     volume.device().inner().inner().bytes()
 }
 
-// Puts the bytes of a volume's image into a buffer, if all of them fit. Returns how many they are.
+// Copies a volume's image to a buffer if it fits, and returns the image's size in bytes.
 fn copy_image(volume: &Volume<HeldDevice>, buffer: &mut [u8]) -> usize
     ensures copied { CopiesImage volume.now.session result buffer.old buffer.new }
     ensures small { result < 2 ^ 63 }
@@ -95,12 +98,12 @@ fn copy_image(volume: &Volume<HeldDevice>, buffer: &mut [u8]) -> usize
     copy_if_fitting(image_of_volume(volume), buffer)
 }
 
-/// Puts the bytes of the image into the buffer, if all of them fit, and returns how many they are.
-/// Where they don't fit, the buffer is as it was. A volume that has failed has its image too.
+/// Copies the image to the buffer if it fits, and returns the image's size in bytes. Doesn't change
+/// the buffer if the image doesn't fit. Works even if the volume has failed.
 ///
 /// # Errors
 ///
-/// 77 where nothing is mounted.
+/// Returns -77 if nothing is mounted.
 #[unsafe(no_mangle)]
 pub extern "C" fn lfs_c_image(alloc: Global, volume: &mut Handle, buffer: &mut [u8]) -> i64
     ensures call { CallsVolume (FromSession (λ s room. CopiesImage s room buffer.old buffer.new) result) result volume.old.slot.mounted volume.new.slot.mounted }
@@ -114,7 +117,7 @@ pub extern "C" fn lfs_c_image(alloc: Global, volume: &mut Handle, buffer: &mut [
     room as i64
 }
 
-// Puts a part of a volume's image into a buffer. Returns how many bytes it has.
+// Copies a part of a volume's image to a buffer, and returns the part's length in bytes.
 fn copy_image_part(volume: &Volume<HeldDevice>, offset: usize, buffer: &mut [u8]) -> usize
     ensures copied { CopiesPart volume.now.session offset result buffer.old buffer.new }
     ensures small { result < 2 ^ 63 }
@@ -122,12 +125,13 @@ fn copy_image_part(volume: &Volume<HeldDevice>, offset: usize, buffer: &mut [u8]
     copy_part(image_of_volume(volume), offset, buffer)
 }
 
-/// Puts the bytes of the image from an offset on into the buffer, as many as it has room for, and
-/// returns how many they are: fewer where the image ends, and none after its end.
+/// Copies the image's bytes to the buffer, starting at `offset` in the image, and returns the
+/// number of bytes copied. Stops when the buffer is full or the image ends, and copies nothing if
+/// `offset` is past the end.
 ///
 /// # Errors
 ///
-/// 77 where nothing is mounted.
+/// Returns -77 if nothing is mounted.
 #[unsafe(no_mangle)]
 pub extern "C" fn lfs_c_image_part(
     alloc: Global,

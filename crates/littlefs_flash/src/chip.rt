@@ -1,4 +1,4 @@
-// A flash chip, as its driver sees it.
+// A flash chip as its driver sees it.
 
 ghost use Rattle.std.specs.Prelude.{◌≡◌, List, []};
 ghost use Rattle.std.specs.Borrow.{ftrue};
@@ -9,8 +9,7 @@ ghost use Rattle.lfs_device.specs.Bytes.{AreByteBlocks};
 
 use std::marker::Model;
 
-/// The bytes of a chip and its calls so far. Only proofs read them: the struct is empty at run
-/// time.
+/// The bytes of a chip and its calls so far. Only proofs use this struct; it is empty at run time.
 #[repr(C)]
 #[derive(Drop)]
 pub struct FlashState {
@@ -23,7 +22,7 @@ impl Model for FlashState {
 }
 
 impl FlashState {
-    /// Returns the state of a chip without blocks. Reads neither reference.
+    /// Returns the state of a chip without blocks. Ignores its arguments.
     pub fn none<S, T>(_one: &S, _other: &T) -> FlashState
         ensures { (result.blocks ≡ []) × (result.history ≡ []) }
     {
@@ -31,10 +30,11 @@ impl FlashState {
     }
 }
 
-/// A flash chip: the number by which its driver knows it, and its sizes in bytes and blocks.
+/// A flash chip: the number by which its driver identifies it, its block and page size in bytes,
+/// and its number of blocks.
 ///
-/// The driver's program makes one for each flash. While a session is mounted the session owns the
-/// chip, and [`Chip::none`] takes its place.
+/// The application makes one `Chip` for each flash. A mounted session owns its chip, and
+/// [`Chip::none`] takes the chip's place.
 #[repr(C)]
 #[derive(Drop)]
 pub struct Chip {
@@ -50,7 +50,7 @@ pub struct Chip {
 }
 
 impl Chip {
-    /// Returns a chip without blocks. All its numbers are 0, so nothing can be mounted on it.
+    /// Returns a chip without blocks. All numbers of this chip are 0, so it can't be mounted.
     pub fn none() -> Chip
         ensures { result.block_count ≡ 0 }
     {

@@ -1,4 +1,4 @@
-// The numbers of results that a session alone has.
+// Converts results that only a session has to numbers for C.
 
 ghost use Rattle.std.specs.Prelude.{◌≡◌, pos};
 ghost use Rattle.littlefs_values.specs.Codes.{result_code};
@@ -9,7 +9,7 @@ use lfs_fs::Gstate;
 use lfs_model::{NameOrder, ProfileBreach};
 use littlefs_values::error_code;
 
-// Returns 1 if pairs may be orphans, and 2 more if a move isn't ended.
+// Returns the sum of 1 if metadata pairs may be orphans, and 2 if a move is pending.
 fn gstate_bits(gstate: &Gstate) -> i64
     ensures { result ≡ pos (gstate_number gstate.now) }
 {
@@ -21,7 +21,7 @@ fn gstate_bits(gstate: &Gstate) -> i64
     }
 }
 
-// Returns the bits of the global state.
+// Returns the bits of the global state, or the negated error number.
 pub(crate) fn gstate_code(answer: Result<Gstate, Error>) -> i64
     ensures { result ≡ result_code gstate_number answer }
 {
@@ -31,7 +31,7 @@ pub(crate) fn gstate_code(answer: Result<Gstate, Error>) -> i64
     }
 }
 
-// Returns 0 for littlefs's order of names, and 1 for the other.
+// Returns 0 for littlefs's order of names, and 1 for the other order.
 pub(crate) fn order_code(order: NameOrder) -> i64
     ensures { result ≡ pos (order_number order) }
 {
@@ -41,7 +41,7 @@ pub(crate) fn order_code(order: NameOrder) -> i64
     }
 }
 
-// Returns the number of the rule that is broken, or 0 if none is.
+// Returns the number of the broken rule, or 0 for None.
 fn rule_code(reason: Option<ProfileBreach>) -> i64
     ensures { result ≡ pos (rule_number reason) }
 {
@@ -54,7 +54,7 @@ fn rule_code(reason: Option<ProfileBreach>) -> i64
     }
 }
 
-// Returns the number of the rule that is broken, or 0 if none is.
+// Returns the number of the broken rule, 0 for None, or the negated error number.
 pub(crate) fn reason_code(answer: Result<Option<ProfileBreach>, Error>) -> i64
     ensures { result ≡ result_code rule_number answer }
 {

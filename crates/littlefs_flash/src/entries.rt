@@ -1,4 +1,4 @@
-// The calls on the entry at a path.
+// Calls on the file or directory at a path.
 
 ghost use Rattle.lfs_model.specs.session.Operations as ops;
 ghost use Rattle.littlefs_flash.specs.Sessions.{CallsHeld, IsBytesCall, IsListCall, IsStatCall, IsUnitCall};
@@ -12,7 +12,8 @@ use std::alloc::Global;
 ///
 /// # Errors
 ///
-/// 77 without a session, and the refusals of a session's `stat` (docs/OPERATIONS.md).
+/// Returns -77 if `held` is None, or the negated number of the error that `Session::stat` returns
+/// (docs/OPERATIONS.md).
 pub fn stat_entry<D: BlockDevice + Drop>(
     alloc: Global,
     held: &mut Option<Box<Session<D>, Global>>,
@@ -26,14 +27,15 @@ pub fn stat_entry<D: BlockDevice + Drop>(
     size_code(session.stat(alloc, path))
 }
 
-/// Writes a line for each entry of a directory to the buffer, if all lines fit, and returns how many
-/// bytes they have. A line is `f SIZE NAME` or `d 0 NAME`. If the lines don't fit, the buffer is as
-/// it was.
+/// Writes one line for each entry of a directory to the buffer if all lines fit, and returns their
+/// total length in bytes. A line is `f SIZE NAME` for a file and `d 0 NAME` for a directory.
+/// Doesn't change the buffer if the lines don't fit.
 ///
 /// # Errors
 ///
-/// 77 without a session, and the refusals of a session's `list` (docs/OPERATIONS.md). After an
-/// error the buffer is as it was. `NoMemory` for the lines alone doesn't end the session.
+/// Returns -77 if `held` is None, or the negated number of the error that `Session::list` returns
+/// (docs/OPERATIONS.md). On error, the buffer doesn't change. The session still works if only the
+/// lines caused `NoMemory`.
 pub fn list_lines<D: BlockDevice + Drop>(
     alloc: Global,
     held: &mut Option<Box<Session<D>, Global>>,
@@ -48,11 +50,12 @@ pub fn list_lines<D: BlockDevice + Drop>(
     room_code(fill_with_lines(alloc, session.list(alloc, path), buffer))
 }
 
-/// Makes an empty directory. Returns 0.
+/// Makes an empty directory, and returns 0.
 ///
 /// # Errors
 ///
-/// 77 without a session, and the refusals of a session's `mkdir` (docs/OPERATIONS.md).
+/// Returns -77 if `held` is None, or the negated number of the error that `Session::mkdir` returns
+/// (docs/OPERATIONS.md).
 pub fn mkdir<D: BlockDevice + Drop>(
     alloc: Global,
     held: &mut Option<Box<Session<D>, Global>>,
@@ -66,11 +69,12 @@ pub fn mkdir<D: BlockDevice + Drop>(
     unit_code(session.mkdir(alloc, path))
 }
 
-/// Removes a file, or a directory without entries. Returns 0.
+/// Removes a file or an empty directory, and returns 0.
 ///
 /// # Errors
 ///
-/// 77 without a session, and the refusals of a session's `remove` (docs/OPERATIONS.md).
+/// Returns -77 if `held` is None, or the negated number of the error that `Session::remove` returns
+/// (docs/OPERATIONS.md).
 pub fn remove_entry<D: BlockDevice + Drop>(
     alloc: Global,
     held: &mut Option<Box<Session<D>, Global>>,
@@ -84,12 +88,13 @@ pub fn remove_entry<D: BlockDevice + Drop>(
     unit_code(session.remove(alloc, path))
 }
 
-/// Renames an entry. A file replaces a file at the new path, and a directory one without entries.
-/// Returns 0.
+/// Renames an entry, and returns 0. A file replaces a file at the new path, and a directory
+/// replaces an empty directory.
 ///
 /// # Errors
 ///
-/// 77 without a session, and the refusals of a session's `rename` (docs/OPERATIONS.md).
+/// Returns -77 if `held` is None, or the negated number of the error that `Session::rename` returns
+/// (docs/OPERATIONS.md).
 pub fn rename_entry<D: BlockDevice + Drop>(
     alloc: Global,
     held: &mut Option<Box<Session<D>, Global>>,
@@ -104,13 +109,13 @@ pub fn rename_entry<D: BlockDevice + Drop>(
     unit_code(session.rename(alloc, from, to))
 }
 
-/// Copies an entry's attribute of type `kind` to the buffer, if it fits, and returns how many bytes
-/// it has. If it doesn't fit, the buffer is as it was.
+/// Copies an entry's attribute of type `kind` to the buffer if it fits, and returns the attribute's
+/// length in bytes. Doesn't change the buffer if the attribute doesn't fit.
 ///
 /// # Errors
 ///
-/// 77 without a session, and the refusals of a session's `get_attr` (docs/OPERATIONS.md). After an
-/// error the buffer is as it was.
+/// Returns -77 if `held` is None, or the negated number of the error that `Session::get_attr`
+/// returns (docs/OPERATIONS.md). On error, the buffer doesn't change.
 pub fn get_attr<D: BlockDevice + Drop>(
     alloc: Global,
     held: &mut Option<Box<Session<D>, Global>>,
@@ -126,12 +131,13 @@ pub fn get_attr<D: BlockDevice + Drop>(
     fill_with_bytes(session.get_attr(alloc, path, kind), buffer)
 }
 
-/// Sets an entry's attribute of type `kind`, in place of the one of that type, if the entry has one.
-/// Returns 0.
+/// Sets an entry's attribute of type `kind`, or replaces it if the entry already has one. Returns
+/// 0.
 ///
 /// # Errors
 ///
-/// 77 without a session, and the refusals of a session's `set_attr` (docs/OPERATIONS.md).
+/// Returns -77 if `held` is None, or the negated number of the error that `Session::set_attr`
+/// returns (docs/OPERATIONS.md).
 pub fn set_attr<D: BlockDevice + Drop>(
     alloc: Global,
     held: &mut Option<Box<Session<D>, Global>>,
@@ -147,11 +153,12 @@ pub fn set_attr<D: BlockDevice + Drop>(
     unit_code(session.set_attr(alloc, path, kind, bytes))
 }
 
-/// Removes an entry's attribute of type `kind`. Returns 0.
+/// Removes an entry's attribute of type `kind`, and returns 0.
 ///
 /// # Errors
 ///
-/// 77 without a session, and the refusals of a session's `remove_attr` (docs/OPERATIONS.md).
+/// Returns -77 if `held` is None, or the negated number of the error that `Session::remove_attr`
+/// returns (docs/OPERATIONS.md).
 pub fn remove_attr<D: BlockDevice + Drop>(
     alloc: Global,
     held: &mut Option<Box<Session<D>, Global>>,

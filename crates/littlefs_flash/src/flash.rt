@@ -1,4 +1,4 @@
-// The four functions of a driver, and the block device that calls them.
+// The trait of a flash driver, and a block device that calls the driver.
 
 ghost use Rattle.std.specs.Prelude.{◌≡◌, ◌<◌, ◌+◌, ◌∷◌, length, slice_range, is_err, IfErr, MatchResult, OnOk};
 ghost use Rattle.lfs_model.specs.format.Blocks.{SameExcept, block_bytes};
@@ -13,12 +13,12 @@ use crate::chip::Chip;
 use lfs_device::{BlockDevice, Error, Geometry, Profile};
 use std::marker::PhantomData;
 
-/// A flash driver: four functions, which may be written in C. Their clauses are those of
-/// `BlockDevice`, for a chip instead of a device. Each returns a number for success, as it says,
-/// and another one if the flash failed.
+/// A flash driver: four functions, which may be written in C. The functions have the contracts of
+/// `BlockDevice`, stated for a chip. Each function returns a status that says whether the flash
+/// failed.
 pub trait Flash {
-    /// Reads bytes of a block, from the offset `off` on, into the buffer. Returns 0 on success.
-    /// After a failure the buffer may hold any bytes.
+    /// Reads bytes of a block, from the offset `off` on, into the buffer. Returns 0 on success, and
+    /// any other number on failure. After a failure, the buffer may contain any bytes.
     fn read(chip: &mut Chip, block: u32, off: u32, buf: &mut [u8]) -> u32
         requires { IsWithinChip chip.old block off (length buf.old) }
         ensures bytes { OnOk (status_result result) (buf.new ≡ slice_range (block_bytes chip.old.state.blocks block) off (off + length buf.old)) }
@@ -27,9 +27,10 @@ pub trait Flash {
         ensures history { chip.new.state.history
             ≡ call_event (Read block off (length buf.old)) chip.old.state.blocks chip.new.state.blocks (is_err (status_result result)) ∷ chip.old.state.history };
 
-    /// Programs whole pages of a block, from the offset `off` on. Their bytes are unprogrammed
-    /// since the block's last erase. Returns 0 on success. After a failure these pages may hold any
-    /// bytes, and no others change.
+    /// Programs whole pages of a block, from the offset `off` on. The caller passes only pages that
+    /// haven't been programmed since the block was erased. Returns 0 on success, and any other
+    /// number on failure. After a failure, the programmed pages may contain any bytes. No other
+    /// bytes change.
     fn prog(chip: &mut Chip, block: u32, off: u32, bytes: &[u8]) -> u32
         requires { CanProgramChip chip.old block off (length bytes.now) }
         ensures programs { Programs block off bytes.now chip.old.state.blocks chip.new.state.blocks (status_result result) }
@@ -37,8 +38,9 @@ pub trait Flash {
         ensures history { chip.new.state.history
             ≡ call_event (Program block off bytes.now) chip.old.state.blocks chip.new.state.blocks (is_err (status_result result)) ∷ chip.old.state.history };
 
-    /// Erases a block. It may then hold any bytes, all of them unprogrammed. Returns 0 on success.
-    /// After a failure they count as programmed, and no other block changes.
+    /// Erases a block. Returns 0 on success, and any other number on failure. After a success, the
+    /// block may contain any bytes, which count as unprogrammed. After a failure, the block's bytes
+    /// count as programmed. No other block changes.
     fn erase(chip: &mut Chip, block: u32) -> u32
         requires { block < chip.old.block_count }
         ensures others { SameExcept block chip.old.state.blocks chip.new.state.blocks }
@@ -46,9 +48,9 @@ pub trait Flash {
         ensures history { chip.new.state.history
             ≡ call_event (Erase block) chip.old.state.blocks chip.new.state.blocks (is_err (status_result result)) ∷ chip.old.state.history };
 
-    /// Returns 1 if `len` bytes of a block, from the offset `off` on, are certainly unprogrammed
-    /// since the block's last erase, 0 if that isn't certain, and another number if the flash
-    /// failed.
+    /// Returns 1 if none of `len` bytes of a block, from the offset `off` on, has been programmed
+    /// since the block was erased. Returns 0 if the driver can't be sure that the bytes are
+    /// unprogrammed, and any other number if the flash failed.
     fn is_blank(chip: &mut Chip, block: u32, off: u32, len: u32) -> u32
         requires { IsWithinChip chip.old block off len }
         ensures same { chip.new.state.blocks ≡ chip.old.state.blocks }
@@ -79,7 +81,7 @@ fn result_of_blank(answer: u32) -> Result<bool, Error>
     }
 }
 
-/// A block device over a chip, through its driver's functions.
+/// A block device that accesses a chip through its driver's functions.
 #[derive(Drop)]
 pub struct FlashDevice<F: Flash> {
     geometry: Geometry,
@@ -91,8 +93,8 @@ pub struct FlashDevice<F: Flash> {
 }
 
 impl<F: Flash> FlashDevice<F> {
-    /// Returns a device over a chip, with that profile. Returns the chip if its sizes are out of
-    /// range.
+    /// Returns a device for a chip, with the given profile. Returns the chip as the error if its
+    /// sizes are out of range.
     pub fn new(chip: Chip, profile: Profile) -> Result<FlashDevice<F>, Chip>
         ensures { MatchResult result
             (λ d. (d.chip ≡ chip) × (d.geometry.profile ≡ profile))
@@ -108,7 +110,7 @@ impl<F: Flash> FlashDevice<F> {
         }
     }
 
-    /// Returns the chip of a device that is used no more.
+    /// Consumes the device, and returns its chip.
     pub fn into_chip(self) -> Chip
         ensures { result ≡ self.chip }
     {

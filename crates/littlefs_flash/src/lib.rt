@@ -1,5 +1,6 @@
 // SPDX-License-Identifier: BSD-3-Clause
-//! Sessions for C on a flash that is read and written by block, through four functions of a driver.
+//! littlefs sessions for C on a flash chip, which a driver's four functions read, program, erase
+//! and check for blank bytes.
 #![tactic(auto)]
 
 mod chip;

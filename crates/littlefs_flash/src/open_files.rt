@@ -1,4 +1,4 @@
-// The calls on an open file.
+// Calls on open files.
 
 ghost use Rattle.lfs_model.specs.session.Operations as ops;
 ghost use Rattle.lfs_fs.specs.FileAnswers.{FileAnswersOf, file_position, file_size};
@@ -11,12 +11,13 @@ use lfs_fs::{OpenFlags, Session};
 use littlefs_values::{CLOSED, count_code, room_code, unit_code};
 use std::alloc::Global;
 
-/// Opens a file as the bits of `flags` say, and returns its number: the least that isn't open. At
-/// most one file is open for writing, and 16 for reading.
+/// Opens a file in the mode that the bits of `flags` select, and returns its number, the lowest
+/// that is free. At most one file is open for writing, and at most 16 for reading.
 ///
 /// # Errors
 ///
-/// 77 without a session, and the refusals of a session's `open` (docs/OPERATIONS.md).
+/// Returns -77 if `held` is None, or the negated number of the error that `Session::open` returns
+/// (docs/OPERATIONS.md).
 pub fn file_open<D: BlockDevice + Drop>(
     alloc: Global,
     held: &mut Option<Box<Session<D>, Global>>,
@@ -31,14 +32,14 @@ pub fn file_open<D: BlockDevice + Drop>(
     count_code(session.open(alloc, path, OpenFlags::from_bits_retain(flags)))
 }
 
-/// Reads an open file from its position on into the buffer, and returns how many bytes it read: as
-/// many as the buffer has room for, or fewer if the file ends. The rest of the buffer stays. The
-/// position advances by as many.
+/// Reads an open file from its position into the buffer, and returns the number of bytes read.
+/// Fills the whole buffer unless the file ends first, and doesn't change the rest of the buffer.
+/// Advances the position by the number of bytes read.
 ///
 /// # Errors
 ///
-/// 77 without a session, and the refusals of a session's `read_into` (docs/OPERATIONS.md). After a
-/// refusal the buffer is as it was.
+/// Returns -77 if `held` is None, or the negated number of the error that `Session::read_into`
+/// returns (docs/OPERATIONS.md). If the call is refused, the buffer doesn't change.
 pub fn file_read<D: BlockDevice + Drop>(
     held: &mut Option<Box<Session<D>, Global>>,
     file: u32,
@@ -52,12 +53,14 @@ pub fn file_read<D: BlockDevice + Drop>(
     room_code(session.read_into(file, buffer))
 }
 
-/// Writes bytes at the position of a file that is open for writing, or at its end if it appends.
-/// Returns how many they are. They are in the tree after a sync or a close of the file.
+/// Writes bytes at the position of a file that is open for writing, or at the file's end if it was
+/// opened to append. Returns the number of bytes written. A sync or a close of the file commits the
+/// written bytes.
 ///
 /// # Errors
 ///
-/// 77 without a session, and the refusals of a session's `write` (docs/OPERATIONS.md).
+/// Returns -77 if `held` is None, or the negated number of the error that `Session::write` returns
+/// (docs/OPERATIONS.md).
 pub fn file_write<D: BlockDevice + Drop>(
     alloc: Global,
     held: &mut Option<Box<Session<D>, Global>>,
@@ -76,7 +79,8 @@ pub fn file_write<D: BlockDevice + Drop>(
 ///
 /// # Errors
 ///
-/// 77 without a session, and the refusals of a session's `seek` (docs/OPERATIONS.md).
+/// Returns -77 if `held` is None, or the negated number of the error that `Session::seek` returns
+/// (docs/OPERATIONS.md).
 pub fn file_seek<D: BlockDevice + Drop>(
     held: &mut Option<Box<Session<D>, Global>>,
     file: u32,
@@ -94,8 +98,8 @@ pub fn file_seek<D: BlockDevice + Drop>(
 ///
 /// # Errors
 ///
-/// 77 without a session, `Failed` if it has failed, and `BadFile` if no file is open under the
-/// number.
+/// Returns -77 if `held` is None, -200 (`Failed`) if the session has failed, and -9 (`BadFile`) if
+/// `file` isn't the number of an open file.
 pub fn file_tell<D: BlockDevice + Drop>(held: &Option<Box<Session<D>, Global>>, file: u32) -> i64
     ensures { CallsHeld (IsFileAnswer (λ s r. FileAnswersOf file_position s file r) result) result held.now held.now }
 {
@@ -105,13 +109,13 @@ pub fn file_tell<D: BlockDevice + Drop>(held: &Option<Box<Session<D>, Global>>, 
     count_code(session.position(file))
 }
 
-/// Returns the size of an open file in bytes. The size of a file that is open for writing counts
-/// what isn't synced.
+/// Returns the size of an open file in bytes. The size of a file that is open for writing includes
+/// changes that aren't synced.
 ///
 /// # Errors
 ///
-/// 77 without a session, `Failed` if it has failed, and `BadFile` if no file is open under the
-/// number.
+/// Returns -77 if `held` is None, -200 (`Failed`) if the session has failed, and -9 (`BadFile`) if
+/// `file` isn't the number of an open file.
 pub fn file_size<D: BlockDevice + Drop>(held: &Option<Box<Session<D>, Global>>, file: u32) -> i64
     ensures { CallsHeld (IsFileAnswer (λ s r. FileAnswersOf file_size s file r) result) result held.now held.now }
 {
@@ -121,12 +125,13 @@ pub fn file_size<D: BlockDevice + Drop>(held: &Option<Box<Session<D>, Global>>, 
     count_code(session.size(file))
 }
 
-/// Sets the size of a file that is open for writing: the file is cut, or zeros fill it up. The
-/// position stays. Returns 0.
+/// Truncates a file that is open for writing to `size` bytes, or extends it with zeros. Doesn't
+/// change the file's position. Returns 0.
 ///
 /// # Errors
 ///
-/// 77 without a session, and the refusals of a session's `truncate` (docs/OPERATIONS.md).
+/// Returns -77 if `held` is None, or the negated number of the error that `Session::truncate`
+/// returns (docs/OPERATIONS.md).
 pub fn file_truncate<D: BlockDevice + Drop>(
     alloc: Global,
     held: &mut Option<Box<Session<D>, Global>>,
@@ -141,11 +146,12 @@ pub fn file_truncate<D: BlockDevice + Drop>(
     unit_code(session.truncate(alloc, file, size))
 }
 
-/// Commits the changes of an open file to the tree. Returns 0.
+/// Commits the changes of an open file, and returns 0.
 ///
 /// # Errors
 ///
-/// 77 without a session, and the refusals of a session's `sync` (docs/OPERATIONS.md).
+/// Returns -77 if `held` is None, or the negated number of the error that `Session::sync` returns
+/// (docs/OPERATIONS.md).
 pub fn file_sync<D: BlockDevice + Drop>(
     alloc: Global,
     held: &mut Option<Box<Session<D>, Global>>,
@@ -159,12 +165,12 @@ pub fn file_sync<D: BlockDevice + Drop>(
     unit_code(session.sync(alloc, file))
 }
 
-/// Commits the changes of an open file to the tree, and closes it. Its number is free then. Returns
-/// 0.
+/// Commits the changes of an open file, closes it and frees its number. Returns 0.
 ///
 /// # Errors
 ///
-/// 77 without a session, and the refusals of a session's `close` (docs/OPERATIONS.md).
+/// Returns -77 if `held` is None, or the negated number of the error that `Session::close` returns
+/// (docs/OPERATIONS.md).
 pub fn file_close<D: BlockDevice + Drop>(
     alloc: Global,
     held: &mut Option<Box<Session<D>, Global>>,

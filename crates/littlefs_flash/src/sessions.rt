@@ -1,4 +1,4 @@
-// The calls on a session as a whole.
+// Calls on a whole session.
 
 ghost use Rattle.lfs_model.specs.session.Operations as ops;
 ghost use Rattle.littlefs_flash.specs.Sessions.{CallsHeld, IsCountCall, IsGstateCall, IsInfoCall, IsOrderAnswer, IsReasonCall, IsUnitCall, IsUsedCall, IsWritableAnswer, ReadsInfo};
@@ -9,12 +9,13 @@ use lfs_fs::Session;
 use littlefs_values::{CLOSED, FsInfo, bool_code, count_code, unit_code};
 use std::alloc::Global;
 
-/// Closes all files and reads the flash again, after a failure too. Returns 0.
+/// Closes all files, and mounts the flash again, even if the session has failed. Returns 0.
 ///
 /// # Errors
 ///
-/// 77 without a session. `Corrupt` if no accepted image is on the flash, `Io` if a read failed,
-/// `NoMemory` if memory isn't granted; after each of these the session has failed.
+/// Returns -77 if `held` is None. Returns -84 (`Corrupt`) if the flash holds no accepted image, -5
+/// (`Io`) if a read failed, and -12 (`NoMemory`) if memory can't be allocated. After `Corrupt`,
+/// `Io` or `NoMemory` the session has failed.
 pub fn remount<D: BlockDevice + Drop>(
     alloc: Global,
     held: &mut Option<Box<Session<D>, Global>>,
@@ -27,11 +28,12 @@ pub fn remount<D: BlockDevice + Drop>(
     unit_code(session.remount(alloc))
 }
 
-/// Ends what a loss of power left on the flash. The tree stays. Returns 0.
+/// Completes what a power loss left half done on the flash, without changing the tree. Returns 0.
 ///
 /// # Errors
 ///
-/// 77 without a session, and the refusals of a session's `recover` (docs/OPERATIONS.md).
+/// Returns -77 if `held` is None, or the negated number of the error that `Session::recover`
+/// returns (docs/OPERATIONS.md).
 pub fn recover<D: BlockDevice + Drop>(
     alloc: Global,
     held: &mut Option<Box<Session<D>, Global>>,
@@ -44,11 +46,11 @@ pub fn recover<D: BlockDevice + Drop>(
     unit_code(session.recover(alloc))
 }
 
-/// Returns how many blocks the image uses.
+/// Returns the number of blocks that the image uses.
 ///
 /// # Errors
 ///
-/// 77 without a session, and `Failed` if it has failed.
+/// Returns -77 if `held` is None, and -200 (`Failed`) if the session has failed.
 pub fn used_blocks<D: BlockDevice + Drop>(held: &Option<Box<Session<D>, Global>>) -> i64
     ensures { CallsHeld (IsCountCall ops.UsedCount ops.Count result) result held.now held.now }
 {
@@ -62,7 +64,8 @@ pub fn used_blocks<D: BlockDevice + Drop>(held: &Option<Box<Session<D>, Global>>
 ///
 /// # Errors
 ///
-/// 77 without a session, `Failed` if it has failed, and `Invalid` if there is no such block.
+/// Returns -77 if `held` is None, -200 (`Failed`) if the session has failed, and -22 (`Invalid`) if
+/// the image has no such block.
 pub fn is_used<D: BlockDevice + Drop>(held: &Option<Box<Session<D>, Global>>, block: u32) -> i64
     ensures { CallsHeld (IsUsedCall block result) result held.now held.now }
 {
@@ -72,12 +75,12 @@ pub fn is_used<D: BlockDevice + Drop>(held: &Option<Box<Session<D>, Global>>, bl
     bool_code(session.is_used(block))
 }
 
-/// Returns what a recovery has to end: 0 for nothing, 1 if metadata pairs may be orphans, 2 if a
-/// move isn't ended, 3 for both.
+/// Returns what a recovery has to complete: 0 for nothing, 1 if metadata pairs may be orphans, 2 if
+/// a move is pending, 3 for both.
 ///
 /// # Errors
 ///
-/// 77 without a session, and `Failed` if it has failed.
+/// Returns -77 if `held` is None, and -200 (`Failed`) if the session has failed.
 pub fn gstate<D: BlockDevice + Drop>(held: &Option<Box<Session<D>, Global>>) -> i64
     ensures { CallsHeld (IsGstateCall result) result held.now held.now }
 {
@@ -87,12 +90,12 @@ pub fn gstate<D: BlockDevice + Drop>(held: &Option<Box<Session<D>, Global>>) -> 
     gstate_code(session.gstate())
 }
 
-/// Returns the order of names that the image has: 0 for littlefs's, the longer of two first that
-/// begin alike; 1 for the shorter.
+/// Returns 0 if the image has littlefs's order of names, and 1 if it has the other order. If one
+/// name begins with another, littlefs's order puts the longer name first.
 ///
 /// # Errors
 ///
-/// 77 without a session.
+/// Returns -77 if `held` is None.
 pub fn name_order<D: BlockDevice + Drop>(held: &Option<Box<Session<D>, Global>>) -> i64
     ensures { CallsHeld (IsOrderAnswer result) result held.now held.now }
 {
@@ -103,11 +106,11 @@ pub fn name_order<D: BlockDevice + Drop>(held: &Option<Box<Session<D>, Global>>)
 }
 
 /// Returns 1 if the session may write: it hasn't failed, and its image is in the writing profile.
-/// Returns 0 otherwise. Makes no call of the device.
+/// Returns 0 otherwise. Doesn't access the device.
 ///
 /// # Errors
 ///
-/// 77 without a session.
+/// Returns -77 if `held` is None.
 pub fn is_writable<D: BlockDevice + Drop>(held: &Option<Box<Session<D>, Global>>) -> i64
     ensures { CallsHeld (IsWritableAnswer result) result held.now held.now }
 {
@@ -117,15 +120,16 @@ pub fn is_writable<D: BlockDevice + Drop>(held: &Option<Box<Session<D>, Global>>
     bool_code(Ok(session.is_writable()))
 }
 
-/// Returns 0 if the session may write, and then makes no call of the device. Otherwise reads the
-/// metadata pairs, and returns a rule of the writing profile that the image breaks: 1 if it was
-/// made with other limits, 2 if a file has too many bytes inline, 3 if a directory goes on in an
-/// empty pair, 4 if a pair or an entry is too large. If it breaks several, it returns the least.
+/// Returns 0 if the session may write, without accessing the device. Otherwise, reads the metadata
+/// pairs, and returns the lowest number of a rule of the writing profile that the image breaks. The
+/// numbers mean that the image was made with other limits (1), a file has too many bytes inline
+/// (2), a directory continues in an empty pair (3), or a pair or an entry is too large (4).
 ///
 /// # Errors
 ///
-/// 77 without a session, and `Failed` if it has failed. `Io` if a read failed, and `NoMemory` if
-/// memory isn't granted; the session has failed then.
+/// Returns -77 if `held` is None, and -200 (`Failed`) if the session has failed. Returns -5 (`Io`)
+/// if a read failed, and -12 (`NoMemory`) if memory can't be allocated; the session has then
+/// failed.
 pub fn read_only_reason<D: BlockDevice + Drop>(
     alloc: Global,
     held: &mut Option<Box<Session<D>, Global>>,
@@ -138,7 +142,7 @@ pub fn read_only_reason<D: BlockDevice + Drop>(
     reason_code(session.read_only_reason(alloc))
 }
 
-// Reads the superblock's fields.
+// Reads the superblock's fields into `info`.
 fn read_info<D: BlockDevice + Drop>(
     alloc: Global,
     session: &mut Session<D>,
@@ -151,13 +155,14 @@ fn read_info<D: BlockDevice + Drop>(
     Ok(())
 }
 
-/// Reads the superblock's fields into `info`: the version, the sizes, and the limits that the image
-/// was made with. Returns 0.
+/// Reads the superblock's fields into `info`: the version, the block size and count, and the
+/// image's limits. Returns 0.
 ///
 /// # Errors
 ///
-/// 77 without a session, and `Failed` if it has failed. `Io` if the read failed, and `NoMemory` if
-/// memory isn't granted; the session has failed then. After an error `info` is as it was.
+/// Returns -77 if `held` is None, and -200 (`Failed`) if the session has failed. Returns -5 (`Io`)
+/// if the read failed, and -12 (`NoMemory`) if memory can't be allocated; the session has then
+/// failed. On error, `info` doesn't change.
 pub fn stat_fs<D: BlockDevice + Drop>(
     alloc: Global,
     held: &mut Option<Box<Session<D>, Global>>,

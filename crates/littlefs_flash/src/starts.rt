@@ -1,4 +1,4 @@
-// How sessions on a flash begin and end.
+// Calls that format a flash, and that begin and end a session.
 
 ghost use Rattle.std.specs.Prelude.{◌≡◌, pos, None, IfErr, IfOk};
 ghost use Rattle.littlefs_values.specs.Configs.{config_profile};
@@ -13,7 +13,8 @@ use littlefs_values::{Config, unit_code};
 use std::alloc::Global;
 use std::mem::replace;
 
-// Makes a device of a chip, by a configuration. Returns the chip with an error.
+// Makes a device from a chip and a configuration. Errors: the chip with `Invalid` if a size of the
+// chip or a field of `config` is out of range.
 fn device_of_chip<F: Flash>(chip: Chip, config: &Config) -> Result<FlashDevice<F>, (Chip, Error)>
     ensures ok { IfOk result (λ d. IsValidStart config.now chip × (d.chip ≡ chip) × (d.geometry.profile ≡ config_profile config.now)) }
     ensures err { IfErr result (λ e. RefusesStart config.now chip e.0 e.1) }
@@ -27,7 +28,7 @@ fn device_of_chip<F: Flash>(chip: Chip, config: &Config) -> Result<FlashDevice<F
     }
 }
 
-// Formats a chip, and returns it.
+// Formats a chip, and returns it with the result.
 fn format_chip<F: Flash + Drop>(
     alloc: Global,
     chip: Chip,
@@ -45,14 +46,14 @@ fn format_chip<F: Flash + Drop>(
     }
 }
 
-/// Makes an empty file system on a flash, and begins no session. Only blocks 0 and 1 are written.
+/// Makes an empty file system on a flash, without beginning a session. Writes only blocks 0 and 1.
 /// Returns 0.
 ///
 /// # Errors
 ///
-/// `Invalid` if a number is out of range, or a session owns the flash. `Io` if the flash failed;
-/// the two blocks may hold any bytes then. `NoMemory` if memory isn't granted; nothing is written
-/// then.
+/// Returns -22 (`Invalid`) if a size of the chip or a field of `config` is out of range, or if a
+/// session owns the chip. Returns -5 (`Io`) if the flash failed; blocks 0 and 1 may then hold any
+/// bytes. Returns -12 (`NoMemory`) if memory can't be allocated; nothing has then been written.
 pub fn format_flash<F: Flash + Drop>(alloc: Global, chip: &mut Chip, config: &Config) -> i64
     ensures { IsFormatCode config.now result chip.old chip.new }
 {
@@ -61,7 +62,7 @@ pub fn format_flash<F: Flash + Drop>(alloc: Global, chip: &mut Chip, config: &Co
     unit_code(answer)
 }
 
-// Mounts a chip, or returns it with an error.
+// Mounts a chip, or returns the chip with an error.
 fn mount_chip<F: Flash + Drop>(
     alloc: Global,
     chip: Chip,
@@ -83,7 +84,7 @@ fn mount_chip<F: Flash + Drop>(
     }
 }
 
-// Mounts a chip, unless there is a session.
+// Mounts a chip, unless a session exists already.
 fn mount_where_none<F: Flash + Drop>(
     alloc: Global,
     held: &mut Option<Box<Session<FlashDevice<F>>, Global>>,
@@ -107,14 +108,16 @@ fn mount_where_none<F: Flash + Drop>(
     }
 }
 
-/// Begins a session on a flash. Returns 0. The session owns the chip from then on, and
-/// [`Chip::none`] takes its place.
+/// Begins a session on a flash, and returns 0. The session owns the chip until it ends, and
+/// [`Chip::none`] takes the chip's place.
 ///
 /// # Errors
 ///
-/// `Busy` if there is a session. `Invalid` if a number is out of range. `Corrupt` if the flash
-/// holds an accepted image in neither order of names. `Io` if a read failed, and `NoMemory` if
-/// memory isn't granted. After an error the chip is in its place, with the blocks that it had.
+/// Returns -16 (`Busy`) if a session exists already, and -22 (`Invalid`) if a size of the chip or a
+/// field of `config` is out of range. Returns -84 (`Corrupt`) if the flash holds an accepted image
+/// in neither order of names. Returns -5 (`Io`) if a read failed, and -12 (`NoMemory`) if memory
+/// can't be allocated. After an error, the chip is back in its place, and its blocks haven't
+/// changed.
 pub fn mount_flash<F: Flash + Drop>(
     alloc: Global,
     held: &mut Option<Box<Session<FlashDevice<F>>, Global>>,
@@ -126,8 +129,8 @@ pub fn mount_flash<F: Flash + Drop>(
     unit_code(mount_where_none(alloc, held, chip, config))
 }
 
-/// Ends a session, and puts its chip back. Nothing is written: changes that aren't synced are lost.
-/// Returns 0, without a session too.
+/// Ends a session, and puts its chip back. Writes nothing, so changes that aren't synced are lost.
+/// Returns 0, even without a session.
 pub fn unmount_flash<F: Flash + Drop>(
     held: &mut Option<Box<Session<FlashDevice<F>>, Global>>,
     chip: &mut Chip,

@@ -1,4 +1,4 @@
-// Sessions on a flash in memory, by the calls for C.
+// Tests of the calls for C, in sessions on a flash in memory.
 
 use lfs_device::{CountedCalls, FaultDevice, Geometry, RamDevice};
 use lfs_fs::{Profile, Profiled, Session, format, mount};
@@ -187,7 +187,7 @@ fn the_superblock_is_read(rt: HostRuntime) -> Result<(), Fail> {
     Ok(())
 }
 
-// Returns a session by the format's own limits, on an image whose names have at most 32 bytes.
+// Returns a session with the format's own limits, on an image whose names have at most 32 bytes.
 fn session_with_other_limits(alloc: Global) -> Held {
     let geometry = Geometry::new(4096, 256, 16).ok()?;
     let device = RamDevice::blank(alloc, geometry).ok()?;
@@ -232,7 +232,7 @@ fn without_a_session_the_answer_is_minus_77(rt: HostRuntime) -> Result<(), Fail>
     Ok(())
 }
 
-// Returns a session on a flash that fails at its second program, the first one after the format.
+// Returns a session on a flash that fails at the first program after the format.
 fn session_that_fails(alloc: Global) -> Option<Box<Session<FaultDevice<RamDevice>>, Global>> {
     let geometry = Geometry::new(4096, 256, 16).ok()?;
     let device = RamDevice::blank(alloc, geometry).ok()?;

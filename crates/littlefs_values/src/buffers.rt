@@ -1,4 +1,4 @@
-// Answers that are copied to a buffer of C.
+// Copies results to a buffer of C.
 
 ghost use Rattle.std.specs.Prelude.{◌≡◌, ◌<◌, ◌^◌, drop, length, take};
 ghost use Rattle.lfs_model.specs.format.Blocks.{overwritten_at};
@@ -8,7 +8,7 @@ ghost use Rattle.littlefs_values.specs.Codes.{result_code};
 use crate::codes::room_code;
 use lfs_device::Error;
 
-/// Copies bytes to the beginning of a buffer, if all of them fit. Returns how many they are.
+/// Copies bytes to the beginning of a buffer if all of them fit, and returns the number of bytes.
 pub fn copy_if_fitting(bytes: &[u8], buffer: &mut [u8]) -> usize
     ensures room { result ≡ length bytes.now }
     ensures small { result < 2 ^ 63 }
@@ -20,8 +20,8 @@ pub fn copy_if_fitting(bytes: &[u8], buffer: &mut [u8]) -> usize
     bytes.len()
 }
 
-/// Copies bytes from an offset on to the beginning of a buffer, as many as it has room for. Returns
-/// how many they are.
+/// Copies bytes, starting at `offset`, to the beginning of a buffer until the buffer is full or the
+/// bytes end. Returns the number of bytes copied.
 pub fn copy_part(bytes: &[u8], offset: usize, buffer: &mut [u8]) -> usize
     ensures count { result ≡ length (take (length buffer.old) (drop offset bytes.now)) }
     ensures small { result < 2 ^ 63 }
@@ -33,8 +33,8 @@ pub fn copy_part(bytes: &[u8], offset: usize, buffer: &mut [u8]) -> usize
     count
 }
 
-/// Copies the bytes of an answer to the beginning of a buffer, if all of them fit. Returns how many
-/// they are, or minus the error's number.
+/// Copies the bytes of an `Ok` to the beginning of a buffer if all of them fit, and returns their
+/// number. Returns the negated error number for an `Err`.
 pub fn fill_with_bytes(answer: Result<Vec<u8>, Error>, buffer: &mut [u8]) -> i64
     ensures code { result ≡ result_code (λ v. length v.items) answer }
     ensures buffer { buffer.new ≡ filled_buffer answer buffer.old }

@@ -1,4 +1,4 @@
-// Results as numbers for C: 0 or more, or minus an error's number.
+// Converts results to numbers for C: 0 or more, or the negated number of an error.
 
 ghost use Rattle.std.specs.Prelude.{◌≡◌, ◌<◌, ◌^◌, pos, ◌-ℤ◌, IfOk};
 ghost use Rattle.lfs_device.specs.Error.{error_number};
@@ -7,17 +7,17 @@ ghost use Rattle.littlefs_values.specs.Codes.{bool_number, result_code, stat_num
 use lfs_device::Error;
 use lfs_lookup::{Kind, Stat};
 
-/// Minus the number of `EBADFD`, for a call of a handle that has nothing.
+/// The negated number of `EBADFD`, which a call returns if its handle has no volume or session.
 pub const CLOSED: i64 = -77;
 
-/// Returns minus the error's number.
+/// Returns the negated number of the error.
 pub fn error_code(error: Error) -> i64
     ensures { result ≡ pos 0 -ℤ pos (error_number error) }
 {
     -i64::from(error.number())
 }
 
-/// Returns 0 if the call was done, or minus the error's number.
+/// Returns 0 for an `Ok`, or the negated error number.
 pub fn unit_code(answer: Result<(), Error>) -> i64
     ensures { result ≡ result_code (λ _. 0) answer }
 {
@@ -27,7 +27,7 @@ pub fn unit_code(answer: Result<(), Error>) -> i64
     }
 }
 
-/// Returns the count itself, or minus the error's number.
+/// Returns the number in an `Ok`, or the negated error number.
 pub fn count_code(answer: Result<u32, Error>) -> i64
     ensures { result ≡ result_code (λ n. n) answer }
 {
@@ -37,7 +37,7 @@ pub fn count_code(answer: Result<u32, Error>) -> i64
     }
 }
 
-/// Returns a file's size in bytes, 2 to the 32nd for a directory, or minus the error's number.
+/// Returns a file's size in bytes, 2^32 for a directory, or the negated error number.
 pub fn size_code(answer: Result<Stat, Error>) -> i64
     ensures { result ≡ result_code stat_number answer }
 {
@@ -50,7 +50,7 @@ pub fn size_code(answer: Result<Stat, Error>) -> i64
     }
 }
 
-/// Returns 1 for yes, 0 for no, or minus the error's number.
+/// Returns 1 for true, 0 for false, or the negated error number.
 pub fn bool_code(answer: Result<bool, Error>) -> i64
     ensures { result ≡ result_code bool_number answer }
 {
@@ -61,7 +61,7 @@ pub fn bool_code(answer: Result<bool, Error>) -> i64
     }
 }
 
-/// Returns the bytes that an answer needs in a buffer, or minus the error's number.
+/// Returns the number in an `Ok`, which must be below 2^63, or the negated error number.
 pub fn room_code(answer: Result<usize, Error>) -> i64
     requires { IfOk answer (λ n. n < 2 ^ 63) }
     ensures { result ≡ result_code (λ n. n) answer }

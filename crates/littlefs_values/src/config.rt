@@ -1,21 +1,22 @@
-// The settings that C gives for a file system.
+// The settings that C passes for a file system.
 
 ghost use Rattle.std.specs.Prelude.{◌≡◌, ◌↔◌, IsTrue};
 ghost use Rattle.littlefs_values.specs.Configs.{IsValidConfig, config_profile};
 
 use lfs_device::{AcceptedVersions, Profile};
 
-/// Which images are accepted, and which limits a new one gets. Sizes are in bytes.
+/// The on-disk versions to accept, and the limits for writing. Sizes are in bytes.
 #[repr(C)]
 #[derive(Drop)]
 pub struct Config {
-    /// The versions that are accepted: 0 for 2.0 alone, 1 for 2.1 too.
+    /// The accepted on-disk versions: 0 for only 2.0, and 1 for 2.0 and 2.1.
     pub versions: u32,
     pub name_max: u32,
     pub file_max: u32,
     pub attr_max: u32,
     pub inline_max: u32,
-    /// After how many compactions a metadata pair moves to other blocks. With 0 it never moves.
+    /// The number of compactions after which a metadata pair moves to other blocks. With 0, pairs
+    /// never move.
     pub pair_cycles: u32,
 }
 
@@ -39,7 +40,7 @@ impl Config {
         }
     }
 
-    /// Returns whether each number is within its range.
+    /// Returns whether each field is within its range.
     pub fn is_valid(&self) -> bool
         ensures { IsTrue result ↔ IsValidConfig self.now }
     {

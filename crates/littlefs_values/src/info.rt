@@ -1,4 +1,4 @@
-// A superblock's fields, as C gets them.
+// The fields of a superblock in the form that C reads.
 
 ghost use Rattle.std.specs.Prelude.{◌≡◌};
 ghost use Rattle.littlefs_values.specs.Infos.{superblock_info};
@@ -9,7 +9,8 @@ use lfs_tag::Superblock;
 #[repr(C)]
 #[derive(Drop)]
 pub struct FsInfo {
-    /// The major version in the upper 16 bits, the minor one in the lower.
+    /// The on-disk version: the major number in the upper 16 bits, and the minor number in the
+    /// lower 16 bits.
     pub version: u32,
     pub block_size: u32,
     pub block_count: u32,
@@ -19,7 +20,7 @@ pub struct FsInfo {
 }
 
 impl FsInfo {
-    /// Returns the fields of a superblock.
+    /// Returns an `FsInfo` with the fields of a superblock.
     pub fn of(fields: &Superblock) -> FsInfo
         ensures { result ≡ superblock_info fields.now }
     {

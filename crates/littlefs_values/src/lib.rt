@@ -1,6 +1,6 @@
 // SPDX-License-Identifier: BSD-3-Clause
-//! What the libraries for C share: results as numbers, settings, answers in a buffer, and a box as its
-//! pointer.
+//! Types and functions that the libraries for C share: results as numbers, settings, results in a
+//! buffer, and the parts of a box.
 #![tactic(auto)]
 
 mod buffers;

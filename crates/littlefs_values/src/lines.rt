@@ -1,4 +1,4 @@
-// The lines that list a directory.
+// The text lines of a directory listing.
 
 ghost use Rattle.std.specs.Prelude.{◌≡◌, ◌<◌, ◌^◌, ◌++◌, map, IfOk, OnOk};
 ghost use Rattle.lfs_lookup.specs.Finds.{listed_item_view, size_if_file};
@@ -10,7 +10,7 @@ use lfs_lookup::{Kind, ListItem, push_escaped_path};
 use std::alloc::{AllocError, Global};
 use std::io::Write;
 
-// Appends the part of a line before the name: a file's size, or that it is a directory.
+// Appends a line's beginning up to the name: `f SIZE ` for a file, or `d 0 ` for a directory.
 fn push_kind_size(text: &mut Vec<u8>, kind: Kind, size: u32) -> Result<(), AllocError>
     ensures { OnOk result (text.new.items ≡ text.old.items ++ line_prefix (size_if_file kind size)) }
 {
@@ -35,7 +35,7 @@ fn push_item_line(text: &mut Vec<u8>, item: &ListItem) -> Result<(), AllocError>
     Ok(())
 }
 
-// Returns the lines of a directory's entries, in their order.
+// Returns the lines of a directory's entries, in the order of `items`.
 fn lines_of_items(alloc: Global, items: &[ListItem]) -> Result<Vec<u8>, AllocError>
     ensures { IfOk result (λ text. text.items ≡ item_lines (map listed_item_view items.now)) }
 {
@@ -46,12 +46,12 @@ fn lines_of_items(alloc: Global, items: &[ListItem]) -> Result<Vec<u8>, AllocErr
     Ok(text)
 }
 
-/// Copies the lines of a listing to a buffer, if all of them fit. Returns the bytes that they need.
+/// Copies the lines of a listing to a buffer if all of them fit, and returns their length in bytes.
 ///
 /// # Errors
 ///
-/// The listing's error, and `NoMemory` if memory for the lines isn't granted. After an error the
-/// buffer is as it was.
+/// Returns the listing's error, or `NoMemory` if memory for the lines can't be allocated. On error,
+/// the buffer doesn't change.
 pub fn fill_with_lines(
     alloc: Global,
     answer: Result<Vec<ListItem>, Error>,

@@ -1,4 +1,4 @@
-// A counter in a file that is rewritten in place: a close commits the whole file at once.
+// A counter in a file that is rewritten in place. A close commits the whole file at once.
 
 ghost use Rattle.std.specs.Prelude.{◌≡◌, IfOk, OnOk};
 ghost use Rattle.lfs_fs.specs.SessionView.{system_state};
@@ -11,7 +11,7 @@ use lfs_device::{BlockDevice, Error};
 use lfs_fs::Session;
 use std::alloc::Global;
 
-// Returns the number in the first four bytes, the lowest byte first, or 0 if there are fewer.
+// Returns the first four bytes as a little-endian number, or 0 if there are fewer than four bytes.
 fn number_of(bytes: &[u8]) -> u32
     ensures { result ≡ number_of bytes.now }
 {
@@ -25,7 +25,7 @@ fn number_of(bytes: &[u8]) -> u32
 ///
 /// # Errors
 ///
-/// Those of [`read_file`]; `NoEnt` if no counter was set.
+/// Returns the errors of [`read_file`], such as `NoEnt` if the counter was never set.
 pub fn read_counter<D: BlockDevice>(session: &mut Session<D>, alloc: Global) -> Result<u32, Error>
     ensures survives { SurvivesCount (system_state session.old) (system_state session.new) }
     ensures lived { LivesOn (system_state session.old) (system_state session.new) }
@@ -36,12 +36,12 @@ pub fn read_counter<D: BlockDevice>(session: &mut Session<D>, alloc: Global) -> 
     Ok(number_of(&bytes))
 }
 
-/// Sets the counter to `number`. If power is lost at any moment of the call, the next start reads the old number or
-/// this one. A counter that was never set is 0.
+/// Sets the counter to `number`. If power is lost during the call, the next start reads the old
+/// number or `number`. A counter that was never set counts as 0.
 ///
 /// # Errors
 ///
-/// Those of [`write_file`].
+/// Returns the errors of [`write_file`].
 pub fn set_counter<D: BlockDevice>(
     session: &mut Session<D>,
     alloc: Global,
@@ -61,12 +61,13 @@ pub fn set_counter<D: BlockDevice>(
     Ok(())
 }
 
-/// Raises the counter by one, and returns the new number. If power is lost at any moment of the call, the next start
-/// reads the old number or the new one.
+/// Increments the counter, and returns the new number. If power is lost during the call, the next
+/// start reads the old number or the new one.
 ///
 /// # Errors
 ///
-/// `TooBig` if the number is `u32::MAX`; those of [`read_counter`] and [`write_file`].
+/// Returns `TooBig` if the number is `u32::MAX`, or else the errors of [`read_counter`] and
+/// [`write_file`].
 pub fn raise_counter<D: BlockDevice>(session: &mut Session<D>, alloc: Global) -> Result<u32, Error>
     ensures survives { SurvivesRaise (system_state session.old) (system_state session.new) }
     ensures lived { LivesOn (system_state session.old) (system_state session.new) }

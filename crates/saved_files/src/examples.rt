@@ -1,4 +1,4 @@
-// Small examples for the definitions of the promises: what meets them, and what doesn't.
+// Small examples that show what meets this crate's definitions, and what doesn't.
 
 ghost use Rattle.std.specs.Prelude.{ℕ, ◌≡◌, List, true, false, [], ◌∷◌, Some, None, codes};
 ghost use Rattle.lfs_model.specs.tree.Tree.{FileNode, DirectoryNode};
@@ -15,7 +15,8 @@ ghost use Rattle.saved_files.specs.Settings.{AreCutSaves, IsCutSave, IsEither, I
 ghost use Rattle.saved_files.specs.Counter.{CountsTo, RaisesTo, SetsTo, counter_in, number_of};
 ghost use Rattle.saved_files.specs.Log.{AreAppends, AreCutAppends, AreCutSessions, HasBeginning, HasBeginnings, IsDoneAppend};
 
-/// A session works on as long as it answers and isn't remounted. If it makes no call, a loss of power leaves its tree.
+/// A session keeps working while it answers each operation and isn't remounted. If the session
+/// makes no call, a power loss doesn't change its tree.
 pub fn session_works_on_while_it_answers()
     ensures works { WorksOn fresh_state fresh_state }
     ensures failed { WorksOn fresh_state failed_state → ⊥ }
@@ -25,13 +26,13 @@ pub fn session_works_on_while_it_answers()
     ensures lost { SurvivesWith (λ tree. ⊥) fresh_state fresh_state → ⊥ }
 {}
 
-/// A fresh disk can be mounted, and one without blocks can't.
+/// A freshly formatted disk can be mounted, and a disk without blocks can't.
 pub fn fresh_disk_starts_safely()
     ensures starts { StartsSafely (λ tree. tree ≡ empty_tree) small_image }
     ensures none { StartsSafely (λ tree. tree ≡ empty_tree) blockless_disk → ⊥ }
 {}
 
-/// A file that is written has the new bytes alone, or at its end. A directory has no bytes.
+/// A write replaces the bytes of a file or appends to them. A directory has no bytes.
 pub fn file_has_the_written_bytes()
     ensures saved { bytes_written (codes "a" ∷ []) saving_flags (codes "old") (codes "new") ≡ codes "new" }
     ensures appended { bytes_written (codes "a" ∷ []) appending_flags (codes "old") (codes "new") ≡ codes "oldnew" }
@@ -41,7 +42,8 @@ pub fn file_has_the_written_bytes()
     ensures other { SameElsewhere (codes "b" ∷ []) empty_tree (tree_creating (codes "a" ∷ []) (FileNode [] []) empty_tree) → ⊥ }
 {}
 
-/// A new file may be empty after a loss of power, but it never has a part of the written bytes.
+/// A new file may be empty after a power loss, but it never contains only a part of the written
+/// bytes.
 pub fn file_is_written_whole()
     ensures written { IsWritten (codes "a" ∷ []) saving_flags (codes "bc") empty_tree (tree_creating (codes "a" ∷ []) (FileNode [] (codes "bc")) empty_tree) }
     ensures not_written { IsWritten (codes "a" ∷ []) saving_flags (codes "bc") empty_tree empty_tree → ⊥ }
@@ -49,7 +51,7 @@ pub fn file_is_written_whole()
     ensures part { IsBeforeOrAfterWrite (codes "a" ∷ []) saving_flags (codes "bc") empty_tree (tree_creating (codes "a" ∷ []) (FileNode [] (codes "b")) empty_tree) → ⊥ }
 {}
 
-/// Settings are the old ones or the new ones.
+/// After a power loss, the settings are the old ones or the new ones.
 pub fn settings_are_old_or_new()
     ensures none { settings_in empty_tree ≡ None }
     ensures some { settings_in (tree_creating settings_path (FileNode [] (codes "a")) empty_tree) ≡ Some (codes "a") }
@@ -59,7 +61,7 @@ pub fn settings_are_old_or_new()
     ensures other { IsOneOf (codes "a" ∷ []) None → ⊥ }
 {}
 
-/// A counter is four bytes, the lowest one first.
+/// A counter is stored as four little-endian bytes.
 pub fn counter_is_four_bytes()
     ensures number { number_of (1 ∷ 2 ∷ 0 ∷ 0 ∷ []) ≡ 513 }
     ensures short { number_of (1 ∷ 2 ∷ 0 ∷ []) ≡ 0 }
@@ -68,7 +70,7 @@ pub fn counter_is_four_bytes()
     ensures miscounts { CountsTo 1 fresh_state fresh_state → ⊥ }
 {}
 
-/// A session that made no call has neither counted nor saved nor logged.
+/// A session that made no call hasn't changed the counter, the settings or the log.
 pub fn nothing_is_done_without_call()
     ensures set { SetsTo 0 fresh_state fresh_state }
     ensures not_set { SetsTo 1 fresh_state fresh_state → ⊥ }
@@ -78,7 +80,7 @@ pub fn nothing_is_done_without_call()
     ensures no_append { AreAppends fresh_state [] fresh_state → ⊥ }
 {}
 
-/// A log never has a part of an entry, and the entries are in the order of the sessions.
+/// A log never contains a part of an entry, and its entries are in the order of the sessions.
 pub fn log_has_whole_entries()
     ensures begins { HasBeginning (codes "a") (codes "bc" ∷ codes "d" ∷ []) (codes "abc") }
     ensures part { HasBeginning (codes "a") (codes "bc" ∷ codes "d" ∷ []) (codes "ab") → ⊥ }
@@ -86,7 +88,8 @@ pub fn log_has_whole_entries()
     ensures other_order { HasBeginnings [] (((1 ∷ []) ∷ []) ∷ ((2 ∷ []) ∷ []) ∷ []) (2 ∷ 1 ∷ []) → ⊥ }
 {}
 
-/// Power may be lost before the first call of a save or an append. No number of losses leaves a disk without blocks.
+/// Power may be lost before the first device call of a save or an append. No sequence of power
+/// losses leaves a disk without blocks.
 pub fn saves_and_appends_may_be_cut()
     ensures save { IsCutSave small_image (codes "a") small_image }
     ensures saves { AreCutSaves small_image (codes "a" ∷ codes "b" ∷ []) small_image }

@@ -1,4 +1,5 @@
-// Shared by settings, counter and log: a start, a write of a whole file, and a read of one.
+// Functions that settings, counter and log share: they mount a device, and write or read a whole
+// file.
 
 ghost use Rattle.std.specs.Prelude.{◌≡◌, true, IfOk, OnOk};
 ghost use Rattle.lfs_model.specs.format.Disk.{ordered_disk};
@@ -18,11 +19,11 @@ use lfs_device::{BlockDevice, Error, RamDevice, lemma_ram_premises};
 use lfs_fs::{OpenFlags, Session, mount};
 use std::alloc::Global;
 
-/// Mounts a device at the start of a program, and checks that its image may be written.
+/// Mounts a device when the application starts, and checks that its image may be written.
 ///
 /// # Errors
 ///
-/// `ReadOnly` if the image may not be written, and those of [`mount`].
+/// Returns `ReadOnly` if the image may not be written, or else the errors of [`mount`].
 pub fn start<D: BlockDevice + Drop>(alloc: Global, device: D) -> Result<Session<D>, Error>
     ensures mounted { IfOk result (λ session. IsMounted (ordered_disk session.tree.disk.order (disk_of_device D.BlockDevice device)) (system_state session)) }
     ensures may { IfOk result (λ session. MayLosePower (system_state session)) }
@@ -37,7 +38,7 @@ pub fn start<D: BlockDevice + Drop>(alloc: Global, device: D) -> Result<Session<
     Ok(session)
 }
 
-// Returns the flags for a file that is replaced by the written bytes.
+// Returns the flags that make a write replace the whole file.
 pub(crate) fn saving_flags() -> OpenFlags
     ensures { flags_view result ≡ saving_flags }
 {
@@ -46,7 +47,7 @@ pub(crate) fn saving_flags() -> OpenFlags
         .union(OpenFlags::TRUNCATE)
 }
 
-// Returns the flags for a file to which the written bytes are appended.
+// Returns the flags that make a write append to the file.
 pub(crate) fn appending_flags() -> OpenFlags
     ensures { flags_view result ≡ appending_flags }
 {
@@ -55,14 +56,14 @@ pub(crate) fn appending_flags() -> OpenFlags
         .union(OpenFlags::APPEND)
 }
 
-/// Opens a file, writes bytes, and closes it. If power is lost at any moment of the call, the next start finds the file
-/// from before the write, or from after it, whole, since the close commits the bytes at once. A file that is new may be
-/// empty then.
+/// Opens a file, writes bytes, and closes the file. If power is lost during the call, the next
+/// start finds the whole file from before the write or from after it, because the close commits all
+/// bytes at once. A new file may also be empty then.
 ///
 /// # Errors
 ///
-/// Those of `open`, `write` and `close`. After a refused write the file is still open, so the next write is refused
-/// with `Busy`.
+/// Returns the errors of `open`, `write` and `close`. A refused write leaves the file open, so that
+/// the next call of this function returns `Busy`.
 pub fn write_file<D: BlockDevice>(
     session: &mut Session<D>,
     alloc: Global,
@@ -82,12 +83,12 @@ pub fn write_file<D: BlockDevice>(
     Ok(())
 }
 
-/// Returns all bytes of a file. If power is lost at any moment of the call, the next start finds the same bytes there,
-/// and none if there were none.
+/// Returns all bytes of a file. If power is lost during the call, the next start finds the file
+/// unchanged.
 ///
 /// # Errors
 ///
-/// `NoEnt` if there is no file, and those of `open`, `size`, `read` and `close`.
+/// Returns `NoEnt` if there is no file, or else the errors of `open`, `size`, `read` and `close`.
 pub fn read_file<D: BlockDevice>(
     session: &mut Session<D>,
     alloc: Global,
@@ -105,7 +106,8 @@ pub fn read_file<D: BlockDevice>(
     Ok(bytes)
 }
 
-/// Proves that a device in memory meets the premise on erases. Does nothing at run time.
+/// Proves that each erase of a device in memory meets the premise about erases. Does nothing at run
+/// time.
 pub fn memory_erases_cleanly(session: &Session<RamDevice>)
     ensures { (from : SystemState) → LivesOn from (system_state session.now) → AllCallsSince ErasesCleanly from.calls (system_state session.now).calls }
 {

@@ -1,6 +1,6 @@
 // SPDX-License-Identifier: BSD-3-Clause
-//! Files of an application that stay whole if power is lost: settings, a counter and a log. Each promise is proved from
-//! the contracts of a session.
+//! Functions that store settings, a counter and a log in files that stay whole if power is lost.
+//! Each function's contract is proved from the contracts of a session.
 #![tactic(auto)]
 
 mod counter;

@@ -1,4 +1,4 @@
-// A life in two parts, for the promises of functions that call others.
+// A lemma for functions that make two calls: a power loss interrupts only one of them.
 
 ghost use Rattle.std.specs.Prelude.{◌⊎◌};
 ghost use Rattle.lfs_model.specs.format.Disk.{Disk};
@@ -7,8 +7,8 @@ ghost use Rattle.lfs_model.specs.crash.RepeatedPowerLoss.{LeftBetween};
 ghost use Rattle.lfs_fs.specs.Starts.{LivesOn};
 ghost use Rattle.saved_files.specs.Working.{WorksOn};
 
-/// A loss of power between two states of a life is before or after any state between them, if the session worked until
-/// that state.
+/// Proves that a power loss between two states of a session is before or after any state between
+/// them, if the session answered each operation until then and wasn't remounted.
 pub fn power_loss_is_in_one_part()
     ensures { (a b c : SystemState) (left : Disk) → WorksOn a b → LivesOn b c → LeftBetween a c left → LeftBetween a b left ⊎ LeftBetween b c left }
 {}

@@ -1,4 +1,4 @@
-// A log in a file that is appended to in place: a close commits all of an entry at once.
+// A log in a file that is appended to in place. A close commits a whole entry at once.
 
 ghost use Rattle.std.specs.Prelude.{ℕ, ◌≡◌, List, OnOk};
 ghost use Rattle.lfs_model.specs.format.Disk.{Disk};
@@ -16,12 +16,12 @@ use lfs_device::{BlockDevice, Error};
 use lfs_fs::Session;
 use std::alloc::Global;
 
-/// Appends an entry to the log. If power is lost at any moment of the call, the next start finds the log without the
-/// entry, or with all of it.
+/// Appends an entry to the log. If power is lost during the call, the next start finds the log
+/// without the entry, or with the whole entry.
 ///
 /// # Errors
 ///
-/// Those of [`write_file`].
+/// Returns the errors of [`write_file`].
 pub fn append_to_log<D: BlockDevice>(
     session: &mut Session<D>,
     alloc: Global,
@@ -34,8 +34,8 @@ pub fn append_to_log<D: BlockDevice>(
     Ok(())
 }
 
-/// Power may be lost in one session after another. The next start finds a log with the first few entries of each
-/// session, and no part of an entry.
+/// Proves what a log contains after a power loss in each of several sessions: the first few entries
+/// of each session, and never a part of an entry.
 pub fn log_survives_any_losses()
     ensures once { (from : SystemState) (entries : List (List ℕ)) (to : SystemState) (s : SessionState) → AreAppends from entries to → from.state ≡ Healthy s
         → SurvivesWith (λ tree. HasBeginning (log_in s.tree) entries (log_in tree)) from to }

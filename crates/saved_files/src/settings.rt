@@ -1,4 +1,4 @@
-// Settings are written to a second file, which is then renamed onto the first.
+// Settings are written to a second file, which is then renamed to replace the first.
 
 ghost use Rattle.std.specs.Prelude.{ℕ, ◌≡◌, ◌⊎◌, List, Option, Some, IfOk, OnOk};
 ghost use Rattle.lfs_model.specs.format.Disk.{Disk};
@@ -14,11 +14,12 @@ use lfs_device::{BlockDevice, Error, RamDevice};
 use lfs_fs::{Session, format};
 use std::alloc::Global;
 
-/// Saves settings. If power is lost at any moment of the call, the next start reads the old ones or these.
+/// Saves settings. If power is lost during the call, the next start reads the old settings or the
+/// new ones.
 ///
 /// # Errors
 ///
-/// Those of [`write_file`] and of a rename.
+/// Returns the errors of [`write_file`] and of a rename.
 pub fn save_settings<D: BlockDevice>(
     session: &mut Session<D>,
     alloc: Global,
@@ -33,11 +34,12 @@ pub fn save_settings<D: BlockDevice>(
     Ok(())
 }
 
-/// Formats a device in memory, and saves settings there. The promise has no premise.
+/// Formats a device in memory, and saves settings on it. Unlike the contract of [`save_settings`],
+/// the contract of this function has no premise about the device.
 ///
 /// # Errors
 ///
-/// Those of [`format`](lfs_fs::format) and of [`save_settings`].
+/// Returns the errors of [`format`](lfs_fs::format) and of [`save_settings`].
 pub fn format_and_save(
     alloc: Global,
     device: RamDevice,
@@ -54,18 +56,18 @@ pub fn format_and_save(
     Ok(session)
 }
 
-/// Power may be lost in one save after another. The next start finds the settings from before the first save, or those
-/// of one of the saves.
+/// Proves that settings survive a power loss in each of several saves. The next start finds the
+/// settings from before the first save, or those of one of the saves.
 pub fn settings_survive_any_losses()
     ensures { (disk left : Disk) (old : Option (List ℕ)) (saves : List (List ℕ)) → StartsSafely (λ tree. settings_in tree ≡ old) disk → AreCutSaves disk saves left
         → StartsSafely (λ tree. (settings_in tree ≡ old) ⊎ IsOneOf saves (settings_in tree)) left }
 {}
 
-/// Returns the settings, whole.
+/// Returns all bytes of the settings.
 ///
 /// # Errors
 ///
-/// Those of [`read_file`]; `NoEnt` if no settings were saved.
+/// Returns the errors of [`read_file`], such as `NoEnt` if no settings were saved.
 pub fn read_settings<D: BlockDevice>(
     session: &mut Session<D>,
     alloc: Global,

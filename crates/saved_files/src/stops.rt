@@ -1,4 +1,4 @@
-// Settings on a device that stops.
+// Settings on a device that loses power.
 
 ghost use Rattle.std.specs.Prelude.{IfOk};
 ghost use Rattle.lfs_fs.specs.SessionView.{system_state};
@@ -10,12 +10,13 @@ use lfs_device::{Error, FaultDevice, RamDevice, lemma_ram_premises};
 use lfs_fs::Session;
 use std::alloc::Global;
 
-/// Saves settings on a device that may stop in the call, and starts again on what is left: the settings are the old
-/// ones or these.
+/// Saves settings on a device that may lose power during the save, and mounts what is left on it.
+/// The returned session has the old settings or the new ones.
 ///
 /// # Errors
 ///
-/// `Invalid` if the device may have torn a call, since a torn program may leave any bytes. Those of [`start`].
+/// Returns `Invalid` if the device may have torn a program, because a torn program may leave any
+/// bytes. Otherwise, returns the errors of [`start`].
 pub fn save_and_start_again(
     alloc: Global,
     mut session: Session<FaultDevice<RamDevice>>,

@@ -5,10 +5,10 @@ ghost use Rattle.lfs_tool.specs.Boards.{board_block_size, board_named, board_pro
 
 use lfs_model::{AcceptedVersions, Profile};
 
-/// A board or a firmware, whose sizes and limits apply unless an option sets other ones.
+/// A board or a firmware, whose sizes and limits apply unless an option overrides them.
 #[derive(Clone, Copy, Debug, PartialEq, Eq)]
 pub enum Board {
-    /// No board is named: the defaults are the tool's own.
+    /// No board is given, so the tool's own defaults apply.
     Unnamed,
     /// An ESP8266 with Arduino.
     Esp8266,
@@ -20,8 +20,8 @@ pub enum Board {
     Micropython,
 }
 
-// Returns the profile of firmware with names of at most `name_max` bytes and inline files of at most
-// `inline_max` bytes.
+// Returns the profile of a firmware that has names of at most `name_max` bytes and inline files of
+// at most `inline_max` bytes.
 fn firmware_profile(name_max: u32, inline_max: u32) -> Profile
     ensures { result ≡ profile_of_firmware name_max inline_max }
 {
@@ -38,7 +38,7 @@ fn firmware_profile(name_max: u32, inline_max: u32) -> Profile
 }
 
 impl Board {
-    // Returns the board of this name, if there is one.
+    // Returns the board with this name, or None if no board has it.
     pub(crate) fn of_name(text: &str) -> Option<Board>
         ensures { result ≡ board_named text.now }
     {
@@ -55,7 +55,7 @@ impl Board {
         }
     }
 
-    // Returns the size of a block in bytes.
+    // Returns the board's block size in bytes.
     pub(crate) fn block_size(self) -> u32
         ensures { result ≡ board_block_size self }
     {
@@ -65,8 +65,8 @@ impl Board {
         }
     }
 
-    // Returns the limits and the versions. The limit of names is the firmware's LFS_NAME_MAX, and that of
-    // inline files its cache_size.
+    // Returns the board's limits and accepted versions. `name_max` is the firmware's LFS_NAME_MAX,
+    // and `inline_max` is its cache_size.
     pub(crate) fn profile(self) -> Profile
         ensures { result ≡ board_profile self }
     {

@@ -1,4 +1,4 @@
-// The lines of a check's result.
+// The lines that `check` prints.
 
 ghost use Rattle.std.specs.Prelude.{◌≡◌, ◌++◌, IfOk, OnOk};
 ghost use Rattle.lfs_tool.specs.CheckedLines.{blocks_text, result_text, counts_text, limit_line, order_line, other_limit_text, breach_text, recover_line, reason_text, summary_text, superblock_lines, version_line, writable_line, writable_text, yes_no_text};
@@ -29,7 +29,7 @@ impl fmt::Display for AcceptedOrders {
     }
 }
 
-// Adds the line of a version, unless it is 2.0.
+// Appends the line of a version, unless it is 2.0.
 fn push_version_line(text: &mut Vec<u8>, version: u32) -> io::Result<()>
     ensures { OnOk result (text.new.items ≡ text.old.items ++ version_line version) }
 {
@@ -39,7 +39,7 @@ fn push_version_line(text: &mut Vec<u8>, version: u32) -> io::Result<()>
     write!(text, "version {}.{}\n", version / 65536, version % 65536)
 }
 
-// Adds the line of a limit, unless it is the default one.
+// Appends the line of a limit, unless the limit is the default.
 fn push_limit_line(text: &mut Vec<u8>, name: &str, default: u32, limit: u32) -> io::Result<()>
     ensures { OnOk result (text.new.items ≡ text.old.items ++ limit_line name.now default limit) }
 {
@@ -49,7 +49,8 @@ fn push_limit_line(text: &mut Vec<u8>, name: &str, default: u32, limit: u32) -> 
     write!(text, "{name} {limit}\n")
 }
 
-// Adds the lines of a superblock, if there is one: its version, and each limit that isn't the default one.
+// Appends the lines of a superblock, if there is one: its version, unless that is 2.0, and each
+// limit that isn't the default.
 fn push_superblock_lines(text: &mut Vec<u8>, superblock: Option<Superblock>) -> io::Result<()>
     ensures { OnOk result (text.new.items ≡ text.old.items ++ superblock_lines superblock) }
 {
@@ -162,7 +163,7 @@ fn push_writable_line(text: &mut Vec<u8>, summary: &ImageSummary) -> io::Result<
     write!(text, "\n")
 }
 
-// Adds the lines of an accepted image.
+// Appends the lines of an accepted image.
 fn push_summary(
     text: &mut Vec<u8>,
     summary: &ImageSummary,
@@ -178,7 +179,7 @@ fn push_summary(
     push_writable_line(text, summary)
 }
 
-// ---- why one isn't accepted
+// ---- the reason for a refusal
 
 fn push_refusal_reason(
     text: &mut Vec<u8>,
@@ -210,8 +211,10 @@ fn push_check_result(text: &mut Vec<u8>, checked: &CheckResult) -> io::Result<()
     }
 }
 
-/// Returns the text of a rule of the writing profile that an image breaks, with its location, as `check` writes it
-/// behind `writable no: `.
+/// Returns the text that `check` prints after `writable no`. The text states the rule of the
+/// writing profile that the image breaks, and the location.
+///
+/// Errors: `AllocError` if memory can't be allocated.
 pub fn breach_line(
     alloc: Global,
     inline_max: Option<u32>,
@@ -226,7 +229,10 @@ pub fn breach_line(
     }
 }
 
-/// Returns the reason why an image isn't accepted, as `check` writes it behind `corrupt`.
+/// Returns the line that `check` prints after `corrupt`, without its newline. The line states why
+/// the image isn't accepted.
+///
+/// Errors: `AllocError` if memory can't be allocated.
 pub fn reason_line(
     alloc: Global,
     given: &GivenSizes,
@@ -241,7 +247,9 @@ pub fn reason_line(
     }
 }
 
-/// Returns the lines of a check's result, as `check` writes them.
+/// Returns the lines that `check` prints for a result.
+///
+/// Errors: `AllocError` if memory can't be allocated.
 pub fn check_result_lines(alloc: Global, checked: &CheckResult) -> Result<Vec<u8>, AllocError>
     ensures { IfOk result (λ text. text.items ≡ result_text checked.now) }
 {

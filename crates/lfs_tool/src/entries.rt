@@ -11,15 +11,16 @@ use std::alloc::Global;
 /// A file or a folder of a source.
 #[derive(Debug, Drop)]
 pub struct SourceEntry {
-    /// The path, `/` before each name.
+    /// The path of the file or the folder, with a `/` before each name.
     pub path: Vec<u8>,
-    /// A file's bytes, and none for a folder.
+    /// The bytes of a file, or None for a folder.
     pub bytes: Option<Vec<u8>>,
-    /// When it was modified, in seconds since 1970, if that is known and before 2106.
+    /// The time of the last modification in seconds since 1970, or None if it is unknown, before
+    /// 1970 or after 2106.
     pub modified: Option<u32>,
 }
 
-// A file or a folder that is known to be there, and is still to be read.
+// A file or a folder that has been listed but not read yet.
 #[derive(Debug, Drop)]
 struct WaitingEntry {
     path: Vec<u8>,
@@ -43,7 +44,7 @@ fn join_path(alloc: Global, folder: &[u8], name: &[u8]) -> Result<Vec<u8>, FileE
     Ok(path)
 }
 
-// Returns the names in a folder, in order.
+// Returns the names in a folder, sorted by name.
 fn sorted_names<S: Source>(
     alloc: Global,
     source: &mut S,
@@ -93,7 +94,8 @@ fn push_names_waiting(
     Ok(())
 }
 
-// Adds the names in a folder to the pending ones, the first name last.
+// Appends the names in a folder to the pending ones, in reverse order, so that the first name is
+// last.
 fn push_folder_names<S: Source>(
     alloc: Global,
     source: &mut S,
@@ -114,7 +116,8 @@ fn push_folder_names<S: Source>(
     Ok(())
 }
 
-// Returns a file's bytes. The names in a folder become pending.
+// Returns the bytes of a file. For a folder, returns None and appends its names to the pending
+// ones.
 fn read_waiting_entry<S: Source>(
     alloc: Global,
     source: &mut S,
@@ -149,12 +152,13 @@ fn push_source_entry(entries: &mut Vec<SourceEntry>, entry: SourceEntry) -> Resu
     entries.push(entry).map_err(|_| FileError::NoMemory)
 }
 
-/// Reads all that a source has, depth first and in name order. A folder comes before its entries.
+/// Reads all files and folders of a source, depth first and in name order. A folder comes before
+/// its entries.
 ///
 /// # Errors
-/// - `Fault` where the source couldn't be read, or a name in a folder is given twice, is empty, `.` or
-///   `..`, or has a byte 0x00 or `/`.
-/// - `NoMemory` where memory isn't granted.
+/// - `Fault` if the source can't be read, or if a folder has two equal names or a name that a path
+///   can't contain: an empty one, `.`, `..`, or one with a byte 0x00 or `/`.
+/// - `NoMemory` if memory can't be allocated.
 pub fn read_tree<S: Source>(alloc: Global, source: &mut S) -> Result<Vec<SourceEntry>, FileError>
     ensures entries { IfOk result (λ v. AreSourceEntries (S.shown source.old) v.items) }
     ensures shown { IsUnchanged (S.shown source.old) (S.shown source.new) }
@@ -165,7 +169,7 @@ pub fn read_tree<S: Source>(alloc: Global, source: &mut S) -> Result<Vec<SourceE
     let mut entries = Vec::new(alloc);
     let mut waiting = Vec::new(alloc);
     push_folder_names(alloc, source, b"", &mut waiting)?;
-    // Each round holds an entry, so memory ends before the rounds do.
+    // Each iteration appends an entry, so memory runs out long before the loop ends.
     for _ in 0..u64::MAX {
         let Some(one) = waiting.pop() else {
             return Ok(entries);

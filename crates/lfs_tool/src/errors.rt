@@ -1,4 +1,4 @@
-// Errors, and their lines, which are written without an allocation.
+// Errors and their lines, which are written without allocating memory.
 
 ghost use Rattle.std.specs.Prelude.{◌≡◌, ◌≤◌, ◌++◌, codes, false, length, true};
 ghost use Rattle.std.specs.Io.KnownBytes.{Appends};
@@ -22,13 +22,13 @@ use std::io::Write;
 /// The reason why a call of the tool failed.
 #[derive(Clone, Copy, Debug, PartialEq, Eq, thiserror::Error)]
 pub enum ToolError {
-    /// The file system refused, or memory ran out.
+    /// The file system refused an operation, or memory ran out.
     #[error("error: {} ({})", .0.name(), .0.number())]
     Fs(Error),
-    /// The image or the source could not be read.
+    /// The image or the source couldn't be read.
     #[error("error: input")]
     Input,
-    /// The image, the lines or the target could not be written.
+    /// The image, the printed lines or the target couldn't be written.
     #[error("error: output")]
     Output,
 }
@@ -36,7 +36,7 @@ pub enum ToolError {
 /// The reason why a run of the program failed.
 #[derive(Debug, Drop, thiserror::Error)]
 pub enum Fault {
-    /// The command line is wrong, or asks for help.
+    /// The command line is wrong, or it asks for help.
     #[error(transparent)]
     Line(LineError),
     /// A call of the tool failed.
@@ -88,7 +88,7 @@ impl ToolError {
     }
 }
 
-// The text of a line of the tool's own.
+// One of the tool's own lines, which have at most 96 bytes.
 type LineText = ArrayString<96>;
 
 fn line_of_words(words: &str) -> LineText
@@ -115,7 +115,7 @@ fn text_of_error(error: Error) -> LineText
     line
 }
 
-// Writes the line of a mistake in a command line, and returns the exit status. A failed write is
+// Writes the error line for a wrong command line, and returns the exit status. A failed write is
 // ignored.
 fn write_mistake<E: Write>(err: &mut Stream<E>, rule: &str) -> u8
     requires { length rule.now ≤ 80 }
@@ -143,14 +143,13 @@ fn write_error_line<E: Write>(err: &mut Stream<E>, error: ToolError) -> u8
 ///
 /// | Status | Meaning | Text |
 /// |---|---|---|
-/// | 0 | help was asked for | the parser's text, to `out` |
+/// | 0 | help was requested | the parser's text, to `out` |
 /// | 1 | the file system refused, or memory ran out | `error: <name> (<number>)`, to `err` |
-/// | 2 | the command line is wrong | the parser's text, or a line of the tool's own, such as `error: give exactly one of -c, -u, -l`, to `err` |
+/// | 2 | the command line is wrong | the parser's text or one of the tool's lines, to `err` |
 /// | 3 | input or output failed | `error: input` or `error: output`, to `err` |
 ///
-/// A failed write is ignored. The other writer isn't called. Unless its writer failed, a line of
-/// the tool's own is written whole, or the parser's text is shown, and the writer is flushed. No
-/// promise is made of the parser's text.
+/// Only one of the two streams is used, and a failed write is ignored. If no write fails, the whole
+/// text is written and the stream is flushed. The wording of the parser's text isn't specified.
 pub fn report<O: Write, E: Write>(fault: &Fault, out: &mut Stream<O>, err: &mut Stream<E>) -> u8
     ensures shown { IsFailureReported E.contents fault.now result err.old err.new }
     ensures out { is_help_request fault.now ≡ false → out.new ≡ out.old }

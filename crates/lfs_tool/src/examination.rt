@@ -1,4 +1,4 @@
-// Examines the bytes of an image: whether they are accepted, with a summary, or why not.
+// Checks the bytes of an image: returns a summary if they are accepted, and otherwise the reason.
 
 ghost use Rattle.std.specs.Prelude.{◌≡◌, ◌≤◌, List, ℕ, IfErr, IfOk, None, length};
 ghost use Rattle.lfs_tool.specs.CheckResults.{AreRefusedBytes, IsCheckResult, AreGivenSizes, IsRefusalReason, IsBytesVerdict, IsWrongNumber};
@@ -12,7 +12,7 @@ use crate::verdict::{CheckResult, GivenSizes, ImageVerdict, RefusalReason, Wrong
 use lfs_device::Error;
 use std::alloc::Global;
 
-// Returns the verdict on an image. None if no image has so many bytes.
+// Returns the verdict on an image, or None if no image of this layout has this length.
 fn judge_image(
     alloc: Global,
     image: Vec<u8>,
@@ -30,8 +30,8 @@ fn judge_image(
     }
 }
 
-// Returns the result for an image that isn't accepted: the wrong number that its superblock states,
-// if any, or else the reason.
+// Returns the result for an image that isn't accepted. The reason is the wrong number in its
+// superblock, if there is one, and otherwise `reason`.
 fn refused_check_result(
     stated: Option<WrongNumber>,
     reason: RefusalReason,
@@ -80,15 +80,16 @@ fn result_of_bytes(alloc: Global, image: Vec<u8>, layout: ImageLayout) -> Result
     Ok(result_of_verdict(stated, verdict, given))
 }
 
-/// Returns whether an image is accepted, with its summary, or why not. The result is `Accepted`
-/// exactly if a mount accepts the image, in either order of names. Each reason is true of the
-/// image's bytes. A wrong number in the superblock of block 0 or 1 is reported first, and otherwise
-/// the rule at which a mount stops.
+/// Checks an image, and returns its summary if it is accepted, or the reason if it isn't. The
+/// result is `Accepted` if and only if a mount accepts the image in at least one of the two orders
+/// of names. The reason for a refusal is a wrong number in the superblock of block 0 or 1, if there
+/// is one. If the superblocks have no wrong number, the reason is the rule at which a mount fails,
+/// or `NoImage` if no image can have these sizes.
 ///
-/// More bytes than the largest image has, 268,435,456, are no image, whatever their superblock
-/// states.
+/// An image that is longer than 268,435,456 bytes is refused with `NoImage`, whatever its
+/// superblock states.
 ///
-/// Errors: `NoMemory` if memory isn't granted.
+/// Errors: `NoMemory` if memory can't be allocated.
 pub fn result_of_image(
     alloc: Global,
     image: Vec<u8>,

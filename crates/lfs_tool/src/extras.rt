@@ -1,4 +1,4 @@
-// The requests of a command line besides its image.
+// The options of a command line that aren't part of `Line`.
 
 ghost use Rattle.std.specs.Prelude.{◌≡◌, IfOk};
 ghost use Rattle.clap.specs.Words.{found_of, rows_of};
@@ -8,52 +8,54 @@ use crate::values::{argument_text, flag_value, is_auto, number_given_or};
 use clap::ArgMatches;
 use std::alloc::{AllocError, Global};
 
-/// The requests of a line besides its image, sizes and limits.
+/// The options of a command line that aren't part of `Line`.
 #[derive(Debug, Drop)]
 pub struct Extras<'a> {
-    /// Whether the image has as few blocks as suffice, for `Mode::Create`.
+    /// Whether `Mode::Create` makes the smallest image that the folder fits in.
     pub is_size_auto: bool,
-    /// How many blocks are added to these.
+    /// The number of spare blocks to add to the smallest image.
     pub spare: u32,
-    /// The patterns of the names that are left out, for `Mode::Create`.
+    /// The patterns of the names that `Mode::Create` leaves out.
     pub exclude: Vec<&'a str>,
-    /// Whether symbolic links are followed, for `Mode::Create`.
+    /// Whether `Mode::Create` follows symbolic links.
     pub follow_links: bool,
-    /// Whether symbolic links are left out, for `Mode::Create`.
+    /// Whether `Mode::Create` leaves out symbolic links.
     pub skip_links: bool,
-    /// Whether files' times are stored, for `Mode::Create`, or restored, for `Mode::Unpack`.
+    /// Whether `Mode::Create` stores the times of files and folders, or `Mode::Unpack` restores
+    /// them.
     pub times: bool,
-    /// Whether the output is JSON, for `Mode::List` and `Mode::Check`.
+    /// Whether `Mode::List` and `Mode::Check` print JSON.
     pub json: bool,
 }
 
-/// An option that has no meaning in its command line.
+/// A misuse of an option: the option has no meaning in its command line, or conflicts with another
+/// option.
 #[derive(Clone, Copy, Debug, PartialEq, Eq, Drop)]
 pub enum Misuse {
-    /// An option for reading a folder, without `-c`.
+    /// An option for reading a folder is given without `-c`.
     Folder,
-    /// Symbolic links are to be both followed and left out.
+    /// Both `--follow-links` and `--skip-links` are given.
     Links,
-    /// JSON, with neither `-l` nor `--check`.
+    /// `--json` is given without `-l` or `--check`.
     Json,
-    /// The size `auto`, without `-c`.
+    /// `--size auto` is given without `-c`.
     Size,
-    /// Spare blocks, without the size `auto`.
+    /// `--spare` is given without `--size auto`.
     Spare,
-    /// Times, with neither `-c` nor `-u`.
+    /// `--times` is given without `-c` or `-u`.
     Times,
-    /// Pair cycles, with none of `--put`, `--remove` and `--mkdir`.
+    /// `--pair-cycles` is given without `--put`, `--remove` or `--mkdir`.
     Cycles,
-    /// A file and an image that are both standard input.
+    /// The file for `--put` and the image are both standard input.
     Streams,
-    /// `--auto`, with `-c`.
+    /// `--auto` is given with `-c`.
     Auto,
-    /// `--auto`, with an option for something that it decides.
+    /// `--auto` is given with an option whose value it reads from the superblock.
     Decided,
 }
 
 impl Misuse {
-    /// Returns the rule that the option breaks, as its error line states it.
+    /// Returns the text of the rule that the misuse breaks, as the error line states it.
     pub fn rule(self) -> &'static str
         ensures { result.now ≡ misuse_rule self }
     {
@@ -74,14 +76,14 @@ impl Misuse {
     }
 }
 
-// Returns whether an option with a text is given.
+// Returns whether an option that has a value is given.
 fn is_given(matches: &ArgMatches<'_>, id: &str) -> bool
     ensures { result ≡ is_given id.now (rows_of (found_of matches.now)) }
 {
     argument_text(matches, id).is_some()
 }
 
-// Returns whether the text of an option or an argument names a standard stream.
+// Returns whether the value of an option or an argument is `-`, which means a standard stream.
 fn is_standard_stream(matches: &ArgMatches<'_>, id: &str) -> bool
     ensures { result ≡ is_standard_stream id.now (rows_of (found_of matches.now)) }
 {
@@ -91,14 +93,14 @@ fn is_standard_stream(matches: &ArgMatches<'_>, id: &str) -> bool
     }
 }
 
-// Returns whether an image is to be changed in place.
+// Returns whether the mode changes an image in place.
 fn changes_image(matches: &ArgMatches<'_>) -> bool
     ensures { result ≡ changes_image (rows_of (found_of matches.now)) }
 {
     is_given(matches, "put") || is_given(matches, "remove") || is_given(matches, "mkdir")
 }
 
-// Returns the first misused option of those for sizes, times, pairs and files.
+// Returns the first misuse of the options for sizes, times, pair cycles and files.
 fn misused_extra(matches: &ArgMatches<'_>) -> Option<Misuse>
     ensures { result ≡ misused_extra (rows_of (found_of matches.now)) }
 {
@@ -122,7 +124,7 @@ fn misused_extra(matches: &ArgMatches<'_>) -> Option<Misuse>
     misused_auto(matches)
 }
 
-// Returns whether an option is given for something that `--auto` decides.
+// Returns whether an option is given whose value `--auto` reads from the superblock.
 fn gives_decided(matches: &ArgMatches<'_>) -> bool
     ensures { result ≡ gives_decided (rows_of (found_of matches.now)) }
 {
@@ -132,7 +134,7 @@ fn gives_decided(matches: &ArgMatches<'_>) -> bool
     gives_sizes || gives_names || gives_others
 }
 
-// Returns the misuse of `--auto`, if there is one.
+// Returns the misuse of `--auto`, or None if there is none.
 fn misused_auto(matches: &ArgMatches<'_>) -> Option<Misuse>
     ensures { result ≡ misused_auto (rows_of (found_of matches.now)) }
 {
@@ -148,7 +150,7 @@ fn misused_auto(matches: &ArgMatches<'_>) -> Option<Misuse>
     None
 }
 
-/// Returns the first misused option, if there is one.
+/// Returns the first misuse of an option, or None if there is none.
 pub(crate) fn misused_option(matches: &ArgMatches<'_>) -> Option<Misuse>
     ensures { result ≡ misused_option (rows_of (found_of matches.now)) }
 {
@@ -168,7 +170,7 @@ pub(crate) fn misused_option(matches: &ArgMatches<'_>) -> Option<Misuse>
     misused_extra(matches)
 }
 
-// Returns the patterns of the names that are left out.
+// Returns the patterns of the names to leave out.
 fn patterns_of_matches<'a>(
     alloc: Global,
     matches: &ArgMatches<'a>,
@@ -181,7 +183,9 @@ fn patterns_of_matches<'a>(
     }
 }
 
-/// Returns the requests of the matches besides the image.
+/// Returns the options of a command line that aren't part of `Line`.
+///
+/// Errors: `AllocError` if memory can't be allocated.
 pub(crate) fn extras_of_matches<'a>(
     alloc: Global,
     matches: &ArgMatches<'a>,

@@ -5,17 +5,17 @@ use std::cell::RefCell;
 use std::io;
 use std::io::Write;
 
-/// A fault of a file or a folder.
+/// A failed call on a file or a folder.
 #[derive(Debug, PartialEq, Eq, Drop)]
 pub struct PathFault {
     /// The path of the file or the folder.
     pub path: Vec<u8>,
-    /// The description of the fault, in the system's words or the tool's.
+    /// The description of the fault, by the operating system or by the tool.
     pub words: Vec<u8>,
 }
 
-/// Keeps the first fault that is noted, or the fact that memory for it ran out. No contract says what a
-/// log contains.
+/// A log that keeps only the first fault, or the fact that memory for it couldn't be allocated. No
+/// contract says what a log contains.
 #[derive(Drop)]
 pub struct FaultLog {
     first: RefCell<Result<Option<PathFault>, AllocError>>,
@@ -40,12 +40,13 @@ impl FaultLog {
         }
     }
 
-    /// Notes a fault at a path, unless something is noted already. If memory runs out, notes that instead.
+    /// Logs a fault at a path, unless the log already has an entry. If memory can't be allocated,
+    /// logs that fact instead.
     pub fn note(&self, alloc: Global, path: &[u8], error: &io::Error) {
         self.note_first(path_fault_of(alloc, path, error).map(|fault| Some(fault)));
     }
 
-    /// Notes that memory for a fault ran out, unless something is noted already.
+    /// Logs that memory for a fault couldn't be allocated, unless the log already has an entry.
     pub fn note_lost_fault(&self) {
         self.note_first(Err(AllocError));
     }
@@ -58,10 +59,10 @@ impl FaultLog {
         }
     }
 
-    /// Returns the fault that is noted, and empties the log.
+    /// Returns the logged fault, or None if there is none, and empties the log.
     ///
     /// # Errors
-    /// `AllocError` if memory ran out for the first fault.
+    /// `AllocError` if memory for the fault couldn't be allocated when it was logged.
     pub fn take(&self) -> Result<Option<PathFault>, AllocError> {
         self.first.try_replace(Ok(None)).unwrap_or(Ok(None))
     }

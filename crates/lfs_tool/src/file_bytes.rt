@@ -1,4 +1,4 @@
-// The bytes of a file.
+// Reading the bytes of a file.
 
 ghost use Rattle.std.specs.Prelude.{◌≡◌, IfOk, IfSome, take};
 
@@ -6,12 +6,12 @@ use std::alloc::Global;
 use std::io;
 use std::io::Read;
 
-// The least number of bytes that the first read asks for. Some files claim to be empty, and return all of
-// their bytes to the first read alone.
+// The smallest number of bytes that the first read requests. Some files report a length of 0 and
+// return their bytes only to the first read.
 const LEAST: usize = 512;
 
-// Returns a file's bytes, at most `most` of them. `len` is the length that the file was listed with. If
-// that is right, and less than 8192, the second read finds the end.
+// Returns the first `most` bytes of a file, or all if it has fewer. `len` is the file's length when
+// it was listed. If that is still right and less than 8192, the second read finds the end.
 pub(crate) fn read_at_most<R: Read + Drop>(
     alloc: Global,
     file: R,

@@ -2,12 +2,12 @@ ghost use Rattle.std.specs.Prelude.{◌≡◌, IfOk};
 
 use std::alloc::Global;
 
-/// The reason why a source returned nothing, or a target stored nothing.
+/// The reason why a source or a target failed.
 #[derive(Clone, Copy, Debug, PartialEq, Eq, Drop)]
 pub enum FileError {
-    /// It couldn't be read or written, or a folder has bad names.
+    /// A file or a folder couldn't be read or written, or a folder has invalid names.
     Fault,
-    /// Memory isn't granted.
+    /// Memory couldn't be allocated.
     NoMemory,
 }
 

@@ -1,26 +1,27 @@
-// The names of a folder that are left out, and the treatment of its symbolic links.
+// Rules for reading a folder: which names are left out, and how symbolic links are treated.
 
-/// The treatment of a symbolic link.
+/// The treatment of symbolic links.
 #[derive(Clone, Copy, Debug, PartialEq, Eq)]
 pub enum Links {
-    /// It is refused, as a fault.
+    /// Symbolic links cause `FileError::Fault`.
     Refuse,
-    /// It is followed.
+    /// Symbolic links are followed.
     Follow,
-    /// It is left out.
+    /// Symbolic links are left out.
     Skip,
 }
 
-/// The rules by which a folder is read.
+/// The rules for reading a folder.
 #[derive(Clone, Copy, Debug, PartialEq, Eq)]
 pub struct FolderRules<'a> {
-    /// The patterns of the names that are left out. `*` matches any bytes of a name, and `?` one character. A
-    /// pattern with `/` is matched with the path below the folder, and any other with each name.
+    /// The patterns of the names to leave out. In a pattern, `*` matches any bytes of a name, and
+    /// `?` matches one character. A pattern that contains `/` is compared with the path below the
+    /// folder, and any other pattern with each name.
     pub exclude: &'a [&'a str],
     pub links: Links,
 }
 
-// Returns the offset of the character behind this byte.
+// Returns the offset of the character after the one at this byte.
 fn next_character_start(name: &[u8], at: usize) -> usize {
     let mut end = at.saturating_add(1);
     for _ in 0..3 {
@@ -32,10 +33,11 @@ fn next_character_start(name: &[u8], at: usize) -> usize {
     end
 }
 
-// Returns whether a pattern matches all of a name or a path.
+// Returns whether a pattern matches a whole name or path.
 fn fits(pattern: &[u8], name: &[u8]) -> bool {
     let (mut at, mut from) = (0usize, 0usize);
-    // The offset behind the pattern's last star, and the offset in the name up to which that star matches.
+    // The offset after the pattern's last `*`, and the offset in the name where that star's match
+    // ends.
     let mut star: Option<(usize, usize)> = None;
     for _ in 0..u64::MAX {
         match (pattern.get(at), name.get(from)) {
@@ -65,7 +67,7 @@ fn fits(pattern: &[u8], name: &[u8]) -> bool {
     false
 }
 
-// Returns a path in a folder without its leading `/`, as patterns are written.
+// Returns a path or a pattern without its leading `/`, if it has one.
 fn below_folder<'a>(path: &'a [u8]) -> &'a [u8] {
     match path {
         [b'/', rest @ ..] => rest,
@@ -74,7 +76,7 @@ fn below_folder<'a>(path: &'a [u8]) -> &'a [u8] {
 }
 
 impl<'a> FolderRules<'a> {
-    /// Returns the rules that leave nothing out, and refuse symbolic links.
+    /// Returns rules that leave nothing out and refuse symbolic links.
     pub fn new() -> FolderRules<'a> {
         FolderRules {
             exclude: &[],
@@ -82,7 +84,7 @@ impl<'a> FolderRules<'a> {
         }
     }
 
-    // Returns whether a name is left out, by its path below the folder.
+    // Returns whether a name is left out. `path` is the path of the name below the folder.
     pub(crate) fn is_left_out(self, path: &[u8], name: &[u8]) -> bool {
         for pattern in self.exclude {
             let pattern = pattern.as_bytes();

@@ -1,4 +1,4 @@
-// The slots of a thread, for the lines that name them.
+// The slots of all metadata pairs in the tail list, for the lines that refer to them.
 
 use crate::number_text::PairText;
 use lfs_device::{BlockDevice, Error, Geometry, RamDevice, read_block};
@@ -20,7 +20,8 @@ pub(crate) fn escaped_name(alloc: Global, name: &[u8]) -> Result<String, AllocEr
     String::from_utf8_lossy(alloc, &text)
 }
 
-// Returns the active block of a pair, if it has one and both of its blocks are on the device.
+// Returns the active block of a pair, or None if neither block has a valid commit or one of the
+// blocks is out of range.
 pub(crate) fn current_block(
     alloc: Global,
     device: &mut RamDevice,
@@ -42,13 +43,14 @@ pub(crate) fn current_block(
     }
 }
 
-// A slot with a name and a struct.
+// A slot that has a name and a struct.
 #[derive(Drop)]
 pub(crate) struct FoundSlot {
-    // The address of its pair, as the thread names it, and its number in the pair.
+    // The address of the slot's pair, as the tail list states it, and the slot's number in the
+    // pair.
     pub pair: [u32; 2],
     pub number: usize,
-    // The first pair of its directory.
+    // The address of the first pair of the slot's directory.
     pub directory: [u32; 2],
     pub kind: SlotNameKind,
     pub name: Vec<u8>,
@@ -65,7 +67,8 @@ impl fmt::Display for FoundSlot {
 }
 
 impl FoundSlot {
-    // Returns the address of the directory that the slot leads to, if it is a directory's.
+    // Returns the address of the directory that the slot points to, or None if the slot is a
+    // file's.
     pub(crate) fn branch(&self) -> Option<[u32; 2]> {
         match self.structure {
             OwnedStruct::Branch(to) => Some(to),
@@ -88,7 +91,7 @@ impl fmt::Display for Neighbours<'_> {
 }
 
 impl Neighbours<'_> {
-    // Returns whether the later name follows the earlier one in that order of names.
+    // Returns whether the two names are in ascending order, in the given order of names.
     pub(crate) fn names_rise(&self, order: NameOrder) -> bool {
         name_cmp(order, &self.before.name, &self.slot.name).is_lt()
     }
@@ -99,14 +102,15 @@ pub(crate) struct FoundThread {
     pub alloc: Global,
     pub geometry: Geometry,
     pub pairs: Vec<[u32; 2]>,
-    // The first pairs of its directories. The root's is the first.
+    // The addresses of the first pairs of all directories, with the root directory's first.
     pub directories: Vec<[u32; 2]>,
     pub slots: Vec<FoundSlot>,
     pub state: MoveState,
 }
 
 impl FoundThread {
-    // Reads the thread of a device, up to a pair at which to stop, or to its end.
+    // Reads the metadata pairs of a device in the order of the tail list, up to but not including
+    // the pair `stop`, or up to the end.
     pub(crate) fn read(
         alloc: Global,
         device: &mut RamDevice,
@@ -139,8 +143,9 @@ impl FoundThread {
         Ok(thread)
     }
 
-    // Adds a pair. Returns whether the superblock's chain may continue behind it. The root directory begins at
-    // the last superblock of the chain (SPEC.md of littlefs, "0x0ff LFS_TYPE_SUPERBLOCK").
+    // Appends a pair, and returns whether the next pair may continue the superblock chain. The root
+    // directory begins at the last superblock of that chain (SPEC.md of littlefs, "0x0ff
+    // LFS_TYPE_SUPERBLOCK").
     fn push_pair(
         &mut self,
         pair: [u32; 2],
@@ -166,7 +171,7 @@ impl FoundThread {
         Ok(is_chain && is_short && has_hard_tail(content.tail))
     }
 
-    // Adds the slots of a pair that have a name and a struct.
+    // Appends the slots of a pair that have a name and a struct.
     fn push_slots(&mut self, pair: [u32; 2], slots: &[Slot<'_>]) -> Result<(), AllocError> {
         let alloc = self.alloc;
         let directory = self.directories.last().copied().unwrap_or(pair);
@@ -193,13 +198,14 @@ impl FoundThread {
         Ok(())
     }
 
-    // Returns a slot of the pair at an address.
+    // Returns the slot with this number in a pair, or None if there is none.
     pub(crate) fn slot_at(&self, pair: [u32; 2], number: usize) -> Option<&FoundSlot> {
         let mut slots = self.slots.iter();
         slots.find(|slot| slot.number == number && is_same_pair(slot.pair, pair))
     }
 
-    // Returns whether a slot is an entry: neither a superblock's, nor the one that a set move names.
+    // Returns whether a slot is an entry. A superblock's slot isn't one, and neither is the slot
+    // that a pending move has copied.
     pub(crate) fn is_entry(&self, slot: &FoundSlot) -> bool {
         let is_moved = self.state.kind == DELETE
             && is_same_pair(self.state.pair, slot.pair)
@@ -217,7 +223,8 @@ impl FoundThread {
             .any(|first| is_same_pair(*first, at))
     }
 
-    // Returns the first two neighbours in a directory whose names aren't sorted in that order.
+    // Returns the first two neighbouring entries of a directory that aren't in the given order of
+    // names.
     pub(crate) fn misordered_names(
         &self,
         order: NameOrder,
@@ -239,7 +246,8 @@ impl FoundThread {
         None
     }
 
-    // Returns the entries that lead to an address, of the directories that have a path.
+    // Returns the entries that point to an address, in directories that a path from the root
+    // reaches.
     pub(crate) fn entries_naming(&self, at: [u32; 2]) -> Result<Vec<&FoundSlot>, AllocError> {
         let mut leading = Vec::new(self.alloc);
         let mut reached: Vec<[u32; 2]> = Vec::new(self.alloc);

@@ -1,6 +1,7 @@
-// The texts of help and of the version.
+// The texts of the help and of the version.
 
-/// The text of `--version` behind the program's name: its version, and that of the images.
+/// The text that `--version` prints after the program's name: the versions of the program and of
+/// its images.
 pub(crate) const VERSION: &str = "1.0.0 (littlefs on-disk version 2.0)";
 
 /// The first line of the help.
@@ -11,7 +12,7 @@ pub(crate) const ABOUT: &str =
 pub(crate) const USAGE: &str =
     "mklittlefs (-c DIR | -u DIR | -l | --check | --cat PATH | --put FILE PATH | --remove PATH | --mkdir PATH) [OPTIONS] IMAGE";
 
-/// The text below the options in the help of `-h`.
+/// The text after the options in the help of `-h`.
 pub(crate) const EXAMPLES: &str = "\
 Examples:
   mklittlefs -c settings -s 1M disk.img  makes an image of the folder settings
@@ -20,7 +21,7 @@ Examples:
 
 --help prints all options and their rules.";
 
-/// The text below the options in the help of `--help`.
+/// The text after the options in the help of `--help`.
 pub(crate) const RULES: &str = "\
 Examples:
   mklittlefs -c settings disk.img        makes an image of the folder settings

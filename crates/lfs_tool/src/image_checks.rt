@@ -1,4 +1,4 @@
-// Checks of images.
+// The check of an image.
 
 ghost use Rattle.std.specs.Prelude.{◌≡◌, IfOk, IsErrOf};
 ghost use Rattle.std.specs.Io.KnownBytes.{Appends};
@@ -26,17 +26,18 @@ fn is_result_accepted(checked: &CheckResult) -> bool
     }
 }
 
-/// Writes whether an image is accepted, and either its summary or the reason, as `result_of_image` finds them.
-/// Returns whether it is accepted. Writes nothing before that is known, and flushes the writer at the end.
+/// Checks an image as `result_of_image` does, writes the result, and returns whether the image is
+/// accepted. Nothing is written before the result is known, and the writer is flushed at the end.
 ///
-/// For an accepted image the lines are `ok`, `files <n>`, `directories <n>`, `used <n> of <m> blocks`, `free <n>`,
-/// `order <order>`, `recover yes` or `recover no`, and `writable yes` or `writable no` with its reason. With
-/// another profile than that of `Profile::new`, `version 2.1` and limits that aren't littlefs's own follow the
-/// order. For any other image the lines are `corrupt`, and one with the reason.
+/// For an accepted image, the lines are `ok`, `files <n>`, `directories <n>`, `used <n> of <m>
+/// blocks`, `free <n>`, `order <order>`, `recover <yes|no>` and `writable <yes|no>`. The reason
+/// follows `writable no`. If the profile isn't that of `Profile::new`, the `order` line is followed
+/// by the version, unless it is 2.0, and by each limit that isn't the default. For any other image,
+/// the lines are `corrupt` and the reason.
 ///
 /// # Errors
-/// - `Fs(NoMemory)` if memory isn't granted.
-/// - `Output` if the writer failed. It has received a beginning of the lines then.
+/// - `Fs(NoMemory)` if memory can't be allocated.
+/// - `Output` if the writer fails. Only a prefix of the lines has then been written.
 pub fn check<W: Write>(
     alloc: Global,
     image: Vec<u8>,
@@ -46,12 +47,12 @@ pub fn check<W: Write>(
     ensures ok { IfOk result (λ accepted.
         (checked : _) × (IsCheckResult layout image.items checked × (accepted ≡ is_accepted_result checked) × Appends (W.contents (stream_inner out.old)) (W.contents (stream_inner out.new)) (result_text checked))) }
 
-    // If the writer fails, a beginning of the lines may be written.
+    // If the writer fails, it has received only a prefix of the lines.
     ensures writer { ReportsWriterFaults out.old out.new result }
     ensures beginning { IsErrOf result ToolError.Output →
         (checked : _) × (IsCheckResult layout image.items checked × AppendsBeginning (W.contents (stream_inner out.old)) (W.contents (stream_inner out.new)) (result_text checked)) }
 
-    // The causes of the other errors.
+    // The only other error is that memory can't be allocated.
     ensures refused { (e : _) → IsErrOf result (ToolError.Fs e) → e ≡ Error.NoMemory }
     ensures never { ¬ IsErrOf result ToolError.Input }
 {

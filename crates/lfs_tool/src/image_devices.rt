@@ -1,4 +1,4 @@
-// Images as devices.
+// Images as block devices in memory.
 
 ghost use Rattle.std.specs.Prelude.{◌≡◌, ◌<◌, ◌/◌, ◌%◌, ◌^◌, [], IfErr, IfOk, OnOk, length};
 ghost use Rattle.lfs_device.specs.RamDevice.{ram_blocks, ram_geometry, ram_history};
@@ -32,10 +32,10 @@ fn geometry_of_length(len: usize, layout: ImageLayout) -> Result<Geometry, Error
     Ok(geometry.with_profile(layout.profile))
 }
 
-/// Makes a device that holds an image.
+/// Returns a device in memory that contains an image.
 ///
 /// # Errors
-/// `Invalid` exactly if no image has so many bytes.
+/// `Invalid` if and only if no image of this layout has this length.
 pub fn ram_device_of(image: Vec<u8>, layout: ImageLayout) -> Result<RamDevice, Error>
     ensures image { OnOk result (IsWholeImage layout.block_size layout.page image.items) }
     ensures disk { IfOk result (λ d. shown (ram_geometry d) (ram_blocks d) ≡ disk_of_image layout.block_size layout.page layout.profile LongerFirst image.items) }
@@ -49,21 +49,22 @@ pub fn ram_device_of(image: Vec<u8>, layout: ImageLayout) -> Result<RamDevice, E
     RamDevice::from_bytes(geometry, image)
 }
 
-/// An accepted image that is mounted, and all its files and directories.
+/// A mounted image, with all its files and directories.
 #[derive(Drop)]
 pub struct MountedImage {
     pub(crate) thread: Thread<RamDevice>,
-    // The number of the root directory's first pair.
+    // The index of the root directory's first pair in the thread.
     pub(crate) root: usize,
-    /// In the order of `items_of_image`.
+    /// The files and directories, in the order of `items_of_image`.
     pub items: Vec<TreeItem>,
 }
 
 impl MountedImage {
-    /// Returns an attribute of the file or the directory at a path, if there is one with that attribute.
+    /// Returns the attribute of type `kind` of the file or directory at a path, or None if there is
+    /// none.
     ///
     /// # Errors
-    /// `NoMemory` if memory isn't granted.
+    /// `NoMemory` if memory can't be allocated.
     pub fn attribute(
         &mut self,
         alloc: Global,
@@ -78,7 +79,7 @@ impl MountedImage {
         match find_attribute(alloc, &mut self.thread, self.root, path, kind) {
             Ok(found) => Ok(found.bytes),
             Err(error) => {
-                // The device had no fault, so memory ran out.
+                // A device in memory never fails, so memory ran out.
                 let _device = self.thread.device();
                 Err(error)
             }
@@ -86,7 +87,7 @@ impl MountedImage {
     }
 }
 
-// Mounts an image in one of the orders of names, and walks its tree.
+// Mounts an image in an order of names that it is accepted in, and walks its tree.
 pub(crate) fn mount_and_walk(alloc: Global, device: RamDevice) -> Result<MountedImage, Error>
     ensures items { IfOk result (λ m. IsWalkedThread (shown (ram_geometry device) (ram_blocks device)) m.thread (tree_items_view m.items.items)) }
     ensures root { IfOk result (λ m. m.root ≡ count_before_root m.thread.kept.pairs) }
@@ -103,7 +104,7 @@ pub(crate) fn mount_and_walk(alloc: Global, device: RamDevice) -> Result<Mounted
             items,
         }),
         Err(error) => {
-            // The device had no fault, so memory ran out.
+            // A device in memory never fails, so memory ran out.
             let _device = thread.device();
             Err(error)
         }

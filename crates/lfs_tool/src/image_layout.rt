@@ -6,9 +6,9 @@ ghost use Rattle.lfs_model.specs.format.Geometry.{IsValidGeometry};
 
 use lfs_device::{Error, Geometry, Profile};
 
-/// The sizes of an image's blocks and pages in bytes, and the profile by which it is accepted. The profile's limits
-/// also decide whether the image may be changed. With another profile than that of `Profile::new`, a check reports the
-/// image's version and limits.
+/// The sizes of an image's blocks and pages in bytes, and the profile, which states the accepted
+/// versions and the limits. The image may be changed only if it keeps the profile's limits. If the
+/// profile isn't that of `Profile::new`, a check also reports the image's version and limits.
 #[derive(Clone, Copy, Debug, PartialEq, Eq)]
 pub struct ImageLayout {
     pub block_size: u32,
@@ -17,7 +17,7 @@ pub struct ImageLayout {
 }
 
 impl ImageLayout {
-    /// Returns the layout of these sizes, with the profile of `Profile::new`.
+    /// Returns a layout with these sizes and with the profile of `Profile::new`.
     pub fn new(block_size: u32, page: u32) -> ImageLayout
         ensures { result ≡ record { block_size = block_size; page = page; profile = default_profile } }
     {
@@ -28,7 +28,7 @@ impl ImageLayout {
         }
     }
 
-    /// Returns the same layout with that profile.
+    /// Returns this layout with another profile.
     pub fn with_profile(self, profile: Profile) -> ImageLayout
         ensures { result ≡ record self { profile = profile } }
     {
@@ -36,10 +36,11 @@ impl ImageLayout {
     }
 }
 
-/// Returns the geometry of an image of `size` bytes, with blocks and pages of these sizes in bytes.
+/// Returns the geometry of an image of `size` bytes with the given block and page sizes in bytes.
 ///
 /// # Errors
-/// `Invalid` exactly if the image isn't a whole number of blocks, or the geometry is out of range.
+/// `Invalid` if and only if the image isn't a whole number of blocks, or the geometry is out of
+/// range.
 pub fn geometry_of_sizes(size: u32, block_size: u32, page: u32) -> Result<Geometry, Error>
     ensures sizes { IfOk result (λ g. (g.block_size ≡ block_size) × (g.page ≡ page)) }
     ensures count { IfOk result (λ g. (g.block_count ≡ size / block_size) × (size % block_size ≡ 0)) }

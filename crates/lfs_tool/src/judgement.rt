@@ -1,4 +1,4 @@
-// Judges an image: whether it is accepted, with its summary, or why not.
+// Judges an image: returns a summary if it is accepted, and otherwise a rule that it breaks.
 
 ghost use Rattle.std.specs.Prelude.{◌≡◌, ◌⊎◌, List, IfErr, IfOk};
 ghost use Rattle.lfs_device.specs.RamDevice.{ram_blocks, ram_geometry};
@@ -19,8 +19,9 @@ use lfs_mount::{ImageFindings, MountError, read_and_check};
 use lfs_thread::Thread;
 use std::alloc::Global;
 
-// Returns the rule to report for an image that breaks one rule with longer names first and another one with
-// shorter names first. A wrong order of names is reported only if both rules are of that kind.
+// Returns the rule to report for an image. The image breaks `longer` with longer names first, and
+// `shorter` with shorter names first. A wrong order of names is reported only if both rules are
+// about that order.
 fn rule_to_tell(longer: Violation, shorter: Violation) -> Violation
     ensures { (result ≡ longer) ⊎ (result ≡ shorter) }
 {
@@ -31,8 +32,8 @@ fn rule_to_tell(longer: Violation, shorter: Violation) -> Violation
     }
 }
 
-// Returns the verdict on the image of a device that breaks the rule `longer` with longer names first,
-// and the rule `shorter` with shorter names first.
+// Returns the verdict on the image of a device. The image breaks the rule `longer` with longer
+// names first, and the rule `shorter` with shorter names first.
 fn refuse_image(
     alloc: Global,
     device: RamDevice,
@@ -48,8 +49,8 @@ fn refuse_image(
     Ok(ImageVerdict::Refused(rule))
 }
 
-// Returns the verdict on the image of a thread that is accepted in the orders of names `orders`, of which
-// `order` is one.
+// Returns the verdict on an image that is accepted in the orders of names `orders`, which include
+// `order`.
 fn accept_image(
     alloc: Global,
     mut thread: Thread<RamDevice>,
@@ -64,12 +65,12 @@ fn accept_image(
     thread.set_order(order);
     match summary_of_thread(alloc, &mut thread, root) {
         Ok(summary) => Ok(ImageVerdict::Accepted { summary, orders }),
-        // The device has no fault, so memory ran out.
+        // A device in memory never fails, so memory ran out.
         Err(_) => Err(Error::NoMemory),
     }
 }
 
-// Returns the verdict on an image, by the findings of the mount.
+// Returns the verdict on an image, given what the mount found.
 fn judge_findings(
     alloc: Global,
     thread: Thread<RamDevice>,
@@ -109,10 +110,11 @@ fn judge_findings(
     }
 }
 
-/// Returns whether the image of a device in memory is accepted, with its summary, or else a rule that it breaks.
-/// The verdict is `Accepted` exactly if a mount accepts the image, in either order of names.
+/// Judges the image of a device in memory. Returns the image's summary if the image is accepted, or
+/// otherwise a rule that it breaks. The verdict is `Accepted` if and only if a mount accepts the
+/// image in at least one of the two orders of names.
 ///
-/// Errors: `NoMemory` if memory isn't granted.
+/// Errors: `NoMemory` if memory can't be allocated.
 pub fn judge_device(alloc: Global, device: RamDevice) -> Result<ImageVerdict, Error>
     ensures verdict { IfOk result (IsDiskVerdict (disk_of_blocks (ram_geometry device) (ram_blocks device))) }
     ensures err { IfErr result (λ e. e ≡ Error.NoMemory) }
@@ -120,7 +122,7 @@ pub fn judge_device(alloc: Global, device: RamDevice) -> Result<ImageVerdict, Er
     match read_and_check(alloc, device) {
         Ok(image) => judge_findings(alloc, image.thread, image.findings),
         Err((device, error)) => match error {
-            // The rule is broken in each order.
+            // The image breaks this rule in either order of names.
             MountError::Corrupt(violation) => refuse_image(alloc, device, violation, violation),
             error => Err(error.into()),
         },

@@ -1,6 +1,7 @@
 // SPDX-License-Identifier: BSD-3-Clause
-//! The tool mklittlefs without a session: the words of a command line, what an image has, and the folders and files that
-//! are read and written. An image is listed, checked, or unpacked into any target.
+//! This crate contains the parts of the tool mklittlefs that don't need a mounted session. The
+//! crate parses the command line, reads and writes files and folders, and lists, checks and unpacks
+//! images.
 #![tactic(auto)]
 
 // The command line.

@@ -12,18 +12,18 @@ use lfs_model::{AcceptedVersions, Profile};
 /// A limit that an option sets.
 #[derive(Clone, Copy, Debug, PartialEq, Eq, Drop)]
 pub enum Limit {
-    /// The longest name.
+    /// The length of the longest name.
     Name,
-    /// The longest file.
+    /// The length of the longest file.
     File,
-    /// The longest attribute.
+    /// The length of the longest attribute.
     Attr,
-    /// The longest file that is inline.
+    /// The length of the longest inline file.
     Inline,
 }
 
 impl Limit {
-    /// Returns the text of the limit's rule.
+    /// Returns the text of the rule for the limit.
     pub fn rule(self) -> &'static str
         ensures { result.now ≡ limit_rule self }
     {
@@ -36,7 +36,7 @@ impl Limit {
     }
 }
 
-// Returns whether a limit is from 1 to `most`, or isn't given.
+// Returns whether a limit is from 1 to `most`. A limit that isn't given also passes.
 fn is_within(limit: Option<u32>, most: u32) -> bool
     ensures { result ≡ is_limit_within most limit }
 {
@@ -46,7 +46,8 @@ fn is_within(limit: Option<u32>, most: u32) -> bool
     }
 }
 
-// Returns the first limit that breaks its rule, with blocks of this size in bytes.
+// Returns the first limit that breaks its rule, for blocks of `block_size` bytes. Returns None if
+// no limit breaks its rule.
 pub(crate) fn first_broken_limit(matches: &ArgMatches<'_>, block_size: u32) -> Option<Limit>
     ensures { result ≡ first_broken_limit block_size (rows_of (found_of matches.now)) }
 {
@@ -68,7 +69,7 @@ pub(crate) fn first_broken_limit(matches: &ArgMatches<'_>, block_size: u32) -> O
     None
 }
 
-// Returns the accepted versions: 2.0 and 2.1 if `--also-2.1` is given, else `other`.
+// Returns the accepted versions: 2.0 and 2.1 if `--also-2.1` is given, and `other` if it isn't.
 fn versions_given_or(matches: &ArgMatches<'_>, other: AcceptedVersions) -> AcceptedVersions
     ensures { result ≡ versions_given_or other (rows_of (found_of matches.now)) }
 {
@@ -79,7 +80,7 @@ fn versions_given_or(matches: &ArgMatches<'_>, other: AcceptedVersions) -> Accep
     }
 }
 
-// Returns the profile `other`, with the limits and versions that are given.
+// Returns the profile `other` with the limits and versions that the options set.
 pub(crate) fn profile_given_or(matches: &ArgMatches<'_>, other: Profile) -> Profile
     ensures { result ≡ profile_given_or other (rows_of (found_of matches.now)) }
 {

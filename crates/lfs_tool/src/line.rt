@@ -15,7 +15,7 @@ use std::alloc::Global;
 use std::convert::AsStr;
 use thiserror::Error;
 
-/// The task of the program.
+/// The task of the program, which its mode option selects.
 #[derive(Clone, Copy, Debug, PartialEq)]
 pub enum Mode<'a> {
     /// Creates the image from this folder.
@@ -26,50 +26,51 @@ pub enum Mode<'a> {
     List,
     /// Checks the image.
     Check,
-    /// Writes the bytes of the file at this path in the image to the output.
+    /// Writes the bytes of the file at this path in the image to standard output.
     Cat(&'a str),
-    /// Puts the bytes of this file at this path in the image.
+    /// Puts the bytes of the first path's file at the second path, which is a path in the image.
     Put(&'a str, &'a str),
-    /// Removes the file or directory at this path in the image.
+    /// Removes the file or the empty directory at this path in the image.
     Remove(&'a str),
     /// Makes a directory at this path in the image.
     Mkdir(&'a str),
 }
 
-/// The request of a command line. Its numbers are as they were given: no size is checked here.
+/// A parsed command line, whose numbers are as given. The sizes aren't checked yet.
 #[derive(Clone, Copy, Debug, PartialEq)]
 pub struct Line<'a> {
     pub mode: Mode<'a>,
-    /// The size of a block in bytes.
+    /// The block size in bytes.
     pub block_size: u32,
-    /// Whether the superblock decides the size and the number of blocks: `-b auto` or `--auto`.
+    /// Whether the superblock decides the block size and the number of blocks, as with `-b auto`
+    /// and `--auto`.
     pub is_auto: bool,
-    /// Whether the superblock decides the versions and the limits, too: `--auto`.
+    /// Whether the superblock also decides the versions and the limits, as with `--auto`.
     pub has_own_limits: bool,
     /// The offset of the image in its file, in bytes.
     pub offset: u32,
-    /// The size of a page in bytes, the unit that a device programs.
+    /// The page size in bytes. A page is the unit of a program, like littlefs's `prog_size`.
     pub page: u32,
-    /// The size of the image in bytes, for `Mode::Create`.
+    /// The size in bytes of the image that `Mode::Create` makes.
     pub size: u32,
-    /// The order of the names in the image, for `Mode::Create`.
+    /// The order of names in the image that `Mode::Create` makes.
     pub order: NameOrder,
-    /// Whether further lines explain each error: `--explain`.
+    /// Whether an error is followed by lines that explain it, as with `--explain`.
     pub explain: bool,
-    /// The versions and limits by which the image is accepted or created.
+    /// The accepted versions and the limits of the image.
     pub profile: Profile,
     /// The path of the image.
     pub image: &'a str,
 }
 
-/// A line, and its requests besides the image.
+/// A parsed command line: its `Line`, and the options that aren't part of it.
 #[derive(Debug, Drop)]
 pub struct Request<'a> {
     pub line: Line<'a>,
     pub extras: Extras<'a>,
 }
 
-// The options of a line whose value is one of several names.
+// The mode, and the options whose value is one of several names.
 #[derive(Clone, Copy)]
 struct Choices<'a> {
     mode: Mode<'a>,
@@ -77,37 +78,37 @@ struct Choices<'a> {
     board: Board,
 }
 
-/// The reason why the words are no command line.
+/// The reason why a command line is refused.
 #[derive(Debug, Drop, Error)]
 pub enum LineError {
-    /// The parser's own error. It is also returned if a numeric option's text is no number, for a request for help,
-    /// and if memory isn't granted.
+    /// The parser returned an error, the value of a numeric option isn't a number, help was
+    /// requested, or memory couldn't be allocated.
     #[error(transparent)]
     Parser(clap::Error),
-    /// None of the modes is given, or more than one is.
+    /// The command line doesn't contain exactly one mode.
     #[error("error: give exactly one of -c, -u, -l")]
     Modes,
-    /// The order of names is neither `longer-first` nor `shorter-first`.
+    /// The value of `--order` is neither `longer-first` nor `shorter-first`.
     #[error("error: --order is longer-first or shorter-first")]
     Order,
-    /// The board's name isn't one of the four.
+    /// The value of `--board` isn't one of the four known names.
     #[error("error: --board is esp8266, esp32, rp2040 or micropython")]
     Board,
-    /// A limit is 0, or larger than it may be.
+    /// A limit is 0 or too large.
     #[error("error: {}", .0.rule())]
     Limit(Limit),
-    /// An option has no meaning with the mode.
+    /// An option has no meaning in this command line, or conflicts with another option.
     #[error("error: {}", .0.rule())]
     Misuse(Misuse),
-    /// An option for a part of a file is given, in a mode that writes an image.
+    /// `-b auto` or `--offset` is given in a mode that writes an image.
     #[error("error: -b auto and --offset are for -l, -u, --check and --cat")]
     Part,
-    /// A word isn't UTF-8. `read_line` never returns this, since its words are text.
+    /// A word isn't UTF-8. `read_line` never returns this error, since its words are text.
     #[error("error: the command line is not UTF-8")]
     NotUtf8,
 }
 
-// Returns the order of this name, if there is one.
+// Returns the order of names with this name, or None if there is none.
 fn order_of_text(text: &str) -> Option<NameOrder>
     ensures { result ≡ order_named text.now }
 {
@@ -120,7 +121,8 @@ fn order_of_text(text: &str) -> Option<NameOrder>
     }
 }
 
-// Returns the order that is given, or the default. None if there is no order of the given name.
+// Returns the order of names that is given, or else the default. Returns None if the given name is
+// unknown.
 fn order_of_matches(matches: &ArgMatches<'_>) -> Option<NameOrder>
     ensures { result ≡ order_in_rows (rows_of (found_of matches.now)) }
 {
@@ -130,7 +132,7 @@ fn order_of_matches(matches: &ArgMatches<'_>) -> Option<NameOrder>
     }
 }
 
-// Returns the board that is given, or `Unnamed`. None if there is no board of the given name.
+// Returns the board that is given, or else `Unnamed`. Returns None if the given name is unknown.
 fn board_of_matches(matches: &ArgMatches<'_>) -> Option<Board>
     ensures { result ≡ board_in_rows (rows_of (found_of matches.now)) }
 {
@@ -140,7 +142,8 @@ fn board_of_matches(matches: &ArgMatches<'_>) -> Option<Board>
     }
 }
 
-// Returns the choices of the matches, or the error of the first one that is wrong.
+// Returns the mode, the order of names and the board that are given, or an error for the first one
+// that is wrong.
 fn choices_of_matches<'a>(matches: &ArgMatches<'a>) -> Result<Choices<'a>, LineError>
     ensures ok { IfOk result (AreChoicesOf (rows_of (found_of matches.now))) }
     ensures err { (words : List Text) → ParserAccepts words → rows_of (found_of matches.now) ≡ rows words → IfErr result (IsLineError words) }
@@ -157,7 +160,7 @@ fn choices_of_matches<'a>(matches: &ArgMatches<'a>) -> Result<Choices<'a>, LineE
     }
 }
 
-// Returns whether a line's mode writes an image, and an option for a part of a file is given.
+// Returns whether `-b auto` or a nonzero `--offset` is given in a mode that writes an image.
 fn makes_part(line: &Line<'_>) -> bool
     ensures { result ≡ makes_part line.now }
 {
@@ -169,14 +172,14 @@ fn makes_part(line: &Line<'_>) -> bool
     }
 }
 
-// Returns whether the superblock decides the size and the number of blocks.
+// Returns whether the superblock decides the block size and the number of blocks.
 fn has_auto_blocks(matches: &ArgMatches<'_>) -> bool
     ensures { result ≡ has_auto_blocks (rows_of (found_of matches.now)) }
 {
     is_auto(matches, "block") || flag_value(matches, "auto")
 }
 
-// Returns the line of the matches, or the first limit that breaks its rule.
+// Returns the parsed command line, or the first limit that breaks its rule.
 fn line_of_matches<'a>(matches: &ArgMatches<'a>, choices: Choices<'a>) -> Result<Line<'a>, Limit>
     requires image { HasImage (found_of matches.now) }
     requires choices { AreChoicesOf (rows_of (found_of matches.now)) choices }
@@ -203,18 +206,24 @@ fn line_of_matches<'a>(matches: &ArgMatches<'a>, choices: Choices<'a>) -> Result
     })
 }
 
-/// Reads the words of a command line. The first is the program's name. `--help` and docs/TOOL.md list the options.
+/// Parses the words of a command line, of which the first is the program's name. `--help` and
+/// docs/TOOL.md list the options.
 ///
-/// An option that isn't given has its default: blocks of 4096 bytes, pages of 256, an image of 65536, the longer names
-/// first, and the format's own limits. A board sets the block size, the limits and the versions among these. The order
-/// and the limits are checked in each mode.
+/// The defaults are blocks of 4096 bytes, pages of 256 bytes, an image of 65536 bytes, longer names
+/// first, and the limits of the format. A board replaces the defaults for the block size, the
+/// limits and the versions. The order of names and the limits are checked in every mode.
 ///
 /// # Errors
-/// `LineError::Parser` if the parser refuses the words, a numeric option's text is no number, the words ask for help or
-/// for the version, or memory isn't granted. Otherwise the first of these that applies: `LineError::Modes` unless exactly
-/// one mode is given, `LineError::Order` and `LineError::Board` for an unknown name, `LineError::Limit` for a limit
-/// that is 0 or too large, `LineError::Part` for `-b auto` or an offset if the mode writes an image,
-/// `LineError::Misuse` for another option that has no meaning in this command line.
+/// The first of these errors that applies is returned:
+/// - `LineError::Parser` if the parser refuses the words, if the value of a numeric option isn't a
+///   number, or if the words ask for help or for the version. `LineError::Parser` is also returned
+///   if memory can't be allocated.
+/// - `LineError::Modes` if the command line doesn't contain exactly one mode.
+/// - `LineError::Order` or `LineError::Board` if the name of an order or of a board is unknown.
+/// - `LineError::Limit` if a limit is 0 or too large.
+/// - `LineError::Part` if `-b auto` or an offset is given in a mode that writes an image.
+/// - `LineError::Misuse` if another option has no meaning in this command line, or conflicts with
+///   another option.
 pub fn read_request<'a, S: AsStr>(alloc: Global, words: &'a [S]) -> Result<Request<'a>, LineError>
     ensures ok { IfOk result (λ request. ParserAccepts (map S.text words.entry.now)
         × IsRequestOf (rows (map S.text words.entry.now)) request) }
@@ -244,7 +253,7 @@ pub fn read_request<'a, S: AsStr>(alloc: Global, words: &'a [S]) -> Result<Reque
     }
 }
 
-/// Reads the words of a command line as `read_request` does, and returns the line alone.
+/// Parses the words of a command line as `read_request` does, and returns only its `Line`.
 ///
 /// # Errors
 /// Those of `read_request`.

@@ -1,4 +1,4 @@
-// The lines that list an image.
+// The lines of a listing.
 
 ghost use Rattle.std.specs.Prelude.{◌≡◌, ◌++◌, IfOk, None, OnOk, Some};
 ghost use Rattle.lfs_tool.specs.Listings.{place_line, path_line, place_lines};

@@ -28,12 +28,14 @@ fn items_of_ram(alloc: Global, device: RamDevice) -> Result<Vec<TreeItem>, Error
     }
 }
 
-/// Returns the files and directories of an image, depth first and in name order. A directory comes before its entries.
+/// Returns the files and directories of an image, depth first and in name order. A directory comes
+/// before its entries.
 ///
-/// The image may have its names in either order. Of two names of which one begins the other, the shorter comes first here.
+/// The image may use either order of names. In the result, if one name is a prefix of another, the
+/// shorter name comes first.
 ///
 /// # Errors
-/// - `NoMemory` if memory isn't granted.
+/// - `NoMemory` if memory can't be allocated.
 /// - `Invalid` if the image isn't a whole number of blocks, or its geometry is out of range.
 /// - `Corrupt` if the image is accepted in neither order of names.
 pub fn items_of_image(
@@ -50,13 +52,14 @@ pub fn items_of_image(
     }
 }
 
-/// Writes a line for each file and directory of an image, in the order of `items_of_image`. A line is `f <size> <path>` with
-/// the size in bytes, or `d 0 <path>`. In a path `\` and each byte outside 0x20 to 0x7e are shown as `\x` and two
-/// hexadecimal digits. Nothing is written before the image is known to be good. The writer is flushed at the end.
+/// Writes a line for each file and directory of an image, in the order of `items_of_image`. The
+/// line is `f <size> <path>` for a file, with its size in bytes, and `d 0 <path>` for a directory.
+/// In a path, `\` and each byte outside 0x20 to 0x7e are written as `\x` and two hexadecimal
+/// digits. Nothing is written before the image is accepted, and the writer is flushed at the end.
 ///
 /// # Errors
-/// - `Fs` with each error of `items_of_image`.
-/// - `Output` if the writer failed. It has then got a beginning of the lines.
+/// - `Fs` with any error of `items_of_image`.
+/// - `Output` if the writer fails. Only a prefix of the lines has then been written.
 pub fn list<W: Write>(
     alloc: Global,
     image: Vec<u8>,
@@ -65,11 +68,11 @@ pub fn list<W: Write>(
 ) -> Result<(), ToolError>
     ensures ok { OnOk result ((text : _) × (IsImageListing layout image.items text × Appends (W.contents (stream_inner out.old)) (W.contents (stream_inner out.new)) text)) }
 
-    // Where the writer fails, a beginning of the lines may be written.
+    // If the writer fails, it has received only a prefix of the lines.
     ensures writer { ReportsWriterFaults out.old out.new result }
     ensures beginning { IsErrOf result ToolError.Output → (text : _) × (IsImageListing layout image.items text × AppendsBeginning (W.contents (stream_inner out.old)) (W.contents (stream_inner out.new)) text) }
 
-    // When each other error comes.
+    // The causes of the other errors.
     ensures refused { (e : _) → IsErrOf result (ToolError.Fs e) → RefusesToList layout image.items e }
     ensures never { ¬ IsErrOf result ToolError.Input }
 {

@@ -8,7 +8,7 @@ use crate::line::Mode;
 use crate::values::{argument_text, flag_value};
 use clap::ArgMatches;
 
-// Whether none, one or several of some modes are given.
+// The modes that are given: none, one or several.
 #[derive(Clone, Copy)]
 enum GivenModes<'a> {
     None,
@@ -34,7 +34,7 @@ fn given_folder_modes<'a>(matches: &ArgMatches<'a>) -> GivenModes<'a>
     }
 }
 
-// Returns the two texts of a list, if it has exactly two.
+// Returns the two texts of a slice, or None if it doesn't have exactly two.
 fn two_texts<'a>(texts: &[&'a str]) -> Option<(&'a str, &'a str)>
     ensures { option_map (λ two. (two.0.now, two.1.now)) result ≡ exactly_two_texts (Some (map (λ t. t.now) texts.now)) }
 {
@@ -45,7 +45,7 @@ fn two_texts<'a>(texts: &[&'a str]) -> Option<(&'a str, &'a str)>
     }
 }
 
-// Returns the two texts of an option, if it is given.
+// Returns the two values of an option, or None if it isn't given.
 fn pair_of_texts<'a>(matches: &ArgMatches<'a>, id: &str) -> Option<(&'a str, &'a str)>
     ensures { option_map (λ two. (two.0.now, two.1.now)) result ≡ given_two_texts id.now (rows_of (found_of matches.now)) }
 {
@@ -73,7 +73,7 @@ fn given_path_modes<'a>(matches: &ArgMatches<'a>) -> GivenModes<'a>
     }
 }
 
-// Returns the mode, if exactly one is given.
+// Returns the mode, or None if not exactly one mode is given.
 pub(crate) fn mode_of_matches<'a>(matches: &ArgMatches<'a>) -> Option<Mode<'a>>
     ensures { MatchOption result (¬ OneMode (rows_of (found_of matches.now)))
         (λ mode. OneMode (rows_of (found_of matches.now)) × IsModeOf (rows_of (found_of matches.now)) mode) }

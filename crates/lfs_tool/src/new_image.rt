@@ -11,18 +11,19 @@ use std::io::{ErrorKind, Write};
 use std::rt::Files;
 use std::{fs, io};
 
-/// The file of an image that is being made. It is created at the first write, so if nothing is written an
-/// old file stays. From then on it stays the same file.
+/// The file of an image that is being written. The first write creates the file, so if nothing is
+/// written, an old file stays.
 ///
-/// If there is a file or nothing at the path, the new file is in the same folder under another name, until
-/// `place` moves it to the path. If it is dropped before, it is removed, and the old file stays. It has the
-/// old file's permissions. Anything else at the path, such as a device, a pipe or a link, is written
-/// directly.
+/// If there is a file or nothing at the path, the new file gets another name in the same folder,
+/// and `place` renames it. If a `NewImage` is dropped before `place`, the temporary file is
+/// removed, and the old file stays. The new file gets the old file's permissions. Anything else at
+/// the path, such as a device, a pipe or a link, is written directly. A file is also written
+/// directly if its folder doesn't permit new files.
 pub struct NewImage<'a, R: Files> {
     files: &'a R,
     paths: ImagePaths,
     file: Option<R::File>,
-    // Whether the file is still under another name than that of its path.
+    // Whether the file still has its temporary name.
     is_beside: bool,
 }
 
@@ -41,7 +42,7 @@ impl<'a, R: Files> Drop for NewImage<'a, R> {
 }
 
 impl<'a, R: Files> NewImage<'a, R> {
-    /// Returns the file for a path. Nothing is created yet.
+    /// Returns a `NewImage` for a path, without creating a file.
     pub fn new(alloc: Global, files: &'a R, path: &str) -> Result<NewImage<'a, R>, AllocError>
         ensures path { IfOk result (λ i. image_path i ≡ path.now) }
         ensures file { IfOk result (λ i. i.file ≡ None) }
@@ -55,17 +56,18 @@ impl<'a, R: Files> NewImage<'a, R> {
         })
     }
 
-    /// Borrows the file, once it is created. A write of no bytes creates it, too.
+    /// Returns the file, or None before the first write. Even a write of no bytes creates the file.
     pub fn file(&self) -> Option<&R::File> {
         self.file.as_ref()
     }
 
-    /// Moves the image to its path. Flush it first, and call this only if each write has succeeded. If
-    /// nothing was written, an old file stays.
+    /// Renames the temporary file to the path of the image. Call this function only after all
+    /// writes have succeeded and the image is flushed. If nothing was written, an old file stays.
     ///
     /// # Errors
-    /// Those of the system. The old file stays then, unless the system can't rename: then the image is
-    /// copied to its path, and the copy may be incomplete, or the file with the other name may be left.
+    /// Any error of the operating system. After an error the old file stays, unless the system
+    /// can't rename files. In that case the image is copied to its path, and an error may leave an
+    /// incomplete copy or the temporary file.
     pub fn place(mut self) -> io::Result<()> {
         self.move_to_final()
     }
@@ -82,7 +84,7 @@ impl<'a, R: Files> NewImage<'a, R> {
         Ok(())
     }
 
-    // Moves the file to its path, unless it is there.
+    // Renames the file to its path, unless it is there already.
     fn move_to_final(&mut self) -> io::Result<()>
         ensures file { (self.new.file ≡ self.old.file) × (self.new.paths ≡ self.old.paths) }
         ensures placed { OnOk result (self.new.is_beside ≡ false) }
@@ -97,7 +99,7 @@ impl<'a, R: Files> NewImage<'a, R> {
 }
 
 impl<'a, R: Files> Write for NewImage<'a, R> {
-    // The contents of its file, once it is created.
+    // The contents of the file, once it is created.
     ghost contents = { λ i. option_and_then R.File.contents i.file };
 
     fn write(&mut self, buf: &[u8]) -> io::Result<usize>

@@ -1,9 +1,9 @@
-// Addresses and wrong numbers, as lines print them.
+// The printed forms of pair addresses and wrong numbers.
 
 use crate::verdict::{GivenSizes, WrongNumber};
 use std::fmt;
 
-// The two blocks of a pair.
+// The address of a pair, printed as its two blocks.
 #[derive(Clone, Copy, Drop)]
 pub(crate) struct PairText(pub [u32; 2]);
 
@@ -19,7 +19,7 @@ impl fmt::Display for PairText {
     }
 }
 
-// A wrong number of a superblock, and the sizes that were given.
+// A wrong number in a superblock, printed with the given size that it contradicts.
 #[derive(Clone, Copy, Drop)]
 pub(crate) struct WrongNumberText {
     pub given: GivenSizes,
@@ -49,7 +49,7 @@ impl fmt::Display for WrongNumberText {
     }
 }
 
-// The given sizes, for which there is no image.
+// Sizes that no image can have, printed as the reason for a refusal.
 #[derive(Clone, Copy, Drop)]
 pub(crate) struct NoImageText(pub GivenSizes);
 

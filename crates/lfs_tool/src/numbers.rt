@@ -1,9 +1,9 @@
-// The numbers of a command line.
+// Parsing the numbers of a command line.
 
 ghost use Rattle.std.specs.Prelude.{◌≡◌, ◌≤◌, ◌<◌, ◌^◌, ◌*◌, ◌+◌, ◌==◌, IfSome, Some, length, position};
 ghost use Rattle.lfs_tool.specs.Numbers.{parts_bytes, bytes_of_unit, decimal_number, number_after, number_by_point, number_in_text, number_of_digits, fractional_number, fitting_number};
 
-// Returns the number of one or more digits, if it has 32 bits.
+// Returns the value of one or more digits, or None if it exceeds 32 bits or a byte isn't a digit.
 fn number_of_digits(digits: &[u8], radix: u32) -> Option<u32>
     requires two { 2 ≤ radix }
     requires sixteen { radix ≤ 16 }
@@ -25,7 +25,7 @@ fn number_of_digits(digits: &[u8], radix: u32) -> Option<u32>
     Some(number as u32)
 }
 
-// Returns the number of decimal digits. A plus may precede them, and a minus may precede 0.
+// Returns the value of a decimal number. A `+` may precede any number, and a `-` may precede 0.
 fn decimal_number(text: &[u8]) -> Option<u32>
     ensures { result ≡ fitting_number (decimal_number text.now) }
 {
@@ -55,8 +55,8 @@ fn bytes_of_unit(letter: u8) -> Option<u32>
     }
 }
 
-// Returns the number of bytes of the digits behind a point, which are read from the last to the
-// first.
+// Returns the number of bytes that the digits after a decimal point stand for. They are read from
+// the last to the first.
 fn bytes_of_fraction(digits: &[u8], unit: u32) -> Option<u32>
     requires { unit ≤ 1048576 }
     ensures { result ≡ parts_bytes unit (10 ^ length digits.now) (number_after 10 0 digits.now) }
@@ -77,7 +77,7 @@ fn bytes_of_fraction(digits: &[u8], unit: u32) -> Option<u32>
     Some(bytes)
 }
 
-// Returns `count` units and `more` bytes in bytes, if that has 32 bits.
+// Returns the number of bytes in `count` units and `more` bytes, or None if it exceeds 32 bits.
 fn bytes_of_units(count: u32, unit: u32, more: u32) -> Option<u32>
     ensures { result ≡ fitting_number (Some (count * unit + more)) }
 {
@@ -89,7 +89,8 @@ fn bytes_of_units(count: u32, unit: u32, more: u32) -> Option<u32>
     }
 }
 
-// Returns the number of bytes of the digits before and behind a point.
+// Returns the number of bytes that a decimal fraction stands for, given the digits before and after
+// its point.
 fn fractional_number(whole: &[u8], fraction: &[u8], unit: u32) -> Option<u32>
     requires some { 0 < unit }
     requires most { unit ≤ 1048576 }
@@ -107,7 +108,7 @@ fn fractional_number(whole: &[u8], fraction: &[u8], unit: u32) -> Option<u32>
     bytes_of_units(count, unit, more)
 }
 
-// Returns the index of the first point.
+// Returns the index of the first decimal point.
 fn first_point(text: &[u8]) -> Option<usize>
     ensures first { result ≡ position (λ c. c == 46) text.now }
     ensures within { IfSome result (λ point. point < length text.now) }
@@ -115,7 +116,7 @@ fn first_point(text: &[u8]) -> Option<usize>
     text.iter().position(|byte| *byte == b'.')
 }
 
-// Returns the number of bytes of the text before a unit's letter.
+// Returns the number of bytes that the text before a unit's letter stands for.
 fn number_of_units(text: &[u8], unit: u32) -> Option<u32>
     requires some { 0 < unit }
     requires most { unit ≤ 1048576 }
@@ -130,7 +131,8 @@ fn number_of_units(text: &[u8], unit: u32) -> Option<u32>
     }
 }
 
-// Returns the number of a text such as 4096, 0x1000, 4k or 1.5M, if it has 32 bits.
+// Returns the value of a text such as 4096, 0x1000, 4k or 1.5M, or None if it isn't a number or
+// exceeds 32 bits.
 #[tactic(auto, unfolding(crate::specs::Numbers::number_in_text))]
 pub(crate) fn number_in_text(text: &str) -> Option<u32>
     ensures { result ≡ fitting_number (number_in_text text.now) }

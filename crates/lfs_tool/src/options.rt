@@ -1,4 +1,4 @@
-// The arguments of mklittlefs, and the parser for them.
+// The options and arguments of mklittlefs, and their parser.
 
 ghost use Rattle.std.specs.Prelude.{◌≡◌, IfOk, false, map};
 ghost use Rattle.clap.specs.Words.{FailsBy, app_of, fault_of, found_of, kind_of, rows_of, rule_of};
@@ -12,21 +12,21 @@ use clap::{Arg, ArgAction, ArgMatches, Command, Error};
 use std::alloc::{AllocError, Global};
 use std::convert::AsStr;
 
-// The value of an option, with its name in the help.
+// The values that an option accepts, with their names in the help.
 #[derive(Clone, Copy)]
 enum Value {
     Nothing,
     One(&'static str),
     Each(&'static [&'static str]),
-    // One in each of several uses.
+    // One value for each use of the option, which may be given several times.
     Several(&'static str),
-    // A value, and its default if the option isn't given.
+    // A value, and the default that applies if the option isn't given.
     Default(&'static str, &'static str),
-    // A required argument without an option.
+    // A required positional argument.
     Needed(&'static str),
 }
 
-// An option: its long name, its letter, its value, and its help.
+// An option: its long name, its letter, its value and its help text.
 #[derive(Clone, Copy)]
 struct OptionRow {
     name: &'static str,
@@ -35,14 +35,14 @@ struct OptionRow {
     help: &'static str,
 }
 
-// Rows of a table, one a line: name, letter, value and help.
+// Makes a table of options. Each line has a name, a letter, a value and a help text.
 macro_rules! rows {
     ($($name:literal, $letter:expr, $value:expr, $help:literal;)+) => {
         [$(OptionRow { name: $name, letter: $letter, value: $value, help: $help }),+]
     };
 }
 
-// The modes, the options that are used most, and the image: all that `-h` shows.
+// The options and arguments that `-h` shows: the modes, the most used options, and the image.
 const COMMON: [OptionRow; 17] = rows![
     "image", None, Value::Needed("IMAGE"), "The file with the image, or - for standard input or output";
     "create", Some('c'), Value::One("DIR"), "Create IMAGE from the folder DIR";
@@ -63,7 +63,7 @@ const COMMON: [OptionRow; 17] = rows![
     "explain", None, Value::Nothing, "Explain each error, as on a terminal";
 ];
 
-// The other options, which `--help` shows.
+// The other options, which only `--help` shows.
 const FURTHER: [OptionRow; 12] = rows![
     "spare", None, Value::One("N"), "Spare blocks to add, with -c -s auto [default: 0]";
     "offset", None, Value::One("N"), "Bytes before the image, with -l, -u, --check and --cat [default: 0]";
@@ -79,7 +79,7 @@ const FURTHER: [OptionRow; 12] = rows![
     "times", None, Value::Nothing, "Store or set the times of files and folders, with -c and -u";
 ];
 
-// Returns the parser's argument for a row.
+// Returns the parser's argument for a row of the table.
 fn arg_of_row<'a>(alloc: Global, row: &OptionRow, is_common: bool) -> Arg<'a>
     ensures rule { rule_of result ≡ rule_of_row row.now }
     ensures local { result.global ≡ false }
@@ -106,7 +106,7 @@ fn arg_of_row<'a>(alloc: Global, row: &OptionRow, is_common: bool) -> Arg<'a>
     }
 }
 
-// Returns a command with the options of a table added.
+// Returns a command to which the options of a table are added.
 #[tactic(auto, using(crate::proofs::Table::row_added, crate::proofs::Table::rows_done))]
 fn with_options<'a>(
     alloc: Global,
@@ -123,7 +123,7 @@ fn with_options<'a>(
     Ok(command)
 }
 
-// Returns the command without its arguments, but with the texts of its help.
+// Returns the command with its help texts but without its arguments.
 fn bare_command<'a>(alloc: Global) -> Command<'a>
     ensures { app_of result ≡ bare_command }
 {
@@ -145,7 +145,8 @@ fn mklittlefs_command<'a>(alloc: Global) -> Result<Command<'a>, AllocError>
     Ok(command)
 }
 
-// Returns the error for a text that is no number, with the option that it was given to.
+// Returns the error for a value that isn't a number. The error's text states the option and the
+// value.
 fn number_error(alloc: Global, option: &str, text: &str) -> Result<Error, AllocError>
     ensures { IfOk result (λ e. kind_of e ≡ ErrorKind.ValueValidation) }
 {
@@ -156,7 +157,7 @@ fn number_error(alloc: Global, option: &str, text: &str) -> Result<Error, AllocE
     command.error(ErrorKind::ValueValidation, message.as_str())
 }
 
-// Returns the matches that clap finds in the words.
+// Returns the matches that clap finds in the words of a command line.
 fn clap_matches<'a, S: AsStr>(alloc: Global, words: &'a [S]) -> Result<ArgMatches<'a>, Error>
     ensures kinds { FailsBy (fault_of mklittlefs (map S.text words.entry.now)) result }
     ensures matches { IfOk result (λ m. rows_of (found_of m) ≡ rows (map S.text words.entry.now)) }
@@ -165,7 +166,8 @@ fn clap_matches<'a, S: AsStr>(alloc: Global, words: &'a [S]) -> Result<ArgMatche
     mklittlefs_command(alloc)?.try_get_matches_from(words)
 }
 
-/// Returns the matches of the words, or an error if the text of a number is none.
+/// Returns the matches that clap finds in the words of a command line. Fails if clap refuses the
+/// words, or if the value of a numeric option isn't a number.
 pub(crate) fn parse_words<'a, S: AsStr>(
     alloc: Global,
     words: &'a [S],

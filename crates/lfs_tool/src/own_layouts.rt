@@ -1,4 +1,4 @@
-// The layout of an image, by its own superblock.
+// The layout of an image as its own superblock states it.
 
 ghost use Rattle.std.specs.Prelude.{◌≡◌, ◌*◌, None, IfErr, IfOk, IfSome};
 ghost use Rattle.lfs_model.specs.format.EntryTypes.{SuperblockFields};
@@ -11,17 +11,17 @@ use crate::superblocks::image_superblock_at;
 use lfs_device::{AcceptedVersions, Error, Profile};
 use lfs_tag::Superblock;
 
-/// A layout by an image's superblock, and the length of the image in bytes.
+/// The layout and the length of an image, as its own superblock states them.
 #[derive(Clone, Copy, Debug, PartialEq, Eq)]
 pub struct OwnLayout {
-    /// The sizes of blocks and pages, and the profile by which the image is accepted.
+    /// The sizes of blocks and pages in bytes, and the profile by which the image is accepted.
     pub layout: ImageLayout,
     /// The length of the image in bytes.
     pub size: usize,
 }
 
 impl OwnLayout {
-    /// Returns the sizes of the image, for a check by the rules for sizes.
+    /// Returns the sizes of the image, which `Sizes::broken_rule` can check.
     pub fn sizes(self) -> Sizes
         ensures { result ≡ own_sizes self }
     {
@@ -33,7 +33,8 @@ impl OwnLayout {
     }
 }
 
-// Returns a layout with the blocks of a superblock. The page is at most an eighth of a block.
+// Returns the layout with the block size and the length that a superblock states. The page size is
+// reduced to at most an eighth of a block.
 fn with_blocks(layout: ImageLayout, superblock: &Superblock) -> OwnLayout
     ensures { result ≡ own_layout layout superblock.now }
 {
@@ -47,7 +48,8 @@ fn with_blocks(layout: ImageLayout, superblock: &Superblock) -> OwnLayout
     }
 }
 
-// Returns a profile with the limits of a superblock, if an image may have them. It accepts both versions.
+// Returns the profile with the limits that a superblock states, if an image may have them. The
+// profile accepts versions 2.0 and 2.1.
 fn with_limits(profile: Profile, superblock: &Superblock) -> Profile
     ensures { result ≡ own_profile profile superblock.now }
 {
@@ -57,8 +59,9 @@ fn with_limits(profile: Profile, superblock: &Superblock) -> Profile
     }
 }
 
-/// Returns the layout with the blocks that an image's superblock states, and the image's length. `head` is the
-/// beginning of the image. Returns None if there is no superblock in block 0 or 1.
+/// Returns the layout with the block size that an image's superblock states, and the image's
+/// length. `head` contains the first bytes of the image. Returns None if neither block 0 nor block
+/// 1 begins with a superblock.
 pub fn layout_by_blocks(head: &[u8], layout: ImageLayout) -> Option<OwnLayout>
     ensures found { IfSome result (HasOwnBlocks head.now layout) }
     ensures none { result ≡ None → (fields : SuperblockFields) → ¬ IsSuperblockAt head.now 0 fields }
@@ -69,11 +72,13 @@ pub fn layout_by_blocks(head: &[u8], layout: ImageLayout) -> Option<OwnLayout>
     }
 }
 
-/// Returns the layout with the blocks, the version and the limits that an image's superblock states, and the image's
-/// length. `head` is the beginning of the image.
+/// Returns the layout with the block size and the limits that an image's superblock states, and the
+/// image's length. The layout accepts versions 2.0 and 2.1. `head` contains the first bytes of the
+/// image.
 ///
 /// # Errors
-/// `Corrupt` if there is no superblock in block 0 or 1. `Invalid` if no image has the sizes that it states.
+/// - `Corrupt` if neither block 0 nor block 1 begins with a superblock.
+/// - `Invalid` if no image can have the sizes that the superblock states.
 pub fn layout_by_superblock(head: &[u8], layout: ImageLayout) -> Result<OwnLayout, Error>
     ensures ok { IfOk result (IsOwnLayout head.now layout) }
     ensures err { IfErr result (IsOwnLayoutError head.now layout) }

@@ -1,4 +1,4 @@
-// The kind of file at a path before it is written.
+// What is at a path before an image is written there.
 
 ghost use Rattle.lfs_tool.specs.PathStates.{IsPathState};
 
@@ -6,19 +6,19 @@ use std::fs::{Metadata, Permissions};
 use std::io;
 use std::io::ErrorKind;
 
-// The kind of file at a path.
+// What is at a path.
 #[derive(Drop)]
 pub(crate) enum PathState {
-    // There is none.
+    // Nothing is at the path.
     Nothing,
-    // A file, with these permissions.
+    // A file with these permissions is at the path.
     File(Permissions),
-    // A device, a pipe, a link or a folder, or an unknown kind.
+    // A device, a pipe, a link, a folder or something unknown is at the path.
     Other,
 }
 
-// Returns the kind of file at a path, by the system's metadata of the path itself: a link is a
-// link, whatever it leads to.
+// Returns what is at a path, given the system's metadata for it. A symbolic link counts as a link,
+// whatever it points to.
 pub(crate) fn state_of_metadata(found: io::Result<Metadata>) -> PathState
     ensures { IsPathState found result }
 {

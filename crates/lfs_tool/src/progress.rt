@@ -1,10 +1,10 @@
-// The progress of a task, and the line at a terminal that shows it.
+// The progress of a task, and the line that shows it on a terminal.
 
 use arrayvec::ArrayVec;
 use std::io::Write;
 use std::time::{Clock, Duration, Instant};
 
-/// A number of files, and of the bytes in them.
+/// A number of files, and the total number of their bytes.
 #[derive(Clone, Copy, Debug, Default, PartialEq, Eq)]
 pub struct FilesAndBytes {
     pub files: usize,
@@ -12,12 +12,12 @@ pub struct FilesAndBytes {
 }
 
 impl FilesAndBytes {
-    /// Returns the count of one file of so many bytes.
+    /// Returns the counts for one file of `bytes` bytes.
     pub fn one_file(bytes: usize) -> FilesAndBytes {
         FilesAndBytes { files: 1, bytes }
     }
 
-    /// Returns the sum of both counts, at most the greatest `usize`.
+    /// Returns the sum of two counts. Each number saturates at `usize::MAX`.
     pub fn plus(self, more: FilesAndBytes) -> FilesAndBytes {
         FilesAndBytes {
             files: self.files.saturating_add(more.files),
@@ -26,12 +26,13 @@ impl FilesAndBytes {
     }
 }
 
-/// Follows the progress of a task, making or unpacking an image. `()` ignores it.
+/// Receives the progress of a task that creates or unpacks an image. The implementation for `()`
+/// ignores all calls.
 pub trait FollowsProgress {
-    /// Begins a task of so many files and bytes.
+    /// Begins a task that has `whole` files and bytes to process.
     fn begin(&mut self, whole: FilesAndBytes);
 
-    /// Counts so many more as done.
+    /// Adds `more` to the files and bytes that are done.
     fn add(&mut self, more: FilesAndBytes);
 }
 
@@ -41,20 +42,21 @@ impl FollowsProgress for () {
     fn add(&mut self, _more: FilesAndBytes) {}
 }
 
-// Erases the line: a return to its beginning, and an erasure to its end.
+// The escape sequence that returns to the beginning of the line and erases it.
 const ERASURE: &str = "\r\x1b[K";
 
-// The time for which a line stays unchanged, in milliseconds.
+// The shortest time between two updates of the line, in milliseconds.
 const PAUSE: u64 = 200;
 
-/// A line that is shown once a task takes more than a second, and is rewritten in place from then on. Dropping it
-/// erases the line. If the clock or a write fails, no more is written.
+/// A progress line on a terminal. The line appears if a task takes more than a second, is then
+/// updated in place, and is erased when the value is dropped. After a failure of the clock or of a
+/// write, nothing more is written until then.
 pub struct ProgressLine<W: Write + Drop, C: Clock + Drop> {
     out: W,
     clock: C,
-    // The time at which the task began. None if nothing more is to be written.
+    // The time at which the task began, or None if nothing more is to be written.
     began: Option<Instant>,
-    // The time after that at which the line is written next.
+    // The time from the beginning of the task until the next update.
     next: Duration,
     whole: FilesAndBytes,
     done: FilesAndBytes,
@@ -79,7 +81,7 @@ impl<W: Write + Drop, C: Clock + Drop> Drop for ProgressLine<W, C> {
     }
 }
 
-// Returns the bytes of the line, without an allocation.
+// Returns the bytes of the line without allocating memory.
 fn progress_line(done: FilesAndBytes, whole: FilesAndBytes) -> ArrayVec<u8, 160> {
     let mut line = ArrayVec::new();
     let _ = write!(
@@ -91,7 +93,8 @@ fn progress_line(done: FilesAndBytes, whole: FilesAndBytes) -> ArrayVec<u8, 160>
 }
 
 impl<W: Write + Drop, C: Clock + Drop> ProgressLine<W, C> {
-    /// Returns the line of a task that begins now. Nothing is written yet, and nothing ever if `out` is no terminal.
+    /// Returns the progress line of a task that begins at the time of the call. Nothing is written
+    /// yet, and if `is_terminal` is false, nothing is ever written.
     pub fn new(out: W, clock: C, is_terminal: bool) -> ProgressLine<W, C> {
         let began = if is_terminal {
             Instant::now(&clock).ok()

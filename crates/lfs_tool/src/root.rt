@@ -7,7 +7,7 @@ use std::alloc::{AllocError, Global};
 use std::io;
 use std::io::ErrorKind;
 
-// Returns the path below a folder's, with a name in it, unless that is empty.
+// Appends a path to a folder's path, and then a name, unless the name is empty.
 pub(crate) fn joined_path(
     alloc: Global,
     folder: &str,
@@ -25,8 +25,8 @@ pub(crate) fn joined_path(
     Ok(full)
 }
 
-// A folder of the real file system, and whether a call there has met a fault: a source's last one, or any of a target. The
-// first is noted in a log.
+// A folder of the real file system, and whether a call on it has failed. For a source that is the
+// last call, and for a target any call. A log keeps the first fault.
 #[derive(Drop)]
 pub(crate) struct Root<'a, R> {
     pub(crate) rt: &'a R,
@@ -48,7 +48,7 @@ impl<'a, R: AllocGlobal> Root<'a, R> {
         })
     }
 
-    // Returns a path below the folder, where it is text.
+    // Returns a path in the file system, given a path below the folder, which must be UTF-8.
     pub(crate) fn full_path(&self, path: &[u8]) -> io::Result<String> {
         let Ok(path) = str::from_utf8(path) else {
             return Err(io::Error::from(ErrorKind::InvalidFilename));
@@ -56,7 +56,7 @@ impl<'a, R: AllocGlobal> Root<'a, R> {
         Ok(format!(in self.rt.alloc(); "{}{path}", self.path)?)
     }
 
-    // Notes a fault at a path, or of a name in the folder there.
+    // Logs a fault of a name in the folder at `path`, or of `path` itself if the name is empty.
     pub(crate) fn note(&self, path: &[u8], name: &[u8], error: &io::Error) {
         let alloc = self.rt.alloc();
         match joined_path(alloc, self.path.as_str(), path, name) {
@@ -65,7 +65,8 @@ impl<'a, R: AllocGlobal> Root<'a, R> {
         }
     }
 
-    // Returns the error of a source or a target for one of std, and notes it.
+    // Returns the error of a source or a target for an I/O error of the system. A fault is logged,
+    // but a lack of memory isn't.
     pub(crate) fn fail(&mut self, path: &[u8], error: io::Error) -> FileError
         ensures kind { (error_kind error ≡ ErrorKind.OutOfMemory) ↔ (result ≡ FileError.NoMemory) }
         ensures fault { result ≡ FileError.Fault → self.new.has_failed ≡ true }

@@ -15,22 +15,23 @@ pub struct Sizes {
     pub page: u32,
 }
 
-/// A rule for the sizes of an image. `Sizes::broken_rule` tries them in this order.
+/// A rule for the sizes of an image. `Sizes::broken_rule` checks the rules in the order of this
+/// enum.
 #[derive(Clone, Copy, Debug, PartialEq, Eq, Drop)]
 pub enum SizeRule {
     /// A page has 8, 16, 32, 64, 128, 256 or 512 bytes.
     PageSize,
-    /// A block has from 1024 to 65536 bytes.
+    /// A block has 1024 to 65536 bytes.
     BlockSize,
     /// A page is at most an eighth of a block.
     EightPages,
     /// A block is a whole number of pages.
     WholePages,
-    /// An image has at most 268435456 bytes.
+    /// An image has at most 268,435,456 bytes.
     ImageSize,
     /// An image is a whole number of blocks.
     WholeBlocks,
-    /// An image has from 2 to 65536 blocks.
+    /// An image has 2 to 65536 blocks.
     BlockCount,
 }
 
@@ -40,7 +41,7 @@ fn is_page_size(page: u32) -> bool
     page == 8 || page == 16 || page == 32 || page == 64 || page == 128 || page == 256 || page == 512
 }
 
-// Adds a text, followed by a number.
+// Appends a text and then a number.
 fn push_labelled(text: &mut Vec<u8>, before: &str, number: usize) -> Result<(), AllocError>
     ensures { OnOk result (text.new.items ≡ text.old.items ++ number_text before.now number) }
 {
@@ -67,7 +68,7 @@ fn size_rule_text(rule: SizeRule) -> &'static str
 }
 
 impl Sizes {
-    // Adds the sizes that the rule is about.
+    // Appends the sizes that the rule concerns.
     fn push_rule_sizes(self, text: &mut Vec<u8>, rule: SizeRule) -> Result<(), AllocError>
         ensures { OnOk result (text.new.items ≡ text.old.items ++ sizes_text self rule) }
     {
@@ -87,7 +88,9 @@ impl Sizes {
         }
     }
 
-    /// Adds the line that says that the sizes break the rule.
+    /// Appends the line that states the rule and the sizes that break it.
+    ///
+    /// Errors: `AllocError` if memory can't be allocated.
     pub fn push_rule_line(self, text: &mut Vec<u8>, rule: SizeRule) -> Result<(), AllocError>
         ensures { OnOk result (text.new.items ≡ text.old.items ++ broken_rule_line self rule) }
     {
@@ -96,8 +99,8 @@ impl Sizes {
         Ok(())
     }
 
-    // Returns the first rule that the image's size breaks, if the sizes of blocks and pages break
-    // none.
+    // Returns the first rule that the size of the image breaks, or None if it breaks none. The
+    // sizes of blocks and pages must break no rule.
     fn first_broken_rule(self) -> Option<SizeRule>
         requires { BreaksNoneBefore self (rule_index SizeRule.ImageSize) }
         ensures broken { IfSome result (IsFirstBroken self) }
@@ -117,8 +120,8 @@ impl Sizes {
         None
     }
 
-    /// Returns the first rule that the sizes break, in the order of `SizeRule`. None exactly if
-    /// there are images of these sizes.
+    /// Returns the first rule that the sizes break, in the order of `SizeRule`. Returns None if and
+    /// only if an image can have these sizes.
     pub fn broken_rule(self) -> Option<SizeRule>
         ensures broken { IfSome result (IsFirstBroken self) }
         ensures fits { result ≡ None → AreImageSizes self }

@@ -5,41 +5,44 @@ ghost use Rattle.lfs_tool.specs.SourceTrees.{IsUnchanged, listed_view};
 use crate::FileError;
 use std::alloc::Global;
 
-/// The kind of a name.
+/// Whether a name is that of a file or of a folder.
 #[derive(Clone, Copy, Debug, PartialEq, Eq, PartialOrd, Ord, Drop)]
 pub enum SourceKind {
-    /// A file, which has bytes.
+    /// A file, which contains bytes.
     File,
-    /// A folder, which has names.
+    /// A folder, which contains names.
     Folder,
 }
 
 /// A name in a folder.
 #[derive(Debug, PartialEq, Eq, PartialOrd, Ord, Drop)]
 pub struct ListedName {
-    /// The name's bytes.
+    /// The bytes of the name.
     pub name: Vec<u8>,
-    /// Its kind.
+    /// Whether the name is that of a file or of a folder.
     pub kind: SourceKind,
-    /// A file's length when it was listed, which may be wrong by now. Of a folder it says nothing.
+    /// The length of a file when it was listed, which is only a hint and may be wrong. The length
+    /// of a folder has no meaning.
     pub len: u64,
-    /// When it was modified, in seconds since 1970, if that is known and before 2106.
+    /// The time of the last modification in seconds since 1970, or None if it is unknown, before
+    /// 1970 or after 2106.
     pub modified: Option<u32>,
 }
 
-/// A folder and all below it. A path has `/` before each name, and is empty for the folder itself.
+/// A folder and everything below it. A path has a `/` before each name, and the folder itself has
+/// the empty path.
 pub trait Source {
-    // The tree of the source, where it is known.
+    // The tree of the source, if it is known.
     ghost shown: { Self → Option model.TreeSource } = { λ _. None };
 
-    // Whether the last call met a fault.
+    // Whether the last call returned `Fault`.
     ghost has_failed: { Self → Bool };
 
     /// Returns the names in a folder, in any order.
     ///
     /// # Errors
-    /// - `Fault` where the folder couldn't be read.
-    /// - `NoMemory` where memory isn't granted.
+    /// - `Fault` if the folder can't be read.
+    /// - `NoMemory` if memory can't be allocated.
     fn list(&mut self, alloc: Global, folder: &[u8]) -> Result<Vec<ListedName>, FileError>
         ensures names { IfOk result (λ v. IfSome (shown self.old) (λ s. map listed_view v.items ≡ s.names folder.now)) }
         ensures shown { IsUnchanged (shown self.old) (shown self.new) }
@@ -47,12 +50,12 @@ pub trait Source {
         ensures fault { IsErrOf result FileError.Fault → has_failed self.new ≡ true }
         ensures no_memory { IsErrOf result FileError.NoMemory → has_failed self.new ≡ false };
 
-    /// Returns the bytes of a file. `listed_len` is the length in its `ListedName`. The file may have become
-    /// longer or shorter since, and all bytes that it has are returned.
+    /// Returns the bytes of a file. `listed_len` is the length in the file's `ListedName`. All
+    /// bytes are returned, even if the file has another length.
     ///
     /// # Errors
-    /// - `Fault` where the file couldn't be read.
-    /// - `NoMemory` where memory isn't granted.
+    /// - `Fault` if the file can't be read.
+    /// - `NoMemory` if memory can't be allocated.
     fn read(&mut self, alloc: Global, file: &[u8], listed_len: u64) -> Result<Vec<u8>, FileError>
         ensures bytes { IfOk result (λ v. IfSome (shown self.old) (λ s. v.items ≡ s.bytes file.now)) }
         ensures shown { IsUnchanged (shown self.old) (shown self.new) }

@@ -12,27 +12,29 @@ use std::rt::Files;
 use std::time::UNIX_EPOCH;
 use std::{fs, io};
 
-/// A file that is longer than the image that its folder is read for.
+/// A file that is longer than the image that is made of its folder.
 #[derive(Debug, Drop)]
 pub struct LongFile {
-    /// The path, `/` before each name.
+    /// The path of the file below the folder, with a `/` before each name.
     pub path: Vec<u8>,
-    /// Its length in bytes.
+    /// The length of the file in bytes.
     pub len: u64,
 }
 
-/// A folder of the real file system. A name that isn't UTF-8 is a fault, and so is anything else but a file or a
-/// folder. So is a symbolic link, unless the folder's rules say otherwise, and a folder to which one leads that is above
-/// it. A fault is noted in a log, with the path that it comes from.
+/// A folder of the real file system. `list` returns `Fault` for a name that isn't UTF-8, and for an
+/// entry that is neither a file nor a folder. The rules say whether a symbolic link is followed,
+/// left out, or leads to a `Fault`. A followed link to a folder that contains the link always leads
+/// to a `Fault`. A log keeps the first fault with its path.
 ///
-/// It is made for an image of so many bytes. A file that is longer than that isn't read, since no such image holds it: it
-/// counts as empty, and `first_long_file` names the first one.
+/// The folder is read for an image of a given size. A file that is longer than the image isn't
+/// read, since it can't fit. A file that is too long counts as empty, and `first_long_file` returns
+/// the first such file.
 #[derive(Drop)]
 pub struct Folder<'a, R> {
     root: Root<'a, R>,
-    // How many bytes the image has.
+    // The size of the image in bytes.
     image: u64,
-    // The first file that was longer.
+    // The first file that was longer than the image.
     too_long: Option<LongFile>,
     rules: FolderRules<'a>,
 }
@@ -50,7 +52,7 @@ fn file_type_kind(kind: FileType) -> io::Result<SourceKind> {
     }
 }
 
-// Returns an entry of a folder: its name, kind, length and time.
+// Returns the entry of a name in a folder, with its kind, length and time.
 fn listed_name_of(
     alloc: Global,
     name: &[u8],
@@ -65,15 +67,17 @@ fn listed_name_of(
     })
 }
 
-// Returns when a file was modified, if that is from 1970 to 2106.
+// Returns the time at which a file was last modified, or None if it is before 1970 or after 2106.
 fn seconds_of_change(metadata: &Metadata) -> Option<u32> {
     let since = metadata.modified().ok()?.duration_since(UNIX_EPOCH).ok()?;
     u32::try_from(since.as_secs()).ok()
 }
 
 impl<'a, R: Files + AllocGlobal + Clone + Drop> Folder<'a, R> {
-    /// Makes a source of the folder at a path of the file system, for an image of so many bytes, read by these rules.
-    /// Nothing is read yet.
+    /// Makes a source of the folder at a path of the file system. `image` is the size in bytes of
+    /// the image to make, and `rules` are the rules for reading the folder. Nothing is read yet.
+    ///
+    /// Errors: `AllocError` if memory can't be allocated.
     pub fn new(
         rt: &'a R,
         log: &'a FaultLog,
@@ -92,7 +96,7 @@ impl<'a, R: Files + AllocGlobal + Clone + Drop> Folder<'a, R> {
         })
     }
 
-    // Returns the entry of a name, or none where it is left out.
+    // Returns the entry of a name, or None if the rules leave it out.
     fn name_by_rules(
         &self,
         folder: &[u8],
@@ -124,7 +128,7 @@ impl<'a, R: Files + AllocGlobal + Clone + Drop> Folder<'a, R> {
         Ok(Some(listed))
     }
 
-    // Returns whether what was found is the folder at a path, or one above it.
+    // Returns whether `found` is the folder at a path or one of the folders above it.
     fn is_above(&self, path: &[u8], found: &Metadata) -> io::Result<bool> {
         if !found.is_dir() {
             return Ok(false);
@@ -142,7 +146,7 @@ impl<'a, R: Files + AllocGlobal + Clone + Drop> Folder<'a, R> {
         Ok(false)
     }
 
-    /// Returns the first file that was longer than the image, of those that were read.
+    /// Returns the first file that `read` found to be longer than the image.
     pub fn first_long_file(&self) -> Option<&LongFile> {
         self.too_long.as_ref()
     }
@@ -167,10 +171,10 @@ impl<'a, R: Files + AllocGlobal + Clone + Drop> Folder<'a, R> {
         Ok(names)
     }
 
-    // Notes the first name in a folder that isn't UTF-8, where there is one.
+    // Logs the names in a folder that aren't UTF-8. The log keeps the first one.
     fn note_bad_name(&self, path: &[u8]) -> io::Result<()> {
         let mut full = self.root.full_path(path)?;
-        // As `fs::read_dir` opens it.
+        // The path that `fs::read_dir` opens also ends in `/`.
         full.push('/')?;
         let mut names = Vec::new(self.root.rt.alloc());
         self.root
@@ -186,8 +190,8 @@ impl<'a, R: Files + AllocGlobal + Clone + Drop> Folder<'a, R> {
         Ok(())
     }
 
-    // Returns the bytes of a file. A listed length that is too great is asked for again, since the file may be
-    // shorter by now.
+    // Returns the bytes of a file. If the listed length exceeds the image, asks for the length
+    // again, since the file may have become shorter.
     fn read_file_bytes(&mut self, path: &[u8], listed_len: u64) -> io::Result<Vec<u8>>
         ensures { self.new.root ≡ self.old.root }
     {
@@ -205,7 +209,8 @@ impl<'a, R: Files + AllocGlobal + Clone + Drop> Folder<'a, R> {
             }
             return Ok(Vec::new(self.root.rt.alloc()));
         }
-        // A file that has become longer since is too long, too.
+        // If the file has become longer than the image, one byte more than the image is enough to
+        // fail.
         let most = self.image.saturating_add(1);
         read_at_most(self.root.rt.alloc(), file, len as usize, most)
     }

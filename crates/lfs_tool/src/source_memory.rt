@@ -8,20 +8,22 @@ use crate::file_error::copy_bytes;
 use crate::{FileError, ListedName, Source, SourceEntry, SourceKind};
 use std::alloc::Global;
 
-/// A tree in memory. Where two entries have one path, the first is read.
+/// A source that holds its files and folders in memory. If two entries have the same path, the
+/// first one is read.
 ///
-/// `list` never returns `Fault`, and `read` does so only where no file is at the path.
+/// `list` never returns `Fault`, and `read` returns it only if there is no file at the path. The
+/// `len` of a listed name is always 0.
 #[derive(Drop)]
 pub struct MemorySource {
-    /// The entry at each path, in any order.
+    /// The files and folders, in any order.
     pub held: Vec<SourceEntry>,
-    // Whether the last call read a file that isn't there.
+    // Whether the last call was a `read` of a path without a file.
     has_failed: bool,
 }
 
 impl MemorySource {
-    /// Makes a source of these entries, in any order. Where two entries have one path, the first is
-    /// read.
+    /// Makes a source of these entries, in any order. If two entries have the same path, the first
+    /// one is read.
     pub fn new(held: Vec<SourceEntry>) -> MemorySource
         ensures held { result.held ≡ held }
         ensures fault { result.has_failed ≡ false }
@@ -39,7 +41,7 @@ fn has_slash(name: &[u8]) -> bool
     name.iter().any(|b| *b == b'/')
 }
 
-// Returns the name of the path, where it is directly in the folder.
+// Returns the last name of a path, if the path is directly in the folder.
 fn direct_name<'a>(folder: &[u8], path: &'a [u8]) -> Option<&'a [u8]>
     ensures { MatchOption result (is_directly_in folder.now path.now ≡ false)
         (λ name. (is_directly_in folder.now path.now ≡ true) × (name.now ≡ drop (length folder.now + 1) path.now)) }
@@ -61,7 +63,7 @@ fn memory_entry_kind(held: &SourceEntry) -> SourceKind
     }
 }
 
-// Adds the name of an entry, where it is directly in the folder.
+// Appends the name of an entry, if the entry is directly in the folder.
 fn push_direct_name(
     alloc: Global,
     names: &mut Vec<ListedName>,

@@ -1,4 +1,4 @@
-// Whole images from readers, and texts to writers.
+// Streams, which read whole images and write whole texts.
 
 ghost use Rattle.std.specs.Prelude.{◌≡◌, ◌+◌, ◌≤◌, IfErr, IfOk, IfSome, OnErr, OnOk, false, is_some, length, take, true};
 ghost use Rattle.std.specs.Io.{ReadsAtMost};
@@ -13,25 +13,26 @@ use std::alloc::Global;
 use std::fmt::Display;
 use std::io::{ErrorKind, Read, Write};
 
-// The most bytes that an image has.
+// The size of the largest image in bytes.
 pub(crate) const IMAGE_MAX: usize = 268_435_456;
 
-/// A reader or a writer, and why its last call failed, if it did. A call that a signal interrupted is made again, and is
-/// no failure.
+/// A reader or a writer that keeps the error of its last call, if that call failed. A call that a
+/// signal interrupted is repeated, and doesn't count as failed.
 ///
-/// std's traits have no word for a call that failed. So two facts are read in the code here, and not proved: that std's
-/// call is made, and that a fault is kept only where the call failed. Callers can't change what a stream keeps.
+/// The traits of `std` can't express in a contract that a call failed. Two facts are therefore not
+/// proved: that `std` is called, and that an error is kept only if the call failed. Callers can't
+/// change the kept error.
 #[derive(Drop)]
 pub struct Stream<T> {
     inner: T,
-    // Why the last call failed.
+    // The error of the last call, or None if it succeeded.
     fault: Option<ErrorKind>,
-    // Whether a value was shown.
+    // Whether `show` has written a value.
     has_shown: bool,
 }
 
 impl<T> Stream<T> {
-    /// Makes a stream of a reader or a writer. None of its calls has failed.
+    /// Returns a stream for a reader or a writer. The stream has no error yet.
     pub fn new(inner: T) -> Stream<T>
         ensures inner { stream_inner result ≡ inner }
         ensures fault { has_failed result ≡ false }
@@ -44,7 +45,7 @@ impl<T> Stream<T> {
         }
     }
 
-    /// Borrows the reader or the writer.
+    /// Returns a reference to the reader or the writer.
     pub fn inner(&self) -> &T
         ensures { result.now ≡ stream_inner self.now }
     {
@@ -58,14 +59,14 @@ impl<T> Stream<T> {
         self.inner
     }
 
-    /// Returns why the last call failed, if it did.
+    /// Returns the error of the last call, or None if it succeeded.
     pub fn fault(&self) -> Option<ErrorKind>
         ensures { is_some result ≡ has_failed self.now }
     {
         self.fault
     }
 
-    // Keeps why a call failed, and returns the tool's error for it.
+    // Keeps the error of a failed call, and returns `error`.
     fn fail(&mut self, kind: ErrorKind, error: ToolError) -> ToolError
         ensures error { result ≡ error }
         ensures fault { has_failed self.new ≡ true }
@@ -77,12 +78,12 @@ impl<T> Stream<T> {
     }
 }
 
-/// Reads to the end, or one byte more than the largest image has, which is 268,435,456. If there are as many bytes as are
-/// expected, no more memory than they need is asked for.
+/// Reads an image up to its end. Reading stops after 268,435,457 bytes, one byte more than the
+/// largest image has. If the image has exactly `expected` bytes, memory is allocated only once.
 ///
 /// # Errors
-/// - `Input` where the reader failed.
-/// - `Fs(NoMemory)` where memory isn't granted.
+/// - `Input` if the reader fails.
+/// - `Fs(NoMemory)` if memory can't be allocated.
 pub fn read_image<R: Read>(
     alloc: Global,
     image: &mut Stream<R>,
@@ -112,7 +113,7 @@ pub fn read_image<R: Read>(
     Ok(bytes)
 }
 
-// Reads once.
+// Reads some bytes.
 #[tactic(auto, using(crate::proofs::KnownBytes::consumes_behind))]
 fn read_part<R: Read>(image: &mut Stream<R>, buf: &mut [u8]) -> Result<usize, ToolError>
     ensures bound { ReadsAtMost result buf.new }
@@ -127,14 +128,15 @@ fn read_part<R: Read>(image: &mut Stream<R>, buf: &mut [u8]) -> Result<usize, To
             Err(error) => return Err(image.fail(error.kind(), ToolError::Input)),
         }
     }
-    // Each try was interrupted.
+    // Signals interrupted every attempt.
     Err(image.fail(ErrorKind::TimedOut, ToolError::Input))
 }
 
-/// Writes the bytes, and flushes them, once all are written. After an error a beginning of them was written.
+/// Writes all bytes, and then flushes the writer. After an error, only a prefix of the bytes may
+/// have been written.
 ///
 /// # Errors
-/// `Output` where the writer failed.
+/// `Output` if the writer fails.
 pub fn write_and_flush<W: Write>(out: &mut Stream<W>, bytes: &[u8]) -> Result<(), ToolError>
     ensures ok { OnOk result (Appends (W.contents (stream_inner out.old)) (W.contents (stream_inner out.new)) bytes.now) }
     ensures beginning { AppendsBeginning (W.contents (stream_inner out.old)) (W.contents (stream_inner out.new)) bytes.now }
@@ -146,7 +148,8 @@ pub fn write_and_flush<W: Write>(out: &mut Stream<W>, bytes: &[u8]) -> Result<()
     flush(out)
 }
 
-// Writes the bytes. A writer that takes nothing of some bytes fails. After an error a beginning of them was written.
+// Writes all bytes. A write that accepts no bytes is an error. After an error, only a prefix has
+// been written.
 #[tactic(auto, using(crate::proofs::KnownBytes::appends_more, crate::proofs::KnownBytes::appends_kept))]
 fn write_bytes<W: Write>(out: &mut Stream<W>, bytes: &[u8]) -> Result<(), ToolError>
     ensures ok { OnOk result (Appends (W.contents (stream_inner out.old)) (W.contents (stream_inner out.new)) bytes.now) }
@@ -166,7 +169,7 @@ fn write_bytes<W: Write>(out: &mut Stream<W>, bytes: &[u8]) -> Result<(), ToolEr
             Err(error) => return Err(out.fail(error.kind(), ToolError::Output)),
         }
     }
-    // Each try was interrupted.
+    // Signals interrupted every attempt.
     Err(out.fail(ErrorKind::TimedOut, ToolError::Output))
 }
 
@@ -184,11 +187,12 @@ fn flush<W: Write>(out: &mut Stream<W>) -> Result<(), ToolError>
             Err(error) => return Err(out.fail(error.kind(), ToolError::Output)),
         }
     }
-    // Each try was interrupted.
+    // Signals interrupted every attempt.
     Err(out.fail(ErrorKind::TimedOut, ToolError::Output))
 }
 
-// Writes the text of a value, and flushes it. After an error a part may be written.
+// Writes the text of a value, and flushes the writer. After an error, only part of the text may
+// have been written.
 pub(crate) fn show<W: Write, D: Display>(out: &mut Stream<W>, value: &D) -> Result<(), ToolError>
     ensures text { OnOk result (IfSome (D.output value.now) (Appends (W.contents (stream_inner out.old)) (W.contents (stream_inner out.new)))) }
     ensures shown { OnOk result (has_shown out.new ≡ true) }

@@ -48,7 +48,8 @@ fn has_unfinished_operation(state: &MoveState) -> bool
     state.sync || state.kind != 0
 }
 
-// Returns the profile's own limit of inline files, if it is less than that of the blocks.
+// Returns the profile's limit for inline files in bytes, or None unless it is less than what the
+// block size allows.
 fn lesser_inline_max(geometry: &Geometry) -> Option<u32>
     ensures { result ≡ lesser_inline_max geometry.now.profile geometry.now.block_size }
 {
@@ -63,7 +64,7 @@ fn is_default_profile(profile: &Profile) -> bool
     *profile == Profile::new()
 }
 
-// Returns the superblock of the image, unless the profile is the default one.
+// Returns the superblock of the image, or None if the profile is the default one.
 fn superblock_to_tell<D: BlockDevice>(
     alloc: Global,
     thread: &mut Thread<D>,

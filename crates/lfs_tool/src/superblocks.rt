@@ -1,4 +1,4 @@
-// The numbers of a superblock, which is found by its offset alone.
+// The numbers in a superblock, which is found by its offset alone.
 
 ghost use Rattle.std.specs.Prelude.{◌≡◌, ◌⊎◌, ◌<◌, ◌/◌, ◌^◌, IfSome, None, length};
 ghost use Rattle.lfs_model.specs.format.EntryTypes.{SuperblockFields};
@@ -9,11 +9,12 @@ use crate::verdict::WrongNumber;
 use lfs_device::AcceptedVersions;
 use lfs_tag::{Superblock, superblock_of};
 
-// The beginning of a log with a superblock, behind the revision: the tag of its name, the name, and the tag of an
-// inline struct of 24 bytes for the same slot.
+// The bytes after the revision count of a block that begins with a superblock: the name tag, the
+// name, and the tag of the inline struct of 24 bytes.
 const FIRST_ENTRIES: &[u8] = b"\xf0\x0f\xff\xf7littlefs\x2f\xe0\x00\x10";
 
-// Returns the number among these fields that is wrong for so many blocks of that size, if any.
+// Returns the first of these fields that is wrong, or None if all are right. A right superblock
+// states `block_size`, `count` blocks and an accepted version.
 pub(crate) fn wrong_number_in(
     block_size: u32,
     count: usize,
@@ -35,7 +36,7 @@ pub(crate) fn wrong_number_in(
     None
 }
 
-// Returns the fields of the superblock at the beginning of a block at that offset, if there is one.
+// Returns the superblock in the block at this offset, or None if that block doesn't begin with one.
 fn fields_at_offset(bytes: &[u8], from: usize) -> Option<Superblock>
     requires { from < 2 ^ 32 }
     ensures found { IfSome result (λ fields. IsSuperblockAt bytes.now from (superblock_view fields)) }
@@ -50,9 +51,9 @@ fn fields_at_offset(bytes: &[u8], from: usize) -> Option<Superblock>
     }
 }
 
-/// Returns the superblock at the beginning of block 0, or of block 1 if blocks are as large as it states. It is found
-/// by its offset, as in `image_wrong_number`. So the size of the blocks needn't be known: in block 1 it is a power of
-/// two from 1024 to 65536.
+/// Returns the superblock at the beginning of block 0, or else the one at the beginning of block 1.
+/// The offset of block 1 must be the block size that its superblock states, so the caller needn't
+/// know the block size. All powers of two from 1024 to 65536 are tried. Checksums aren't verified.
 pub fn image_superblock_at(bytes: &[u8]) -> Option<Superblock>
     ensures found { IfSome result (IsFirstSuperblock bytes.now) }
     ensures none { result ≡ None → (fields : SuperblockFields) → ¬ IsSuperblockAt bytes.now 0 fields }
@@ -69,7 +70,8 @@ pub fn image_superblock_at(bytes: &[u8]) -> Option<Superblock>
     None
 }
 
-// Returns the field of that superblock that is wrong for the bytes, if any.
+// Returns the first field of the superblock at an offset that is wrong for these bytes, or None if
+// there is none.
 fn wrong_number_at(
     bytes: &[u8],
     block_size: u32,
@@ -88,13 +90,13 @@ fn wrong_number_at(
     }
 }
 
-/// Returns the number in the superblock of block 0 or 1 that is wrong for these bytes, with blocks of that size in
-/// bytes: the size or number of blocks, or a version that isn't accepted. The superblock is found by its offset,
-/// without a checksum: its name and its struct are the first two entries of the block. So the block size by which the
-/// image was made needn't be known.
+/// Returns a number in the superblock of block 0 or 1 that is wrong for these bytes: the block
+/// size, the number of blocks, or a version that isn't accepted. `block_size` is the given block
+/// size in bytes, and the number of blocks follows from it. The superblock is recognized by the
+/// first two entries of its block, which are its name and its struct. Checksums aren't verified.
 ///
-/// Returns None exactly if no number of these two superblocks is wrong: a block that doesn't begin with a superblock
-/// has none. Blocks of no bytes have none either.
+/// Returns None if and only if neither superblock has a wrong number. A block that doesn't begin
+/// with a superblock has no wrong number. If `block_size` is 0, the result is None.
 pub fn image_wrong_number(
     bytes: &[u8],
     block_size: u32,

@@ -9,15 +9,16 @@ use std::io::{ErrorKind, Write};
 use std::rt::Files;
 use std::{fs, io};
 
-/// A folder of the real file system, or a link to one. If it isn't there, the first call makes it and the folders
-/// above it. A name that isn't UTF-8 is a fault. So is a path in it with anything but a file or a folder, such as a
-/// symbolic link. Each fault is noted in a log, with its path.
+/// A folder of the real file system, or a link to one. If the folder doesn't exist, the first call
+/// makes it and the folders above it. A call returns `Fault` if its path isn't UTF-8, or if
+/// something other than the expected file or folder is already there, such as a symbolic link. A
+/// log keeps the first fault with its path.
 #[derive(Drop)]
 pub struct TargetFolder<'a, R> {
     root: Root<'a, R>,
 }
 
-// Makes a folder, unless there is one.
+// Makes a folder, unless it exists.
 fn ensure_folder<R: Files>(rt: &R, path: &str) -> io::Result<()> {
     let Err(error) = fs::create_dir(rt, path) else {
         return Ok(());
@@ -28,7 +29,7 @@ fn ensure_folder<R: Files>(rt: &R, path: &str) -> io::Result<()> {
     }
 }
 
-// Makes a folder and those above it, unless there is one, or a link to one.
+// Makes a folder and the folders above it, unless the folder or a link to a folder is at the path.
 fn make_folders<R: Files>(rt: &R, path: &str) -> io::Result<()> {
     match ensure_folder(rt, path) {
         Err(error) if error.kind() == ErrorKind::NotFound => fs::create_dir_all(rt, path),
@@ -40,7 +41,7 @@ fn make_folders<R: Files>(rt: &R, path: &str) -> io::Result<()> {
     }
 }
 
-// Refuses a path at which there is anything but a file.
+// Fails if there is anything but a file at the path.
 fn check_free_path<R: Files>(rt: &R, path: &str) -> io::Result<()> {
     match fs::symlink_metadata(rt, path) {
         Ok(there) if !there.is_file() => Err(io::Error::new(
@@ -52,7 +53,10 @@ fn check_free_path<R: Files>(rt: &R, path: &str) -> io::Result<()> {
 }
 
 impl<'a, R: Files + AllocGlobal + Clone + Drop> TargetFolder<'a, R> {
-    /// Returns the target for the folder at a path of the file system. Nothing is made yet.
+    /// Returns the target for the folder at a path of the file system. The folder isn't created
+    /// yet.
+    ///
+    /// Errors: `AllocError` if memory can't be allocated.
     pub fn new(rt: &'a R, log: &'a FaultLog, root: &str) -> Result<TargetFolder<'a, R>, AllocError>
         ensures root { IfOk result (λ f. target_root f ≡ root.now) }
     {
@@ -61,8 +65,8 @@ impl<'a, R: Files + AllocGlobal + Clone + Drop> TargetFolder<'a, R> {
         })
     }
 
-    // Makes the target's folder if it isn't there, and returns the path in the file system. A path that isn't text
-    // is an error.
+    // Makes the target's folder unless it exists, and returns a path in the file system. Fails if
+    // the path isn't UTF-8.
     fn make_target_folder(&self, path: &[u8]) -> io::Result<String> {
         let full = self.root.full_path(path)?;
         if let Err(error) = make_folders(self.root.rt, self.root.path.as_str()) {
@@ -72,7 +76,7 @@ impl<'a, R: Files + AllocGlobal + Clone + Drop> TargetFolder<'a, R> {
         Ok(full)
     }
 
-    // Makes the folder at a path. The empty path is that of the target itself.
+    // Makes the folder at a path. The empty path is the target's own folder.
     fn make_folder_at(&self, path: &[u8]) -> io::Result<()> {
         let full = self.make_target_folder(path)?;
         if path.is_empty() {

@@ -10,11 +10,11 @@ use std::alloc::Global;
 pub enum TargetAction {
     /// A folder was made at this path.
     Folder(Vec<u8>),
-    /// A file was put at this path, with these bytes.
+    /// A file with these bytes was written at this path.
     File(Vec<u8>, Vec<u8>),
 }
 
-/// A target that records the actions that were done, in order. It has no faults.
+/// A target in memory that records the actions that were done, in order, and never returns `Fault`.
 #[derive(Drop)]
 pub struct MemoryTarget {
     pub done: Vec<TargetAction>,

@@ -1,4 +1,4 @@
-// Files beside a path, which are moved to it.
+// Temporary files in the folder of an image, which are renamed to the image's path.
 
 ghost use Rattle.std.specs.Prelude.{◌≡◌, ◌++◌, IfOk, OnOk, false, true};
 ghost use Rattle.std.specs.Fmt.{decimal};
@@ -13,27 +13,28 @@ use std::path::Path;
 use std::rt::Files;
 use std::{fs, io};
 
-// The number of names that are tried.
+// The number of names to try for a temporary file.
 const NAMES: u32 = 1000;
 
-// The most digits of a name's number.
+// The largest number of digits in a temporary name.
 const DIGITS: usize = 10;
 
-// The path of an image, and one beside it, in the same folder. `new` allocates the memory for each name
-// that is tried.
+// The path of an image, and the path of a temporary file in the same folder. `new` allocates the
+// memory for all temporary names.
 #[derive(Drop)]
 pub(crate) struct ImagePaths {
     // The path of the finished image.
     pub(crate) path: String,
-    // The beginning of each path beside it. A number follows.
+    // The path of each temporary file, without the number that follows.
     start: String,
-    // The path beside it that was tried last.
+    // The path of the temporary file that was tried last.
     pub(crate) beside: String,
     ghost is_start: { string_bytes start ≡ temporary_prefix (string_bytes path) },
 }
 
 impl ImagePaths {
-    // Returns the paths for an image at this path. Errors: `AllocError` if memory isn't granted.
+    // Returns the paths for an image at this path. Errors: `AllocError` if memory can't be
+    // allocated.
     pub(crate) fn new(alloc: Global, path: &str) -> Result<ImagePaths, AllocError>
         ensures { IfOk result (λ p. string_bytes p.path ≡ path.now) }
     {
@@ -48,7 +49,7 @@ impl ImagePaths {
         })
     }
 
-    // Sets the path beside it to the one with that number.
+    // Sets the path of the temporary file to the one with this number.
     fn set_temporary_number(&mut self, number: u32) -> Result<(), AllocError>
         ensures path { self.new.path ≡ self.old.path }
         ensures beside { OnOk result (string_bytes self.new.beside ≡ temporary_prefix (string_bytes self.old.path) ++ decimal number) }
@@ -60,7 +61,7 @@ impl ImagePaths {
     }
 }
 
-// Creates a new file beside a path, under the first name that is free.
+// Creates a temporary file in the folder of a path, with the first name that is free.
 fn create_temporary_file<R: Files>(files: &R, paths: &mut ImagePaths) -> io::Result<R::File>
     ensures path { paths.new.path ≡ paths.old.path }
     ensures beside { OnOk result (IsNumberedPath (string_bytes paths.old.path) (string_bytes paths.new.beside)) }
@@ -76,8 +77,8 @@ fn create_temporary_file<R: Files>(files: &R, paths: &mut ImagePaths) -> io::Res
     Err(io::Error::from(ErrorKind::AlreadyExists))
 }
 
-// Creates a new file beside a path. If the folder can't have a new file, creates or empties the one at
-// the path. Returns the file, and whether it is beside the path.
+// Creates a temporary file in the folder of a path. If the folder doesn't permit new files, creates
+// or truncates the file at the path itself. Returns the file, and whether it is temporary.
 fn create_new_file<R: Files>(files: &R, paths: &mut ImagePaths) -> io::Result<(R::File, bool)>
     ensures path { paths.new.path ≡ paths.old.path }
     ensures beside { IfOk result (λ made. made.1 ≡ true → IsNumberedPath (string_bytes paths.old.path) (string_bytes paths.new.beside)) }
@@ -91,7 +92,8 @@ fn create_new_file<R: Files>(files: &R, paths: &mut ImagePaths) -> io::Result<(R
     }
 }
 
-// Creates the file that replaces one with these permissions. Fails if the old one may not be written.
+// Creates the file that replaces a file with these permissions. Fails if the old file isn't
+// writable.
 fn create_replacement_file<R: Files>(
     files: &R,
     paths: &mut ImagePaths,
@@ -104,12 +106,12 @@ fn create_replacement_file<R: Files>(
         .write(true)
         .open(files, paths.path.as_str())?;
     let made = create_new_file(files, paths)?;
-    // If the system knows no permissions, the file has those of a new one.
+    // If the system has no permissions, the file keeps those of a new file.
     let _ = made.0.set_permissions(permissions);
     Ok(made)
 }
 
-// Creates the file for a path, by the kind of file that is there now.
+// Creates the file for a path, depending on what is at the path.
 fn create_by_state<R: Files>(
     files: &R,
     paths: &mut ImagePaths,
@@ -126,8 +128,8 @@ fn create_by_state<R: Files>(
     }
 }
 
-// Creates the file for a path, and returns whether it is beside the path for now. Anything at the path
-// that is no file is written directly.
+// Creates the file for a path, and returns whether it is temporary. If something other than a file
+// is at the path, it is written directly.
 pub(crate) fn create_image_file<R: Files>(
     files: &R,
     paths: &mut ImagePaths,
@@ -139,8 +141,8 @@ pub(crate) fn create_image_file<R: Files>(
     create_by_state(files, paths, state_of_metadata(found))
 }
 
-// Moves the file beside a path to the path. If the system refuses that, as for a single file that is
-// mounted there, copies its bytes.
+// Renames the temporary file to its path. If the system refuses the rename, for example because the
+// path is a mount point, copies the bytes and removes the temporary file.
 pub(crate) fn move_to_path<R: Files>(files: &R, paths: &ImagePaths) -> io::Result<()> {
     let (beside, path) = (paths.beside.as_str(), paths.path.as_str());
     if fs::rename(files, beside, path).is_ok() {

@@ -1,4 +1,4 @@
-// Images that are unpacked.
+// Unpacking images.
 
 ghost use Rattle.std.specs.Prelude.{◌≡◌, ◌⊎◌, ◌<◌, ◌^◌, IfErr, IfOk, OnErr, OnOk, false, length};
 ghost use Rattle.lfs_device.specs.RamDevice.{ram_blocks, ram_geometry};
@@ -21,7 +21,7 @@ use lfs_lookup::{OwnedStruct, TreeItem, read_struct_bytes};
 use lfs_thread::Thread;
 use std::alloc::Global;
 
-// Returns the bytes of a file of an image in memory.
+// Returns the bytes of a file in an image in memory.
 fn file_bytes(
     alloc: Global,
     thread: &mut Thread<RamDevice>,
@@ -37,14 +37,14 @@ fn file_bytes(
     match read_struct_bytes(alloc, thread, structure) {
         Ok(bytes) => Ok(bytes),
         Err(error) => {
-            // The device had no fault, so memory ran out.
+            // A device in memory never fails, so memory ran out.
             let _device = thread.device();
             Err(ToolError::Fs(error))
         }
     }
 }
 
-/// Returns the tool's error for a target's error.
+/// Returns the tool's error for an error of a target.
 pub fn target_tool_error(error: FileError) -> ToolError
     ensures { (error ≡ FileError.Fault × (result ≡ ToolError.Output)) ⊎ (error ≡ FileError.NoMemory × (result ≡ ToolError.Fs Error.NoMemory)) }
 {
@@ -54,7 +54,7 @@ pub fn target_tool_error(error: FileError) -> ToolError
     }
 }
 
-// Does the action of an item. These are the bytes, if it is a file.
+// Makes the folder of an item in the target, or writes its file with these bytes.
 fn put_item_bytes<T: Target>(
     alloc: Global,
     item: &TreeItem,
@@ -151,14 +151,14 @@ fn unpack_ram_device<T: Target, F: FollowsProgress>(
     }
 }
 
-/// Unpacks an image into a target: one action for each file and directory, in the order of `items_of_image`. A directory
-/// is made, and a file is put with its bytes. Nothing is done before the image is known to be good. After an error the
-/// actions that were done are a beginning of those that the image wants. `progress` is told the files and bytes of the
-/// whole, and of each entry that is done. The image comes back mounted.
+/// Unpacks an image into a target, in the order of `items_of_image`: makes a folder for each
+/// directory, and writes each file with its bytes. Nothing is done before the image is accepted.
+/// After an error, only a prefix of these actions has been done. `progress` receives the number of
+/// files and bytes in the image, and is updated after each entry. Returns the mounted image.
 ///
 /// # Errors
-/// - `Fs` with each error of `items_of_image`.
-/// - `Output` if the target failed.
+/// - `Fs` with any error of `items_of_image`.
+/// - `Output` if the target fails.
 pub fn unpack<T: Target, F: FollowsProgress>(
     alloc: Global,
     image: Vec<u8>,
@@ -169,7 +169,7 @@ pub fn unpack<T: Target, F: FollowsProgress>(
     ensures done { OnOk result (HasUnpackedImage layout image.items (T.done target.old) (T.done target.new)) }
     ensures mounted { IfOk result (IsMountedStill (disk_of_image layout.block_size layout.page layout.profile LongerFirst image.items)) }
 
-    // Nothing is done, or a beginning of the actions, if the target failed or memory ran out.
+    // If the target failed or memory ran out, only the first actions, if any, have been done.
     ensures failed { IfErr result (FailsUnpackingImage layout image.items (T.done target.old) (T.done target.new)) }
     ensures output { ReportsFault ToolError.Output (T.has_failed target.old) (T.has_failed target.new) result }
 {

@@ -1,4 +1,4 @@
-// The values of a command line's options.
+// The values of the options in a command line.
 
 ghost use Rattle.std.specs.Prelude.{◌≡◌, map, option_map};
 ghost use Rattle.clap.specs.Words.{first_of, found_of, rows_of};
@@ -7,21 +7,21 @@ ghost use Rattle.lfs_tool.specs.Values.{bad_option_number, bad_option_size, firs
 use crate::numbers::number_in_text;
 use clap::ArgMatches;
 
-// Returns the text of an argument.
+// Returns the value of an option or an argument, or None if it isn't given.
 pub(crate) fn argument_text<'a>(matches: &ArgMatches<'a>, id: &str) -> Option<&'a str>
     ensures { option_map (λ s. s.now) result ≡ first_of id.now (rows_of (found_of matches.now)) }
 {
     matches.get_str(id)
 }
 
-// Returns the value of a flag.
+// Returns whether a flag is given.
 pub(crate) fn flag_value(matches: &ArgMatches<'_>, id: &str) -> bool
     ensures { result ≡ flag_in_rows id.now (rows_of (found_of matches.now)) }
 {
     matches.get_one::<bool>(id).unwrap_or(false)
 }
 
-// Returns the number of an option, if it is given.
+// Returns the number that an option is given, or None if the option isn't given.
 pub(crate) fn given_number(matches: &ArgMatches<'_>, id: &str) -> Option<u32>
     ensures { result ≡ number_in_rows id.now (rows_of (found_of matches.now)) }
 {
@@ -31,14 +31,14 @@ pub(crate) fn given_number(matches: &ArgMatches<'_>, id: &str) -> Option<u32>
     }
 }
 
-// Returns the number of an option, or `other` if it isn't given.
+// Returns the number that an option is given, or `other` if the option isn't given.
 pub(crate) fn number_given_or(matches: &ArgMatches<'_>, id: &str, other: u32) -> u32
     ensures { result ≡ number_or other id.now (rows_of (found_of matches.now)) }
 {
     given_number(matches, id).unwrap_or(other)
 }
 
-// Returns the text of an option that has to be a number, if it isn't one.
+// Returns the value of a numeric option if it isn't a number, and otherwise None.
 fn bad_number<'a>(matches: &ArgMatches<'a>, id: &str) -> Option<&'a str>
     ensures { option_map (λ s. s.now) result ≡ bad_option_number id.now (rows_of (found_of matches.now)) }
 {
@@ -51,7 +51,7 @@ fn bad_number<'a>(matches: &ArgMatches<'a>, id: &str) -> Option<&'a str>
     }
 }
 
-// Returns whether the text of an option is `auto`.
+// Returns whether the value of an option is `auto`.
 pub(crate) fn is_auto(matches: &ArgMatches<'_>, id: &str) -> bool
     ensures { result ≡ is_option_auto id.now (rows_of (found_of matches.now)) }
 {
@@ -61,7 +61,7 @@ pub(crate) fn is_auto(matches: &ArgMatches<'_>, id: &str) -> bool
     }
 }
 
-// Returns the text of an option that has to be a number or `auto`, if it is neither.
+// Returns the value of an option if it is neither a number nor `auto`, and otherwise None.
 fn bad_size<'a>(matches: &ArgMatches<'a>, id: &str) -> Option<&'a str>
     ensures { option_map (λ s. s.now) result ≡ bad_option_size id.now (rows_of (found_of matches.now)) }
 {
@@ -71,7 +71,7 @@ fn bad_size<'a>(matches: &ArgMatches<'a>, id: &str) -> Option<&'a str>
     bad_number(matches, id)
 }
 
-// Returns the first of these options whose text is no number, with the text.
+// Returns the first of these options whose value isn't a number, with that value.
 #[tactic(auto, using(crate::proofs::Table::bad_found, crate::proofs::Table::good_passed, crate::proofs::Table::none_bad))]
 fn bad_number_among<'a>(
     matches: &ArgMatches<'a>,
@@ -87,7 +87,7 @@ fn bad_number_among<'a>(
     None
 }
 
-// The options whose text has to be a number, except for the size of a page.
+// The numeric options except for the three sizes.
 const NUMBERS: [&str; 7] = [
     "offset",
     "name-max",
@@ -98,7 +98,7 @@ const NUMBERS: [&str; 7] = [
     "spare",
 ];
 
-/// Returns the first option whose text is no number, with the text.
+/// Returns the first numeric option whose value isn't a number, together with its value.
 pub(crate) fn first_bad_number<'a>(matches: &ArgMatches<'a>) -> Option<(&'static str, &'a str)>
     ensures { option_map (λ bad. bad.1.now) result ≡ first_bad_text (rows_of (found_of matches.now)) }
 {

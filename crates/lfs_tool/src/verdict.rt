@@ -12,7 +12,8 @@ use lfs_tag::Superblock;
 pub enum AcceptedOrders {
     LongerFirst,
     ShorterFirst,
-    /// Both: no name of a directory is the beginning of another one.
+    /// The image is accepted in either order of names, since no name in a directory is a prefix of
+    /// another.
     Either,
 }
 
@@ -20,58 +21,59 @@ pub enum AcceptedOrders {
 #[derive(Clone, Copy, Debug, PartialEq, Eq, Drop)]
 pub struct ImageSummary {
     pub files: usize,
-    /// How many files and directories there are, without the root.
+    /// The number of directories without the root.
     pub directories: usize,
-    /// How many blocks are used.
+    /// The number of used blocks.
     pub used: u32,
-    /// How many blocks there are.
+    /// The number of blocks in the image.
     pub blocks: u32,
-    /// Whether a loss of power left something to recover.
+    /// Whether an interrupted operation must be completed after a power loss.
     pub recover: bool,
-    /// The superblock at the beginning of the root directory, if the profile is another than that of
-    /// `Profile::new`. A check then reports its version and its limits.
+    /// The superblock in the root directory's first pair, or None if the profile is that of
+    /// `Profile::new`. A check prints the version and the limits of this superblock.
     pub superblock: Option<Superblock>,
-    /// The profile's `inline_max` in bytes, if it is less than an eighth of a block. A check reports it if
-    /// a file has more bytes inline.
+    /// The profile's `inline_max` in bytes if it is less than the limit that follows from the block
+    /// size, and otherwise None. A check uses this limit to report an inline file that is too long.
     pub inline_max: Option<u32>,
-    /// The rule of the writing profile that the image breaks. Without one the image may be changed.
+    /// A rule of the writing profile that the image breaks, or None if the image may be changed.
     pub breach: Option<ProfileBreach>,
 }
 
-/// A rule that an image breaks, with its line.
+/// A rule that an image breaks, with the line that reports it.
 #[derive(Drop)]
 pub struct BrokenRule {
     pub violation: Violation,
-    /// A line without its end, with the rule and its location, in names and numbers.
+    /// The line that states the rule and the location, without its newline.
     pub line: Vec<u8>,
 }
 
-/// Whether an image is accepted, with its summary, or a rule that it breaks.
+/// The verdict on an image: its summary if it is accepted, or a rule that it breaks.
 #[derive(Drop)]
 pub enum ImageVerdict {
     Accepted {
         summary: ImageSummary,
         orders: AcceptedOrders,
     },
-    /// A rule that the image breaks.
+    /// The image breaks this rule.
     Refused(BrokenRule),
 }
 
-/// A number in a superblock's struct that is wrong for its image (SPEC.md of littlefs, "0x0ff
+/// A number in a superblock that is wrong for the image (SPEC.md of littlefs, "0x0ff
 /// LFS_TYPE_SUPERBLOCK").
 #[derive(Clone, Copy, Debug, PartialEq, Eq, Drop)]
 pub enum WrongNumber {
-    /// It states another block size, in bytes.
+    /// The superblock states this block size in bytes, which is wrong for the image.
     BlockSize(u32),
-    /// It states another number of blocks.
+    /// The superblock states this number of blocks, which is wrong for the image.
     BlockCount(u32),
-    /// It states a version that isn't accepted: the major number is in the upper 16 bits, the minor one in
-    /// the lower.
+    /// The superblock states this version, which isn't accepted. The upper 16 bits are the major
+    /// version, and the lower 16 bits are the minor version.
     Version(u32),
 }
 
-/// The sizes with which an image is checked: those of a block, a page and the image in bytes, and the
-/// number of whole blocks. If there are more bytes than an image may have, `size` is one more than that.
+/// The sizes with which an image is checked: a block, a page and the whole image in bytes, and the
+/// number of whole blocks. If the bytes are from `read_image` and exceed the largest image, `size`
+/// is the largest size plus one.
 #[derive(Clone, Copy, Debug, PartialEq, Eq, Drop)]
 pub struct GivenSizes {
     pub block_size: u32,
@@ -97,15 +99,16 @@ impl GivenSizes {
 /// The reason why an image isn't accepted.
 #[derive(Drop)]
 pub enum RefusalReason {
-    /// The superblock in block 0 or 1 states another block size, number of blocks or version.
+    /// The superblock in block 0 or 1 states a wrong block size, number of blocks or version.
     WrongNumber(WrongNumber),
-    /// No image of blocks and pages of these sizes has so many bytes.
+    /// No image with blocks and pages of these sizes has this length.
     NoImage,
     /// The image breaks this rule.
     Broken(BrokenRule),
 }
 
-/// Whether an image is accepted, with its summary, or why not.
+/// The result of a check: the summary of an accepted image, or the reason why the image isn't
+/// accepted.
 #[derive(Drop)]
 pub enum CheckResult {
     Accepted {

@@ -1,4 +1,5 @@
-// The line with the rule that an image breaks and its location. The image is read once more for it.
+// The line that states which rule an image breaks, and where. The image is read again for this
+// line.
 
 ghost use Rattle.std.specs.Prelude.{◌≡◌, IfErr, IfOk};
 
@@ -17,7 +18,7 @@ use std::alloc::{AllocError, Global};
 
 // ---- rules of one pair
 
-// Returns the line that says why a pair has no content.
+// Returns the line that says why a metadata pair has no valid contents.
 fn no_content_line(alloc: Global, device: &mut RamDevice, pair: [u32; 2]) -> Result<String, Error> {
     let at = PairText(pair);
     let Some(block) = current_block(alloc, device, pair)? else {
@@ -48,9 +49,9 @@ fn no_superblock_line(alloc: Global) -> Result<String, AllocError> {
     format!(in alloc; "superblock: the root directory doesn't begin with one")
 }
 
-// ---- rules of a thread
+// ---- rules of the tail list
 
-// Returns why a slot is no entry.
+// Returns why a slot isn't a valid entry.
 fn entry_flaw(slot: &FoundSlot) -> &'static str {
     match (slot.kind, &slot.structure) {
         (SlotNameKind::Superblock, _) => "is a second superblock",
@@ -61,7 +62,7 @@ fn entry_flaw(slot: &FoundSlot) -> &'static str {
     }
 }
 
-// Returns whether a block is in a list that is well formed.
+// Returns whether a block is in a file's CTZ skip-list. Returns false if the list is malformed.
 fn has_list_block(
     device: &mut RamDevice,
     structure: &OwnedStruct,
@@ -80,7 +81,7 @@ fn has_list_block(
 }
 
 impl FoundThread {
-    // Returns the wrong number of the superblock in a slot, if it has one.
+    // Returns the wrong number of the superblock in a slot, or None if it has none.
     fn wrong_number(&self, slot: &FoundSlot) -> Option<WrongNumberText> {
         let OwnedStruct::Inline(bytes) = &slot.structure else {
             return None;
@@ -108,7 +109,8 @@ impl FoundThread {
         }
     }
 
-    // Returns the line of a later superblock: its wrong number, or that it differs from the first one.
+    // Returns the line for a superblock after the first: its wrong number, or that it differs from
+    // the first one.
     fn other_superblock_line(&self, pair: [u32; 2]) -> Result<String, AllocError> {
         let at = PairText(pair);
         if let Some(slot) = self.slot_at(pair, 0) {
@@ -120,9 +122,9 @@ impl FoundThread {
         format!(in self.alloc; "{at}, superblock: another one than in {first}")
     }
 
-    // Returns the line of two neighbours that aren't sorted in either order of names, or else of two that aren't
-    // with longer names first and two that aren't with shorter names first. The latter may be in another
-    // directory, which the rule `other` names.
+    // Returns the line for two neighbouring names that are out of order. If no two names are out of
+    // order in both orders, the line has two such pairs of names, one for each order. The second of
+    // these may be in another directory, which the rule `other` states.
     fn names_line(&self, pair: [u32; 2], other: Violation) -> Result<String, AllocError> {
         let other = match other {
             Violation::Names { pair } => pair,
@@ -142,7 +144,8 @@ impl FoundThread {
         }
     }
 
-    // Returns the line of the first entry in a directory that leads to no directory.
+    // Returns the line for the first entry of a directory that points to a pair where no directory
+    // begins.
     fn branch_line(&self, pair: [u32; 2]) -> Result<String, AllocError> {
         for slot in &self.slots {
             if let Some(to) = slot.branch() {
@@ -157,7 +160,8 @@ impl FoundThread {
         Ok(String::new(self.alloc))
     }
 
-    // Returns the line of two entries that lead to one directory, or of one that leads to the root.
+    // Returns the line for two entries that point to the same directory, or for one that points to
+    // the root.
     fn two_paths_line(&self, pair: [u32; 2]) -> Result<String, AllocError> {
         let root = self.directories.first().copied();
         let is_root = root.is_some_and(|root| is_same_pair(root, pair));
@@ -174,7 +178,8 @@ impl FoundThread {
         self.pairs.iter().copied().find(|p| p.contains(&block))
     }
 
-    // Returns the line of the other owner of a block in an entry's list: a pair, or the first other entry.
+    // Returns the line for a block that an entry's file shares with a metadata pair or with another
+    // file.
     fn two_owners_line(
         &self,
         device: &mut RamDevice,
@@ -198,7 +203,7 @@ impl FoundThread {
         Ok(String::new(alloc))
     }
 
-    // Returns the line of a rule that names a slot by its number.
+    // Returns the line for a rule that refers to a slot.
     fn slot_line(&self, device: &mut RamDevice, violation: Violation) -> Result<String, Error> {
         let (pair, number) = match violation {
             Violation::Entry { pair, slot }
@@ -220,7 +225,7 @@ impl FoundThread {
     }
 }
 
-// Returns the line of a rule for which the thread is read once more.
+// Returns the line for a rule that needs all metadata pairs to be read again.
 fn thread_line(
     alloc: Global,
     device: &mut RamDevice,
@@ -254,7 +259,7 @@ fn thread_line(
 
 // ---- all rules
 
-// Returns the line of a rule. In the other order of names the image breaks the rule `other`.
+// Returns the line for a rule. In the other order of names, the image breaks the rule `other`.
 fn rule_line(
     alloc: Global,
     device: &mut RamDevice,
@@ -284,7 +289,8 @@ fn rule_line(
     Ok(line)
 }
 
-// Returns a rule that the image of a device breaks, with its line. In the other order it breaks the rule `other`.
+// Returns a rule that the image of a device breaks, with its line. In the other order of names, the
+// image breaks the rule `other`.
 pub(crate) fn broken_rule(
     alloc: Global,
     device: RamDevice,
@@ -300,7 +306,8 @@ pub(crate) fn broken_rule(
             violation,
             line: line.into_bytes(),
         }),
-        // The device has no fault, and a rule was found by the same reads.
+        // A device in memory never fails, and the same reads found the rule before, so memory ran
+        // out.
         Err(_) => Err(Error::NoMemory),
     }
 }

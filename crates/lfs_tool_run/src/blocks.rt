@@ -1,4 +1,4 @@
-// How many blocks are enough for what a folder has.
+// How many blocks an image needs for the contents of a folder.
 
 use crate::creation::{read_source_entries, session_of_entries};
 use crate::files::Host;
@@ -7,19 +7,21 @@ use crate::times::keep_times;
 use lfs_device::{Error, Geometry, RamDevice};
 use lfs_tool::{Extras, FollowsProgress, Line, Mode, SourceEntry, ToolError};
 
-/// The most bytes that an image has.
+/// The size of the largest image in bytes.
 pub(crate) const IMAGE_MAX: u32 = 268_435_456;
 
 const BLOCKS_MAX: u32 = 65_536;
 
-// No longer file is in its folder's entry.
+// The length of the longest inline file that any image may have, in bytes.
 const INLINE_MAX: usize = 1022;
 
-/// Reads all that the folder of a line has, for an image of at most so many bytes.
+/// Reads all files and folders of the folder `folder`, for an image of at most `size` bytes.
 ///
 /// # Errors
-/// - `Input` if it couldn't be read.
-/// - `TooBig` if a file is longer than the image and the line's limit, and `NoSpace` if it is longer than the image alone.
+/// - `Input` if the folder or something in it can't be read.
+/// - `TooBig` if a file is longer than both the image and the line's `file_max`.
+/// - `NoSpace` if a file is longer than the image but not than the line's `file_max`.
+/// - `NoMemory` if memory can't be allocated.
 pub(crate) fn read_line_folder(
     host: Host<'_>,
     line: &Line<'_>,
@@ -35,7 +37,7 @@ pub(crate) fn read_line_folder(
     }
 }
 
-/// Makes the image of a folder's entries in memory, with their times if these are kept.
+/// Makes an image of these entries in memory, and stores their times if `--times` is given.
 pub(crate) fn image_of_entries<F: FollowsProgress>(
     host: Host<'_>,
     line: &Line<'_>,
@@ -69,7 +71,8 @@ fn most_blocks(block_size: u32) -> u32 {
     most.min(BLOCKS_MAX)
 }
 
-// Returns how many blocks the bytes of the entries take at least, beside the root's.
+// Returns a lower bound for the number of blocks that an image of the entries needs. It counts the
+// root's pair and the full blocks of files that can't be inline.
 fn blocks_of_bytes(entries: &[SourceEntry], block_size: u32) -> u32 {
     let mut count = 2u32;
     for entry in entries {
@@ -82,10 +85,11 @@ fn blocks_of_bytes(entries: &[SourceEntry], block_size: u32) -> u32 {
     count
 }
 
-/// Returns how many blocks are enough for the entries, but no fewer than are given. None comes where no image has enough.
+/// Searches for the smallest number of blocks, at least `given`, that an image of the entries
+/// needs. Returns None if even the largest image is too small.
 ///
 /// # Errors
-/// That of a trial that is refused for another cause than too few blocks.
+/// The error of an attempt that fails for any reason other than a lack of free blocks.
 pub(crate) fn enough_blocks(
     host: Host<'_>,
     line: &Line<'_>,
@@ -93,7 +97,8 @@ pub(crate) fn enough_blocks(
     given: u32,
 ) -> Result<Option<u32>, ToolError> {
     let most = most_blocks(line.block_size);
-    // One block less than `next` is too few, or fewer aren't wanted; so many are enough where that is known.
+    // `few` blocks are too few, or fewer than `given`. If `enough` is known, that many blocks
+    // suffice.
     let mut few = given
         .max(blocks_of_bytes(entries, line.block_size).min(most))
         .saturating_sub(1);
@@ -116,7 +121,7 @@ pub(crate) fn enough_blocks(
     Ok(enough)
 }
 
-/// Returns how many blocks are enough for a folder, as `enough_blocks` does.
+/// Returns the number of blocks that `enough_blocks` finds for the contents of a folder.
 pub(crate) fn enough_for_folder(
     host: Host<'_>,
     line: &Line<'_>,
@@ -130,8 +135,10 @@ pub(crate) fn enough_for_folder(
     }
 }
 
-/// Gives the line of a new image the size that is enough for the folder, and for the blocks to spare, if that is
-/// requested. Returns what the folder has then. If none is enough, the line has the largest size.
+/// With `--size auto`, sets the size of a new image to what its folder needs plus the spare blocks,
+/// and returns the contents of the folder. Without `--size auto`, returns None. If the contents
+/// don't fit in the largest image, sets the line's size to that of the largest image, and returns
+/// `NoSpace`.
 pub(crate) fn fit_size(
     host: Host<'_>,
     line: &mut Line<'_>,

@@ -16,11 +16,12 @@ use lfs_tool::{
 use std::alloc::Global;
 use std::io::Write;
 
-/// Reads all that a source has, depth first and in name order.
+/// Reads all files and folders of a source, depth first and in name order.
 ///
 /// # Errors
-/// - `Input` if it couldn't be read, or a name in a folder of it is given twice or isn't allowed in a path.
-/// - `Fs(NoMemory)` if memory isn't granted.
+/// - `Input` if the source can't be read, or if one of its folders has two equal names or a name
+///   that a path can't contain.
+/// - `Fs(NoMemory)` if memory can't be allocated.
 pub fn read_source_entries<S: Source>(
     alloc: Global,
     source: &mut S,
@@ -36,7 +37,7 @@ pub fn read_source_entries<S: Source>(
     }
 }
 
-// Begins a session over an empty image in memory.
+// Formats an image in memory, and mounts it.
 fn begin_session(
     alloc: Global,
     geometry: Geometry,
@@ -48,18 +49,19 @@ fn begin_session(
     let device = RamDevice::blank(alloc, geometry)?;
     match format_ordered(alloc, device, order) {
         Ok(session) => Ok(session),
-        // The device had no fault, so memory ran out.
+        // A device in memory never fails, so memory ran out.
         Err((_device, error)) => Err(error),
     }
 }
 
-/// Makes a session over a new image of a geometry in memory, into which these entries are copied: depth first and in name
-/// order, the shorter names first. `progress` is told the files and bytes of the whole, and of each entry that is copied.
+/// Formats an image in memory, mounts it, and copies these entries into it in the given order.
+/// `progress` receives the number of files and bytes of all entries, and is updated after each
+/// entry.
 ///
 /// # Errors
-/// - `NoMemory` if memory isn't granted.
-/// - Another error if one of the operations that copy the entries is refused for that: `NoSpace` if too few
-///   blocks are free.
+/// - `NoMemory` if memory can't be allocated.
+/// - The error of the operation that refuses an entry, such as `NoSpace` if too few blocks are
+///   free.
 pub fn session_of_entries<F: FollowsProgress>(
     alloc: Global,
     geometry: Geometry,
@@ -75,7 +77,8 @@ pub fn session_of_entries<F: FollowsProgress>(
     Ok(session)
 }
 
-/// Makes an image of a geometry in memory that holds these entries, as `create` does.
+/// Makes an image in memory that contains these entries, with the given geometry and order of
+/// names.
 ///
 /// Errors: those of `session_of_entries`.
 pub fn new_image<F: FollowsProgress>(
@@ -92,15 +95,16 @@ pub fn new_image<F: FollowsProgress>(
     Ok(session.unmount())
 }
 
-/// Writes an image of a geometry that holds these entries. The names in its directories have that order, and its
-/// limits are those of the geometry's profile. Nothing is written if one of the operations that copy the entries is refused.
-/// The writer is flushed when all is written.
+/// Writes an image that contains these entries, with the given geometry and order of names. The
+/// limits of the image are those of the geometry's profile. Nothing is written if an entry is
+/// refused, and the writer is flushed at the end.
 ///
 /// # Errors
-/// - `Fs(error)` if an operation is refused, with its refusal: `Fs(NoSpace)` if too few blocks are free,
-///   `Fs(NameTooLong)` if a name is longer than the profile's limit, and `Fs(TooBig)` if a file is.
-/// - `Fs(NoMemory)` if memory isn't granted.
-/// - `Output` if the writer failed. It has then got a beginning of the image.
+/// - `Fs` with the error of the operation that refuses an entry. This error is `NoSpace` if too few
+///   blocks are free, `NameTooLong` if a name exceeds the profile's limit, and `TooBig` if a file
+///   does.
+/// - `Fs(NoMemory)` if memory can't be allocated.
+/// - `Output` if the writer fails. Only a prefix of the image has then been written.
 pub fn create<W: Write, F: FollowsProgress>(
     alloc: Global,
     entries: &[SourceEntry],
@@ -111,12 +115,12 @@ pub fn create<W: Write, F: FollowsProgress>(
 ) -> Result<(), ToolError>
     ensures ok { OnOk result (HasWrittenImage geometry order entries.now (W.contents (stream_inner out.old)) (W.contents (stream_inner out.new))) }
 
-    // Where the writer fails, a beginning of the image may be written.
+    // If the writer fails, it has received only a prefix of the image.
     ensures writer { ReportsWriterFaults out.old out.new result }
     ensures beginning { IsErrOf result ToolError.Output
         → HasWrittenBeginning geometry order entries.now (W.contents (stream_inner out.old)) (W.contents (stream_inner out.new)) }
 
-    // When each other error comes.
+    // The causes of the other errors.
     ensures refused { (e : _) → IsErrOf result (ToolError.Fs e) → e ≢ Error.NoMemory → RefusesEntries geometry order entries.now e }
     ensures never { ¬ IsErrOf result ToolError.Input }
 {

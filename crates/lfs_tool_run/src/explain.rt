@@ -1,4 +1,4 @@
-// Why a command line wasn't carried out: the lines of --explain.
+// The lines of `--explain`, which say why a command failed.
 
 use crate::blocks::{IMAGE_MAX, enough_for_folder};
 use crate::creation::read_source_entries;
@@ -15,14 +15,14 @@ use lfs_tool::{
 use std::alloc::AllocError;
 use std::io::Write;
 
-// The modes, for words that don't give exactly one.
+// The list of modes, for a command line that doesn't give exactly one.
 const MODES: &str =
     "the modes are -c DIR, -u DIR, -l, --check, --cat PATH, --put FILE PATH, --remove PATH and --mkdir PATH\n";
 
-// Version 2.1, as a superblock has it.
+// Version 2.1 in the encoding of a superblock.
 const LATER_VERSION: u32 = 0x0002_0001;
 
-// Reads the line's image once more. Standard input can't be read twice.
+// Reads the image again. Fails for standard input, which can't be read twice.
 fn read_part_again(host: Host<'_>, line: &Line<'_>) -> Result<ImagePart, ToolError> {
     if is_standard_stream(line.image) {
         return Err(ToolError::Input);
@@ -30,7 +30,7 @@ fn read_part_again(host: Host<'_>, line: &Line<'_>) -> Result<ImagePart, ToolErr
     read_part(host, line)
 }
 
-// Adds a line of a path, whose parts stand behind one another, and of words.
+// Appends a line with a path, which is the concatenation of `parts`, and with the words.
 fn push_path_line(text: &mut Vec<u8>, parts: &[&[u8]], words: &[u8]) -> Result<(), AllocError> {
     for part in parts {
         push_escaped_path(text, part)?;
@@ -40,7 +40,7 @@ fn push_path_line(text: &mut Vec<u8>, parts: &[&[u8]], words: &[u8]) -> Result<(
     text.extend_from_slice(b"\n")
 }
 
-// What an error says of a path, where it says something.
+// Returns what an error says about a path, or None if it says nothing.
 fn words_of_refusal(error: Error) -> Option<&'static str> {
     match error {
         Error::NoEnt => Some("nothing is there, or a folder above it is missing"),
@@ -57,7 +57,7 @@ fn words_of_refusal(error: Error) -> Option<&'static str> {
     }
 }
 
-// Returns the limits of an image that aren't the given ones, as options.
+// Returns the options for those limits of the image that differ from the given ones.
 fn other_limits(host: Host<'_>, line: &Line<'_>) -> Result<String, ToolError> {
     let part = read_part_again(host, line)?;
     let mut options = String::new(host.alloc());
@@ -84,7 +84,7 @@ fn other_limits(host: Host<'_>, line: &Line<'_>) -> Result<String, ToolError> {
     Ok(options)
 }
 
-// Adds which options open an image for changes that has other limits than the given ones.
+// Appends the options that open an image for changes if its limits differ from the given ones.
 fn push_read_only(
     host: Host<'_>,
     line: &Line<'_>,
@@ -102,7 +102,7 @@ fn push_read_only(
     Ok(push_path_line(text, &[path.as_bytes()], words.as_bytes())?)
 }
 
-// Adds what is wrong with the path in the image of the line's mode.
+// Appends what is wrong with the path in the image that the mode refers to.
 fn push_path_in_image(
     host: Host<'_>,
     line: &Line<'_>,
@@ -122,7 +122,7 @@ fn push_path_in_image(
     }
 }
 
-// Returns the sizes that the superblock of the line's image gives, if no image has them.
+// Returns the sizes that the superblock of the image states, or None if an image can have them.
 fn wrong_own_sizes(host: Host<'_>, line: &Line<'_>) -> Result<Option<Sizes>, ToolError> {
     if !line.has_own_limits || is_standard_stream(line.image) {
         return Ok(None);
@@ -154,7 +154,8 @@ fn sizes_of_image(host: Host<'_>, line: &Line<'_>) -> Result<Sizes, ToolError> {
     })
 }
 
-// Adds which options are missing for an image with this superblock, in a file of so many blocks.
+// Appends the options that are missing for an image with this superblock, in a file of `blocks`
+// blocks.
 fn push_missing_options(
     host: Host<'_>,
     superblock: &Superblock,
@@ -177,7 +178,7 @@ fn push_missing_options(
     Ok(())
 }
 
-// Adds what a check says of the image, and which options are missing.
+// Appends the result of a check of the image, and the options that are missing.
 fn push_check(host: Host<'_>, line: &Line<'_>, text: &mut Vec<u8>) -> Result<(), ToolError> {
     let part = match read_part_again(host, line) {
         Err(ToolError::Fs(Error::Corrupt)) => {
@@ -202,7 +203,8 @@ fn push_check(host: Host<'_>, line: &Line<'_>, text: &mut Vec<u8>) -> Result<(),
     Ok(())
 }
 
-// Returns how many bytes a file of a folder has. One that is longer than each image wasn't read.
+// Returns the length of a file in a folder in bytes. If the file is longer than any image, it
+// wasn't read, and the source has its length.
 fn length_of_file(entry: &SourceEntry, source: &Folder<'_, HostRuntime>) -> usize {
     match source.first_long_file() {
         Some(file) if file.path.as_slice() == entry.path.as_slice() => file.len as usize,
@@ -210,7 +212,7 @@ fn length_of_file(entry: &SourceEntry, source: &Folder<'_, HostRuntime>) -> usiz
     }
 }
 
-// Adds the first name or file of a folder that passes the limit of an image, for which this error comes.
+// Appends the first name or file of a folder that exceeds the limit to which this error refers.
 fn push_passed_limit(
     host: Host<'_>,
     line: &Line<'_>,
@@ -241,7 +243,7 @@ fn push_passed_limit(
     Ok(())
 }
 
-// How many blocks the image of a folder takes, as a line.
+// Returns the line that says how many blocks the image of a folder needs.
 fn needed_blocks_line(host: Host<'_>, line: &Line<'_>, folder: &str) -> Result<String, ToolError> {
     let blocks = geometry_of_line(line)?.block_count;
     let alloc = host.alloc();
@@ -260,7 +262,7 @@ fn needed_blocks_line(host: Host<'_>, line: &Line<'_>, folder: &str) -> Result<S
     Ok(text?)
 }
 
-// Adds the lines that say why no image of a folder was made.
+// Appends the lines that say why no image could be made of a folder.
 fn push_new_image(
     host: Host<'_>,
     line: &Line<'_>,
@@ -308,14 +310,16 @@ fn push_explanation(
     }
 }
 
-/// Writes which modes there are, after the error of words that don't give exactly one. A failed write is ignored.
+/// Writes the list of modes if the command line doesn't give exactly one. A failed write is
+/// ignored.
 pub(crate) fn write_modes<E: Write>(fault: &Fault, err: &mut Stream<E>) {
     if let Fault::Line(LineError::Modes) = fault {
         let _ = write_and_flush(err, MODES.as_bytes());
     }
 }
 
-/// Writes why a line ended in this error, or the error that comes in place of that. A failed write is ignored.
+/// Writes why a command failed with this error, or the error that prevents an explanation. A failed
+/// write is ignored.
 pub(crate) fn write_explanation<O: Write, E: Write>(
     host: Host<'_>,
     line: &Line<'_>,

@@ -1,4 +1,4 @@
-// The image at a path of the command line: a file, or for `-` a standard stream.
+// The files of a command line. The path `-` means standard input or standard output.
 
 use crate::leftovers::{begin_new_image, remove_leftovers};
 use lfs_tool::{FaultLog, FolderRules, NewImage, ToolError};
@@ -8,23 +8,24 @@ use std::io;
 use std::io::{ErrorKind, Read, Stdin, Stdout, Write};
 use std::os::unix::fs::MetadataExt;
 
-/// The system, and what is noted of it.
+/// The operating system, a log for its faults, and the settings of this run.
 #[derive(Clone, Copy)]
 pub struct Host<'a> {
     /// The system's files, streams and memory.
     pub rt: &'a HostRuntime,
-    /// What files, folders and streams meet.
+    /// The log for faults of files, folders and streams.
     pub log: &'a FaultLog,
-    /// Whether the environment wants each error with its cause.
+    /// Whether errors are explained even without `--explain`.
     pub explains: bool,
-    /// How the folder of an image that is made is read.
+    /// The rules for reading the folder of a new image.
     pub rules: FolderRules<'a>,
-    /// Whether the times of files and folders are kept in an image that is made, or set where one is unpacked.
+    /// Whether a new image stores the times of files and folders, and whether unpacking restores
+    /// them.
     pub times: bool,
 }
 
 impl<'a> Host<'a> {
-    /// The system, of which nothing is requested yet.
+    /// Returns a host with the default settings, without calling the system.
     pub fn new(rt: &'a HostRuntime, log: &'a FaultLog) -> Host<'a> {
         Host {
             rt,
@@ -39,7 +40,7 @@ impl<'a> Host<'a> {
         self.rt.alloc()
     }
 
-    /// Notes the error of a call at a path. A call that a signal interrupted has none.
+    /// Logs the error of a call at a path, unless a signal interrupted the call.
     pub(crate) fn note_error<T>(self, path: &str, called: &io::Result<T>) {
         if let Err(error) = called {
             if error.kind() != ErrorKind::Interrupted {
@@ -48,7 +49,7 @@ impl<'a> Host<'a> {
         }
     }
 
-    /// Notes the error of a call at a path, and returns the tool's error in its place.
+    /// Logs the error of a call at a path, and replaces it by the tool's error.
     pub(crate) fn note_and_map<T>(
         self,
         path: &str,
@@ -66,7 +67,7 @@ pub(crate) fn is_standard_stream(path: &str) -> bool {
 
 // ---- a file that is read
 
-// The length of a file and the time of its last change, by which a change is known.
+// The length of a file and the time of its last change, which show whether the file has changed.
 #[derive(Clone, Copy, PartialEq, Eq, Drop)]
 struct FileState {
     len: u64,
@@ -93,7 +94,7 @@ enum ReadStream {
 #[derive(Drop)]
 pub(crate) struct NotedReader<'a> {
     stream: ReadStream,
-    // As it was when it was opened. Pipes and devices have no such state.
+    // The state of the file when it was opened. Pipes and devices have none.
     state: Option<FileState>,
     path: &'a str,
     host: Host<'a>,
@@ -111,13 +112,14 @@ impl Read for NotedReader<'_> {
 }
 
 impl NotedReader<'_> {
-    /// Returns how many bytes are behind an offset, or none if no length is known.
+    /// Returns how many bytes of the file follow an offset, or 0 if the file's length is unknown.
     pub(crate) fn stated_len(&self, offset: u32) -> u64 {
         let len = self.state.map_or(0, |state| state.len);
         len.saturating_sub(u64::from(offset))
     }
 
-    /// Fails if the file has changed since it was opened. What was read may then be of no moment.
+    /// Fails with `Input` if the file has changed since it was opened, because the bytes may then
+    /// be a mix of old and new data.
     pub(crate) fn confirm_unchanged(&self) -> Result<(), ToolError> {
         let ReadStream::File(file) = &self.stream else {
             return Ok(());
@@ -132,7 +134,7 @@ impl NotedReader<'_> {
     }
 }
 
-/// Opens the file at a path, to read it.
+/// Opens the file at a path for reading.
 pub(crate) fn open_file<'a>(host: Host<'a>, path: &'a str) -> Result<NotedReader<'a>, ToolError> {
     if is_standard_stream(path) {
         return Ok(NotedReader {
@@ -152,7 +154,7 @@ pub(crate) fn open_file<'a>(host: Host<'a>, path: &'a str) -> Result<NotedReader
     })
 }
 
-// ---- an image that is made
+// ---- an image that is written
 
 #[derive(Drop)]
 enum WrittenStream<'a> {
@@ -191,7 +193,7 @@ impl Write for NotedWriter<'_> {
 }
 
 impl<'a> NotedWriter<'a> {
-    /// The image that is to stand at a path. Nothing is written yet.
+    /// Returns a writer for the image at a path. Nothing is written yet.
     pub(crate) fn new(host: Host<'a>, path: &'a str) -> Result<NotedWriter<'a>, ToolError> {
         let stream = if is_standard_stream(path) {
             WrittenStream::Standard(host.rt.stdout())
@@ -201,8 +203,9 @@ impl<'a> NotedWriter<'a> {
         Ok(NotedWriter { stream, path, host })
     }
 
-    /// Puts an image at its path that is whole and flushed, and removes what other runs have left beside it. One that is
-    /// dropped before leaves what was there.
+    /// Renames the temporary file of an image to its path, and removes temporary files that other
+    /// runs left beside it. The image must be complete and flushed. If the writer is dropped
+    /// instead, the old file stays.
     pub(crate) fn place(self) -> Result<(), ToolError> {
         let NotedWriter { stream, path, host } = self;
         if let WrittenStream::File(file) = stream {

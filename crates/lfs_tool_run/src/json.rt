@@ -1,4 +1,4 @@
-// A list and the result of a check as JSON.
+// Listings and results of checks as JSON.
 
 use lfs_device::Profile;
 use lfs_tag::Superblock;
@@ -9,8 +9,8 @@ use std::alloc::{AllocError, Global};
 use std::io;
 use std::io::Write;
 
-// Adds bytes as a string. A byte that isn't part of UTF-8 text is written with the code of Python's
-// surrogateescape.
+// Appends bytes as a JSON string. A byte that isn't part of UTF-8 text is written as Python's
+// surrogateescape encodes it.
 fn push_string(text: &mut Vec<u8>, bytes: &[u8]) -> io::Result<()> {
     write!(text, "\"")?;
     for chunk in bytes.utf8_chunks() {
@@ -41,7 +41,7 @@ fn push_item(text: &mut Vec<u8>, item: &TreeItem) -> io::Result<()> {
     write!(text, "}}\n")
 }
 
-/// Returns an object for each item, one a line.
+/// Returns a JSON object for each item, on a line of its own.
 pub(crate) fn json_of_items(alloc: Global, items: &[TreeItem]) -> Result<Vec<u8>, AllocError> {
     let mut text = Vec::new(alloc);
     for item in items {
@@ -64,7 +64,7 @@ fn push_limit(text: &mut Vec<u8>, key: &str, default: u32, limit: u32) -> io::Re
     Ok(())
 }
 
-// Adds the version unless it is 2.0, and each limit that isn't the default one.
+// Appends the version unless it is 2.0, and each limit that isn't the default.
 fn push_superblock(text: &mut Vec<u8>, superblock: &Superblock) -> io::Result<()> {
     let version = superblock.version;
     if version != Superblock::VERSION {
@@ -134,8 +134,8 @@ fn push_check(
     write!(text, "}}\n")
 }
 
-/// Returns one object: the result of a check, and the number of bytes behind the image if that is
-/// known.
+/// Returns the result of a check as one JSON object. `behind` is the number of bytes after the
+/// image, if it is known.
 pub(crate) fn json_of_check(
     alloc: Global,
     checked: &CheckResult,

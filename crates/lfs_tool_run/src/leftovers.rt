@@ -1,4 +1,4 @@
-// Temporary files beside an image, left by runs that were cut off.
+// Temporary files that interrupted runs left beside an image.
 
 use lfs_tool::NewImage;
 use std::fs::File;
@@ -6,24 +6,24 @@ use std::io::Write;
 use std::path::Path;
 use std::{fs, io};
 
-// The beginning of such a file's name.
+// The prefix of the name of a temporary file.
 const START: &str = ".mklittlefs-";
 
-/// Creates the file of a new image, and locks it until it is closed. The lock tells other runs that it is
-/// no leftover.
+/// Creates the file of a new image, and locks it until it is closed. Other runs don't remove a
+/// temporary file that is locked.
 pub(crate) fn begin_new_image(image: &mut NewImage<'_, HostRuntime>) -> io::Result<()> {
     if image.file().is_none() {
         let _none = image.write(&[])?;
         if let Some(file) = image.file() {
-            // If the system has no locks, no leftover is removed.
+            // Without locks in the system, no run removes a temporary file.
             let _ = file.try_lock();
         }
     }
     Ok(())
 }
 
-// Removes a file, unless another run has locked it. A file without bytes may be a run's that hasn't locked
-// it yet, and stays.
+// Removes a file, unless another run has locked it. An empty file stays, since the run that created
+// it may not have locked it yet.
 fn remove_leftover(rt: &HostRuntime, path: Path<'_>) -> io::Result<()> {
     if fs::symlink_metadata(rt, path)?.is_file() {
         let file = File::open(rt, path)?;
@@ -44,7 +44,8 @@ fn remove_leftovers_in_folder(rt: &HostRuntime, folder: Path<'_>) -> io::Result<
     Ok(())
 }
 
-/// Removes the temporary files that other runs left beside an image. A file that can't be removed stays.
+/// Removes the temporary files that other runs left beside an image. A file that can't be removed
+/// stays.
 pub(crate) fn remove_leftovers(rt: &HostRuntime, image: &str) {
     let folder = match Path::new(image).parent() {
         Some(folder) if !folder.as_str().is_empty() => folder,

@@ -1,6 +1,6 @@
 // SPDX-License-Identifier: BSD-3-Clause
-//! Images that the tool mklittlefs makes, and its runs over the system's files, folders and streams: from the words of a
-//! command line to the status.
+//! This crate runs the tool mklittlefs on the system's files, folders and streams, from the words
+//! of the command line to the exit status. The crate also creates images.
 #![tactic(auto)]
 
 mod blocks;

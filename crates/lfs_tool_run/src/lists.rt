@@ -1,4 +1,4 @@
-// What is printed of an image: its lines, or JSON.
+// The output of `-l` and `--check`, as lines or as JSON.
 
 use crate::files::Host;
 use crate::json::{json_of_check, json_of_items};
@@ -9,7 +9,7 @@ use lfs_tool::{
 };
 use std::io::Write;
 
-/// Lists the image of a line.
+/// Lists the image of a command line.
 pub(crate) fn list_image<W: Write>(
     host: Host<'_>,
     line: &Line<'_>,
@@ -25,7 +25,8 @@ pub(crate) fn list_image<W: Write>(
     write_and_flush(out, text.as_slice())
 }
 
-/// Checks the image of a line, and returns whether it is accepted. With `-b auto` says how many bytes are behind it.
+/// Checks the image of a command line, and returns whether it is accepted. With `-b auto` or
+/// `--auto`, also prints the number of bytes after the image.
 pub(crate) fn check_image<W: Write>(
     host: Host<'_>,
     line: &Line<'_>,

@@ -1,4 +1,4 @@
-// The bytes of a command line's image and files, each read once.
+// The bytes of the image and the files of a command line. Each file is read once.
 
 use crate::files::{Host, NotedReader, open_file};
 use crate::run::layout_of_line;
@@ -9,17 +9,17 @@ use lfs_tool::{
 use std::io;
 use std::io::{Cursor, ErrorKind, Read};
 
-// As far as a superblock of block 0 or 1 is, with the largest blocks.
+// The number of bytes that contain the superblock of block 0 or 1, for the largest block size.
 const HEAD: u64 = 65_580;
 
-/// An image, or one byte more than the largest image has, and how it is laid out.
+/// An image and its layout. `bytes` has at most one byte more than the largest image.
 #[derive(Drop)]
 pub(crate) struct ImagePart {
     pub(crate) bytes: Vec<u8>,
     pub(crate) layout: ImageLayout,
-    /// How many bytes are behind the image. A check alone counts them.
+    /// The number of bytes after the image. Only a check counts them, and otherwise this is 0.
     pub(crate) behind: u64,
-    /// The bytes behind an image that is changed.
+    /// The bytes after an image that is being changed.
     pub(crate) rest: Vec<u8>,
 }
 
@@ -31,13 +31,14 @@ fn tool_error_of_read(error: io::Error) -> ToolError {
     }
 }
 
-// Reads so many bytes, or all if there are fewer, and counts them.
+// Skips at most `most` bytes, and returns how many there were.
 fn skip_bytes<R: Read>(reader: &mut R, most: u64) -> Result<u64, ToolError> {
     io::copy(&mut reader.by_ref().take(most), &mut io::sink()).map_err(tool_error_of_read)
 }
 
-// Returns the layout of an image that begins with these bytes, and its length: with `-b auto` and `--auto` as its
-// superblock gives them. With `-b auto` an image without a superblock is the whole file.
+// Returns the layout and the length of an image that begins with these bytes. With `-b auto` or
+// `--auto`, its superblock states them. With `-b auto`, an image without a superblock is the whole
+// file.
 fn layout_of_head(line: &Line<'_>, head: &[u8]) -> Result<(ImageLayout, u64), ToolError> {
     let layout = layout_of_line(line);
     if !line.is_auto {
@@ -54,8 +55,8 @@ fn layout_of_head(line: &Line<'_>, head: &[u8]) -> Result<(ImageLayout, u64), To
     }
 }
 
-/// Opens the file of a line's image. If the superblock decides something, reads the bytes with which the image begins,
-/// as far as a superblock may be.
+/// Opens the file of an image. With `-b auto` or `--auto`, also reads the first bytes of the image,
+/// which contain its superblock.
 pub(crate) fn open_part<'a>(
     host: Host<'a>,
     line: &Line<'a>,
@@ -70,7 +71,7 @@ pub(crate) fn open_part<'a>(
     Ok((file, head))
 }
 
-// Reads what is behind an image, if that is to stay there when the image is changed.
+// Reads the bytes after an image, if a change of the image must keep them.
 fn read_rest<R: Read>(
     host: Host<'_>,
     line: &Line<'_>,
@@ -85,8 +86,8 @@ fn read_rest<R: Read>(
     Ok(rest)
 }
 
-/// Reads the image of a line: the whole file behind the offset. With `-b auto` and `--auto` it is as long as its superblock
-/// says, and has the blocks and pages of that.
+/// Reads an image, which is the whole file after the offset. With `-b auto` or `--auto`, its
+/// superblock states its length and its block size.
 pub(crate) fn read_part(host: Host<'_>, line: &Line<'_>) -> Result<ImagePart, ToolError> {
     let (file, head) = open_part(host, line)?;
     let (layout, size) = layout_of_head(line, head.as_slice())?;
@@ -112,7 +113,8 @@ pub(crate) fn read_part(host: Host<'_>, line: &Line<'_>) -> Result<ImagePart, To
     })
 }
 
-/// Reads the bytes of a file that is put into an image, or one more than the largest image has.
+/// Reads the bytes of a file that is put into an image. Reading stops after 268,435,457 bytes, one
+/// byte more than the largest image has.
 pub(crate) fn read_file(host: Host<'_>, path: &str) -> Result<Vec<u8>, ToolError> {
     let file = open_file(host, path)?;
     let expected = file.stated_len(0);

@@ -1,4 +1,4 @@
-// What a command line requests.
+// The execution of a command line.
 
 use crate::blocks::{fit_size, image_of_entries, read_line_folder};
 use crate::creation::create;
@@ -17,18 +17,18 @@ use lfs_tool::{
 use std::io;
 use std::io::{ErrorKind, IsTerminal, Stderr, Write};
 
-/// The layout of a line's image.
+/// Returns the layout of the image of a command line.
 pub(crate) fn layout_of_line(line: &Line<'_>) -> ImageLayout {
     ImageLayout::new(line.block_size, line.page).with_profile(line.profile)
 }
 
-/// The geometry of the image that a line makes.
+/// Returns the geometry of the image that a command line creates.
 pub(crate) fn geometry_of_line(line: &Line<'_>) -> Result<Geometry, ToolError> {
     let geometry = geometry_of_sizes(line.size, line.block_size, line.page)?;
     Ok(geometry.with_profile(line.profile))
 }
 
-/// The folder of which an image of at most so many bytes is made.
+/// Returns the source for a folder, for an image of at most `size` bytes.
 pub(crate) fn folder_of_line<'a>(
     host: Host<'a>,
     path: &str,
@@ -38,13 +38,14 @@ pub(crate) fn folder_of_line<'a>(
     Ok(Folder::new(host.rt, host.log, path, size, host.rules)?)
 }
 
-// The line of a work that begins now, where standard error is a terminal.
+// Returns a progress line for a task that begins at the time of the call. It writes only to a
+// terminal.
 fn progress_at_terminal(rt: &HostRuntime) -> ProgressLine<Stderr, HostRuntime> {
     ProgressLine::new(rt.stderr(), *rt, rt.stderr().is_terminal())
 }
 
-// Makes the image of a folder's contents, and puts it in its place once it is whole. Sizes that no image has are refused
-// before the folder is read.
+// Creates the image of a folder's contents, and renames it to its path once it is complete. Sizes
+// that no image can have are refused before the folder is read.
 fn create_image(
     host: Host<'_>,
     line: &Line<'_>,
@@ -74,7 +75,7 @@ fn create_image(
     image.into_inner().place()
 }
 
-// Unpacks the line's image into a folder, and sets the times there if these are wanted.
+// Unpacks the image into a folder, and with `--times` also sets the times of its files and folders.
 fn unpack_image(host: Host<'_>, line: &Line<'_>, folder: &str) -> Result<(), ToolError> {
     let alloc = host.alloc();
     let part = read_part(host, line)?;
@@ -92,7 +93,8 @@ fn unpack_image(host: Host<'_>, line: &Line<'_>, folder: &str) -> Result<(), Too
     Ok(())
 }
 
-// Does what a line requests. Returns false where an image was checked that isn't accepted, and else true.
+// Executes the mode of a command line. Returns false only if a check finds that the image isn't
+// accepted.
 fn run_mode<W: Write>(
     host: Host<'_>,
     line: &Line<'_>,
@@ -111,7 +113,8 @@ fn run_mode<W: Write>(
     Ok(true)
 }
 
-// The status where standard output didn't take the lines. If nobody reads them there is no line of the error.
+// Returns the status for a failed write to standard output. An error line is written unless the
+// reader has closed the pipe.
 fn report_unwritten<O: Write, E: Write>(out: &mut Stream<O>, err: &mut Stream<E>) -> u8 {
     match out.fault() {
         Some(ErrorKind::BrokenPipe) => 3,
@@ -119,7 +122,7 @@ fn report_unwritten<O: Write, E: Write>(out: &mut Stream<O>, err: &mut Stream<E>
     }
 }
 
-// How the folder of an image that is made is read.
+// Returns the rules for reading the folder of a new image.
 fn folder_rules<'a>(extras: &'a Extras<'_>) -> FolderRules<'a> {
     let links = match (extras.follow_links, extras.skip_links) {
         (true, _) => Links::Follow,
@@ -132,7 +135,8 @@ fn folder_rules<'a>(extras: &'a Extras<'_>) -> FolderRules<'a> {
     }
 }
 
-// Does what is requested, and returns the status. An error is shown, with its cause where that is requested.
+// Executes a command line, and returns the exit status. If the execution fails, writes the error,
+// and if requested an explanation.
 fn run_request<O: Write, E: Write>(
     host: Host<'_>,
     request: &Request<'_>,
@@ -163,13 +167,13 @@ fn run_request<O: Write, E: Write>(
     }
 }
 
-// Returns whether words that are no line ask for explanations.
+// Returns whether the words of an invalid command line ask for explanations.
 fn are_explanations_asked(words: &[String]) -> bool {
     words.iter().any(|word| word.as_str() == "--explain")
 }
 
-/// Runs the program on the words of its command line, or on the cause for which there are none: memory ran out, or a
-/// word is no text. Returns the status with which it ends.
+/// Runs the program on the words of its command line, and returns the exit status. If `words` is an
+/// error, because memory ran out or a word isn't UTF-8, the run only reports that error.
 pub fn run_words<O: Write, E: Write>(
     host: Host<'_>,
     words: io::Result<Vec<String>>,

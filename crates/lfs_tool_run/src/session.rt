@@ -1,4 +1,5 @@
-// A session over an image in memory: a file's bytes, and changes that take the image's place whole or not at all.
+// Reading a file of an image, and changing an image in place, through a mounted session in memory.
+// A change is complete or doesn't happen.
 
 use crate::files::{Host, NotedWriter};
 use crate::parts::{read_file, read_part};
@@ -7,20 +8,20 @@ use lfs_fs::{OpenFlags, Session, mount};
 use lfs_tool::{Line, Mode, Stream, ToolError, ram_device_of, write_and_flush};
 use std::io::Write;
 
-/// A session over an image in memory.
+/// A mounted session on an image in memory.
 pub(crate) type RamSession = Session<RamDevice>;
 
 pub(crate) fn mount_image(host: Host<'_>, image: RamDevice) -> Result<RamSession, ToolError> {
     mount(host.alloc(), image).map_err(|(_device, error)| ToolError::Fs(error))
 }
 
-// Mounts the image of a line, all of it in memory.
+// Reads the image of a command line into memory, and mounts it.
 fn session_of_line(host: Host<'_>, line: &Line<'_>) -> Result<RamSession, ToolError> {
     let part = read_part(host, line)?;
     mount_image(host, ram_device_of(part.bytes, part.layout)?)
 }
 
-/// Writes the bytes of the file at a path in the line's image.
+/// Writes the bytes of the file at a path in the image to `out`.
 pub(crate) fn cat_file<W: Write>(
     host: Host<'_>,
     line: &Line<'_>,
@@ -34,8 +35,9 @@ pub(crate) fn cat_file<W: Write>(
     write_and_flush(out, bytes.as_slice())
 }
 
-/// Changes the line's image as its mode says, and puts it in its place, with what is behind it. A file is put in place of one that is there. The
-/// other modes change nothing. A refusal leaves the image as it is.
+/// Changes the image as the mode requests, and replaces its file. Bytes after the image are kept.
+/// `Mode::Put` replaces a file that already exists at its path. Modes that don't change images
+/// write the image back unchanged. If the change is refused, the file stays as it is.
 pub(crate) fn change_image(host: Host<'_>, line: &Line<'_>) -> Result<(), ToolError> {
     let part = read_part(host, line)?;
     let mut session = mount_image(host, ram_device_of(part.bytes, part.layout)?)?;

@@ -1,4 +1,4 @@
-// Entries of a source, copied into an image.
+// Copying the entries of a source into an image.
 
 ghost use Rattle.std.specs.Prelude.{[], ◌≡◌, ◌≢◌, IfErr, OnOk};
 ghost use Rattle.lfs_model.specs.tree.Fresh.{IsFreshDisk, empty_tree};
@@ -15,7 +15,7 @@ use lfs_fs::{OpenFlags, Session};
 use lfs_tool::{FilesAndBytes, FollowsProgress, SourceEntry};
 use std::alloc::Global;
 
-// Returns the flags with which a new file is opened.
+// Returns the flags for opening a new file.
 fn new_file_flags() -> OpenFlags
     ensures { flags_view result ≡ new_flags }
 {
@@ -38,7 +38,7 @@ fn create_file_in(
     session.close(alloc, fd)
 }
 
-// Creates a file with its bytes, or an empty folder. Errors: those of the session's calls.
+// Creates a file with its bytes, or an empty directory. Errors: those of the session's calls.
 fn copy_entry(
     alloc: Global,
     session: &mut Session<RamDevice>,
@@ -68,8 +68,8 @@ fn counts_of_entries(entries: &[SourceEntry]) -> FilesAndBytes {
     whole
 }
 
-// Copies the entries in order, until one is refused, and reports the progress. Errors: the first
-// refusal, or `NoMemory`.
+// Copies the entries in order, until one is refused, and reports the progress. Errors: the error of
+// the operation that refuses an entry, or `NoMemory`.
 pub(crate) fn copy_entries<F: FollowsProgress>(
     alloc: Global,
     session: &mut Session<RamDevice>,
@@ -84,7 +84,7 @@ pub(crate) fn copy_entries<F: FollowsProgress>(
     progress.begin(counts_of_entries(entries));
     for entry in entries {
         if let Err(error) = copy_entry(alloc, session, entry) {
-            // The device had no fault, so if nothing was refused memory ran out.
+            // A device in memory never fails, so if no operation was refused, memory ran out.
             let _device = session.device();
             return Err(error);
         }

@@ -1,4 +1,4 @@
-// The times at which files and folders were modified, kept as attributes in an image.
+// The times at which files and folders were last modified, stored as attributes in an image.
 
 ghost use Rattle.lfs_tool.specs.Unpackings.{CanFindAttributes};
 
@@ -11,10 +11,11 @@ use std::fs::File;
 use std::io;
 use std::time::{Duration, UNIX_EPOCH};
 
-// The type of the attribute. Its four bytes are the seconds since 1970, the lowest byte first.
+// The type of the attribute. Its value is the number of seconds since 1970, in four bytes,
+// little-endian.
 const TIME: u8 = b't';
 
-/// Keeps the times of entries that were copied, in order.
+/// Stores the times of the entries in an image. Each entry must have been copied into it.
 pub(crate) fn keep_times(
     host: Host<'_>,
     session: &mut RamSession,
@@ -37,7 +38,8 @@ fn set_time(host: Host<'_>, path: &str, bytes: [u8; 4]) -> io::Result<()> {
     }
 }
 
-/// Returns the paths in an image that have times, with these.
+/// Returns each path in an image that has a time attribute of four bytes, with the value of that
+/// attribute.
 pub(crate) fn times_in_image(
     host: Host<'_>,
     image: &mut MountedImage,
@@ -50,7 +52,7 @@ pub(crate) fn times_in_image(
         let Some(item) = image.items.get(index) else {
             break;
         };
-        // A folder has no other name. Unpacking it has failed.
+        // A folder can't contain a name that isn't UTF-8, so unpacking has already failed.
         let Ok(path) = str::from_utf8(item.path.as_slice()) else {
             continue;
         };
@@ -68,7 +70,7 @@ pub(crate) fn times_in_image(
     Ok(times)
 }
 
-/// Sets these times of paths in a folder.
+/// Sets the times of files and folders. The paths are relative to `folder`.
 pub(crate) fn set_times(
     host: Host<'_>,
     folder: &str,

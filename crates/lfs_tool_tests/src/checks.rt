@@ -1,4 +1,4 @@
-// Images that are checked, and the lines of each.
+// Images, and the lines that a check of each prints.
 
 use crate::images::{BELOW, ENTRIES, LONGER_FIRST, SHORTER};
 use crate::log_entries::{
@@ -13,17 +13,18 @@ use lfs_tool::ImageLayout;
 use std::alloc::{AllocError, Global};
 use std::test::Fail;
 
-// Addresses of pairs.
+// Addresses of metadata pairs.
 const NEXT: &[u8] = &[4, 0, 0, 0, 5, 0, 0, 0];
 
 const FAR: &[u8] = &[2, 0, 0, 0, 16, 0, 0, 0];
 
-// A superblock of blocks of 8,192 bytes.
+// A superblock that states blocks of 8,192 bytes.
 const LONG_BLOCKS: &[u8] = &[
     0, 0, 2, 0, 0, 32, 0, 0, 16, 0, 0, 0, 255, 0, 0, 0, 255, 255, 255, 127, 254, 3, 0, 0,
 ];
 
-// An image: a second commit of its first block, its other blocks, and the lines of its check, or the one behind `corrupt`.
+// An image, and the expected text. The image has a second commit in its first block, and some other
+// blocks. The text is that of the whole check, or the line after `corrupt`.
 type Row<'a> = (FixtureEntries<'a>, &'a [(usize, BlockFilling<'a>)], &'a str);
 
 pub(crate) const FRESH: &str =
@@ -36,7 +37,7 @@ const ACCEPTED: [Row<'static>; 11] = [
         &[(2, BELOW)],
         "ok\nfiles 2\ndirectories 1\nused 4 of 16 blocks\nfree 12\norder either\nrecover no\nwritable yes\n",
     ),
-    // names of which one begins the other
+    // names of which one is a prefix of the other
     (
         &[AB1, EMPTY1, A2, EMPTY2],
         &[],
@@ -47,7 +48,7 @@ const ACCEPTED: [Row<'static>; 11] = [
         &[],
         "ok\nfiles 2\ndirectories 0\nused 2 of 16 blocks\nfree 14\norder shorter-first\nrecover no\nwritable yes\n",
     ),
-    // a pair that isn't reached, with the sync bit
+    // an orphan, with the sync bit set
     (
         &[
             NEXT_PAIR,
@@ -56,8 +57,8 @@ const ACCEPTED: [Row<'static>; 11] = [
         &[(2, EMPTY)],
         "ok\nfiles 0\ndirectories 0\nused 4 of 16 blocks\nfree 12\norder either\nrecover yes\nwritable yes\n",
     ),
-    // a limit that isn't written here, a file of 600 bytes in its slot, a pair without slots that the root
-    // goes on with, and an entry with many bytes of attributes
+    // another limit, an inline file of 600 bytes, an empty pair that continues the root directory,
+    // and an entry whose attributes have many bytes
     (
         &[SHORT_FIELDS],
         &[],
@@ -87,14 +88,14 @@ const ACCEPTED: [Row<'static>; 11] = [
         "ok\nfiles 1\ndirectories 0\nused 2 of 16 blocks\nfree 14\norder either\nrecover no\n\
         writable no: a pair or an entry is larger than this library writes\n",
     ),
-    // other limits, and a file of 600 bytes
+    // other limits, and an inline file of 600 bytes
     (
         &[SHORT_FIELDS, A1, (0x2010_0658, &[7; 600])],
         &[],
         "ok\nfiles 1\ndirectories 0\nused 2 of 16 blocks\nfree 14\norder either\nrecover no\n\
         writable no: pair 0 1, slot 0: a superblock with other limits than the options give, name_max 32\n",
     ),
-    // a file of 600 bytes in its slot, behind a pair without slots
+    // an inline file of 600 bytes, after an empty pair
     (
         &[GOES_ON],
         &[
@@ -113,9 +114,10 @@ const BAD_LIST: &str = "pair 0 1, slot 1: \"a\" has a list with a wrong size, bl
 
 const NOT_REACHED: &str = "pair 2 3: no path leads to its directory, and the sync bit is clear";
 
-// Images that break a rule, for each finding on these: a second commit of their first block, and the line behind `corrupt`.
+// Images that break a rule, each with a second commit in its first block. The text is the line
+// after `corrupt`.
 const REFUSED: [(FixtureEntries<'static>, &str); 29] = [
-    // the thread
+    // the tail list
     (
         &[(SOFT_TAIL, FAR)],
         "pair 2 16: block 16 isn't in the image",
@@ -163,7 +165,8 @@ const REFUSED: [(FixtureEntries<'static>, &str); 29] = [
         &[(0x0010_0403, b"a/\n"), EMPTY1],
         "pair 0 1, slot 1: \"a/\\x0a\" is no name",
     ),
-    // a name behind a later one, a name twice, and one without a slot that is moved away
+    // a name after a greater one, a name twice, and a name in a slot that doesn't exist, which is
+    // moved away
     (
         &[B1, EMPTY1, A2, EMPTY2],
         "pair 0 1, slot 2: \"a\" stands behind \"b\"",
@@ -184,7 +187,8 @@ const REFUSED: [(FixtureEntries<'static>, &str); 29] = [
         ],
         "pair 0 1, slot 3: \"b\" stands behind \"b\"",
     ),
-    // an entry for a pair that isn't in the thread, and for the root directory, also with a name out of order behind it
+    // an entry that points to a pair outside the tail list, and one that points to the root
+    // directory, also before a name that is out of order
     (
         &[D1, TO_PAIR1],
         "pair 0 1, slot 1: \"d\" leads to pair 2 3, where no directory begins",
@@ -197,8 +201,8 @@ const REFUSED: [(FixtureEntries<'static>, &str); 29] = [
         &[D1, TO_ROOT1, A2, EMPTY2],
         "pair 0 1, slot 2: \"a\" stands behind \"d\"",
     ),
-    // one name is a beginning of the other, in both orders: of files, and of files and an entry for the root directory that
-    // no path follows
+    // names of which one is a prefix of the other, in both orders: two files, and files with an
+    // entry that points to the root directory but that no path reaches
     (
         &[A1, EMPTY1, AB2, EMPTY2, (0x0010_0c01, b"a"), EMPTY3],
         TWO_ORDERS,
@@ -214,7 +218,7 @@ const REFUSED: [(FixtureEntries<'static>, &str); 29] = [
         ],
         TWO_ORDERS,
     ),
-    // a move of the superblock, and a slot's number without a move
+    // a move of the superblock, and a slot number without a move
     (
         &[(MOVE_STATE, &[0, 0, 0xf0, 0x4f, 0, 0, 0, 0, 1, 0, 0, 0])],
         "global state: its move names no entry",
@@ -223,7 +227,8 @@ const REFUSED: [(FixtureEntries<'static>, &str); 29] = [
         &[(MOVE_STATE, &[0, 4, 0, 0, 0, 0, 0, 0, 0, 0, 0, 0])],
         "global state: no move is set, but it names a slot",
     ),
-    // a list whose head isn't in the image, one without bytes, one on a block of a pair, and two of one block
+    // a list whose head isn't in the image, an empty list, a list with a block of a pair, and two
+    // lists with the same block
     (&[A1, (0x2020_0408, &[16, 0, 0, 0, 3, 0, 0, 0])], BAD_LIST),
     (&[A1, (0x2020_0408, &[2, 0, 0, 0, 0, 0, 0, 0])], BAD_LIST),
     (
@@ -236,9 +241,9 @@ const REFUSED: [(FixtureEntries<'static>, &str); 29] = [
     ),
 ];
 
-// The same with other blocks.
+// Images that break a rule and have other blocks as well.
 const REFUSED_WITH_BLOCKS: [Row<'static>; 15] = [
-    // the superblock's chain
+    // the superblock chain
     (
         &[GOES_ON],
         &[(2, Commit(&[SUPERBLOCK, (0x2010_0018, LARGER)]))],
@@ -249,19 +254,20 @@ const REFUSED_WITH_BLOCKS: [Row<'static>; 15] = [
         &[(2, Commit(&[SUPERBLOCK, SHORT_FIELDS]))],
         "pair 2 3, superblock: another one than in pair 0 1",
     ),
-    // a name out of order in the next pair
+    // a name that is out of order in the next pair
     (
         &[B1, EMPTY1, GOES_ON],
         &[(2, Commit(&[A0, EMPTY0]))],
         "pair 2 3, slot 0: \"a\" stands behind \"b\"",
     ),
-    // and in a directory beneath the root
+    // a name that is out of order in a directory below the root
     (
         &[D1, TO_PAIR1, NEXT_PAIR],
         &[(2, Commit(&[B0, EMPTY0, A1, EMPTY1]))],
         "pair 2 3, slot 1: \"a\" stands behind \"b\"",
     ),
-    // an entry for a pair with which the root directory goes on, and for one in front of the root directory
+    // an entry that points to a later pair of the root directory, and one that points to a pair
+    // before the root directory
     (
         &[D1, (0x2000_0408, TURNED), GOES_ON],
         &[(2, BELOW)],
@@ -275,7 +281,8 @@ const REFUSED_WITH_BLOCKS: [Row<'static>; 15] = [
         ],
         "pair 2 3, slot 1: \"d\" leads to pair 0 1, where no directory begins",
     ),
-    // for the directory of another entry, for its own, and for the root, with a name out of order in the one before it
+    // an entry that points to another entry's directory, to its own directory, and to the root,
+    // before which a name is out of order
     (
         &[D1, TO_PAIR1, E2, (0x2000_0808, TURNED), NEXT_PAIR],
         &[(2, BELOW)],
@@ -291,13 +298,14 @@ const REFUSED_WITH_BLOCKS: [Row<'static>; 15] = [
         &[(2, Commit(&[B0, EMPTY0, A1, EMPTY1]))],
         "pair 0 1, slot 2: \"e\" leads to the root directory",
     ),
-    // names in two orders, in two directories
+    // names in both orders, in two directories
     (
         LONGER_FIRST,
         &[(2, SHORTER)],
         "names in two orders: pair 2 3, slot 1: \"xy\" stands behind \"x\", and pair 0 1, slot 2: \"a\" stands behind \"ab\"",
     ),
-    // where no path leads: names out of order that no entry names, and a pair whose entry is moved away
+    // names that are out of order in a directory that no entry points to, and a pair whose entry is
+    // moved away
     (
         &[NEXT_PAIR],
         &[(2, Commit(&[B0, EMPTY0, A1, EMPTY1]))],
@@ -313,7 +321,7 @@ const REFUSED_WITH_BLOCKS: [Row<'static>; 15] = [
         &[(2, EMPTY)],
         NOT_REACHED,
     ),
-    // a superblock's slot that was a file's, and one that was made behind a pair without slots
+    // a superblock in a slot that was a file's, and one that was created after an empty pair
     (
         &[],
         &[(0, Commit(&[(0x0010_0001, b"f"), SUPERBLOCK, PLAIN_FIELDS]))],
@@ -327,7 +335,7 @@ const REFUSED_WITH_BLOCKS: [Row<'static>; 15] = [
         ],
         "pair 2 3: its log doesn't begin with the superblock's name",
     ),
-    // a list with a block twice
+    // a list that contains a block twice
     (
         &[A1, (0x2020_0408, &[2, 0, 0, 0, 0x88, 0x13, 0, 0])],
         &[(2, Bytes(&[2, 0, 0, 0]))],
@@ -335,7 +343,7 @@ const REFUSED_WITH_BLOCKS: [Row<'static>; 15] = [
     ),
 ];
 
-// Whether the check of an image prints this.
+// Returns whether the check of an image prints the expected text.
 fn is_checked_as(alloc: Global, row: Row<'_>, is_accepted: bool) -> Result<bool, AllocError> {
     let (entries, others, wanted) = row;
     let image = image_with_commit(alloc, entries, others)?;
@@ -346,7 +354,7 @@ fn is_checked_as(alloc: Global, row: Row<'_>, is_accepted: bool) -> Result<bool,
     is_refusal(alloc, text.as_slice(), wanted)
 }
 
-// Whether a text says that an image is refused, with this line.
+// Returns whether a text says that an image is refused for the reason in this line.
 fn is_refusal(alloc: Global, text: &[u8], line: &str) -> Result<bool, AllocError> {
     Ok(text == format!(in alloc; "corrupt\n{line}\n")?.as_bytes())
 }
@@ -378,8 +386,8 @@ fn refused_images_with_blocks_are_checked(rt: HostRuntime) -> Result<(), Fail> {
     Ok(())
 }
 
-// So many bytes of a fresh image, or with bytes 0xff behind it; sizes of a block and of a page; and the line behind
-// `corrupt`.
+// The number of bytes of a fresh image to keep, or to fill up with 0xff; the block size and the
+// page size; and the line after `corrupt`.
 const SIZES: [(usize, u32, u32, &str); 8] = [
     (65536, 8192, 256, "superblock: block size 4096, given 8192"),
     (65536, 1024, 128, "superblock: block size 4096, given 1024"),

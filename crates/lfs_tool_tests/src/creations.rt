@@ -1,4 +1,5 @@
-// Sources, the images that are made of them, and what comes back.
+// Sources, images that are created from them, and the results of listing and unpacking these
+// images.
 
 use crate::sources::{Items, memory_source_of_items};
 use crate::texts::{create_of_source, list_text, unpack_text, with_error_line};
@@ -11,8 +12,9 @@ const NO_SPACE: &str = "error: NoSpace (28)\n";
 
 const NAME_TOO_LONG: &str = "error: NameTooLong (36)\n";
 
-// Whether the image of a source lists as these lines and, where they are given, is unpacked by these
-// actions; or whether this error comes and nothing is written.
+// Returns whether creating the image of a source gives the expected result. The image is listed as
+// `lines`, and if `actions` are given, they unpack it. If the creation fails, `lines` is the error
+// line, and nothing is written before it.
 fn is_made_image_as_expected(
     alloc: Global,
     source: MemorySource,
@@ -36,7 +38,7 @@ fn is_made_image_as_expected(
     Ok(is_listed && done.as_slice() == actions)
 }
 
-// A file, and a folder with an empty one.
+// A file, and a folder with an empty file.
 const FOLDER: Items<'static> = &[(b"/d/x", Some(b"")), (b"/d", None), (b"/a", Some(b"hello"))];
 
 const LONG_NAME: &[u8] =
@@ -48,10 +50,10 @@ const LONG_LINE: &str =
 const LONGER_NAME: &[u8] =
     b"/nnnnnnnnnnnnnnnnnnnnnnnnnnnnnnnnnnnnnnnnnnnnnnnnnnnnnnnnnnnnnnnnnnnnnnnnnnnnnnnnnnnnnnnnnnnnnnnnnnnnnnnnnnnnnnnnnnnnnnnnnnnnnnnnnnnnnnnnnnnnnnnnnnnnnnnnnnnnnnnnnnnnnnnnnnnnnnnnnnnnnnnnnnnnnnnnnnnnnnnnnnnnnnnnnnnnnnnnnnnnnnnnnnnnnnnnnnnnnnnnnnnnnnnnnnnnnnnn";
 
-// A source, how many blocks there are, and what comes of it.
+// A source, the number of blocks, and the expected listing or error.
 type Row = (Items<'static>, u32, &'static str);
 
-// Blocks of 4,096 bytes, with pages of 256.
+// Sources for images with blocks of 4,096 bytes and pages of 256 bytes.
 const SOURCES: [Row; 15] = [
     (&[], 2, ""),
     (&[(b"/a", Some(b"hello"))], 16, "f 5 /a\n"),
@@ -67,13 +69,14 @@ const SOURCES: [Row; 15] = [
     (&[(b"/a", Some(b""))], 3, NO_SPACE),
     (&[(b"/d", None)], 5, NO_SPACE),
     (&[(b"/d", None)], 6, "d 0 /d\n"),
-    // a list of 14 blocks beside the first two, and two more until it is closed
+    // A list of 14 blocks in addition to the first two blocks. Two more are in use until the file
+    // is closed.
     (&[(b"/a", Some(&[7; 57000]))], 18, "f 57000 /a\n"),
     (&[(b"/a", Some(&[7; 57000]))], 17, NO_SPACE),
-    // the longest name, and one that is a byte longer
+    // the longest name, and a name that is one byte too long
     (&[(LONG_NAME, Some(b""))], 16, LONG_LINE),
     (&[(LONGER_NAME, Some(b""))], 16, NAME_TOO_LONG),
-    // all of the source is read before anything is refused
+    // The whole source is read before anything is refused.
     (
         &[(b"/d", None), (b"/a", Some(b"")), (b"/d/..", Some(b""))],
         2,
@@ -81,14 +84,14 @@ const SOURCES: [Row; 15] = [
     ),
 ];
 
-// What the folder's image lists, and what unpacking it does.
+// The listing of the folder's image, and the actions that unpack it.
 const LINES: &[u8] = b"f 5 /a\nd 0 /d\nf 0 /d/x\n";
 
 const ACTIONS: &[u8] = b"f /a hello\nd /d\nf /d/x \n";
 
 const BYTES: Option<&[u8]> = Some(&[0; 128]);
 
-// Seven files, of which six fill two pairs of an image of four blocks.
+// Seven files, of which six fill two pairs in an image of four blocks.
 const SEVEN: Items<'static> = &[
     (b"/a", BYTES),
     (b"/b", BYTES),
@@ -99,8 +102,8 @@ const SEVEN: Items<'static> = &[
     (b"/g", Some(b"")),
 ];
 
-// Blocks of 1,024 bytes, with pages of 128. Beside 40 bytes of the superblock, six files of 8 and a name
-// of 1 beside their bytes: a pair holds 857.
+// Sources for images with blocks of 1,024 bytes and pages of 128 bytes. A pair has space for 857
+// bytes: 40 for the superblock, and for each file 9 plus the length of the file.
 const SMALL: [Row; 4] = [
     (
         &[
@@ -134,7 +137,7 @@ const SMALL: [Row; 4] = [
     ),
 ];
 
-// Sizes of a block and a page, and what is made with them.
+// The block size, the page size, and the sources for images with these sizes.
 const MADE: [(u32, u32, &[Row]); 2] = [(4096, 256, &SOURCES), (1024, 128, &SMALL)];
 
 #[test]
@@ -159,7 +162,7 @@ fn images_are_made(rt: HostRuntime) -> Result<(), Fail> {
     Ok(())
 }
 
-// The first 52 bytes of an image of nothing, with 16 blocks of 4,096 bytes. All else is 0xff.
+// The first 52 bytes of an empty image with 16 blocks of 4,096 bytes. All other bytes are 0xff.
 const FRESH: [u8; 52] = [
     0x01, 0, 0, 0, 0xf0, 0x0f, 0xff, 0xf7, 0x6c, 0x69, 0x74, 0x74, 0x6c, 0x65, 0x66, 0x73, 0x2f,
     0xe0, 0x00, 0x10, 0, 0, 0x02, 0, 0, 0x10, 0, 0, 0x10, 0, 0, 0, 0xff, 0, 0, 0, 0xff, 0xff, 0xff,

@@ -1,20 +1,20 @@
-// Of what is noted in a log of faults the first is taken, once.
+// A log of faults returns the first fault, and returns it only once.
 
 use lfs_tool::{FaultLog, PathFault};
 use std::alloc::{AllocError, Global};
 use std::fs;
 use std::test::Fail;
 
-// What is noted, one behind the other.
+// A fault that is logged.
 #[derive(Clone, Copy)]
 enum Note {
-    // That there is no file at a path.
+    // There is no file at this path.
     Missing(&'static str),
-    // That memory ran out as a fault was to be noted.
+    // Memory for a fault couldn't be allocated.
     Lost,
 }
 
-// Which of them is taken.
+// Faults in the order in which they are logged, and the one that the log returns.
 const NOTES: [(&[Note], Option<Note>); 6] = [
     (&[], None),
     (&[Note::Missing("none/a")], Some(Note::Missing("none/a"))),
@@ -41,7 +41,7 @@ fn note_in_log(rt: &HostRuntime, log: &FaultLog, note: Note) {
     }
 }
 
-// What is taken then.
+// Returns the expected result of `FaultLog::take`.
 fn expected_fault(
     alloc: Global,
     note: Option<Note>,
@@ -56,7 +56,7 @@ fn expected_fault(
     }
 }
 
-// Whether this is taken from the log, and then nothing.
+// Returns whether the log returns the expected fault, and then nothing more.
 fn is_taken_once(
     rt: &HostRuntime,
     notes: &[Note],

@@ -1,4 +1,4 @@
-// Readers and writers that fail in mid-stream, or that a signal interrupts.
+// Readers and writers that fail in the middle of a stream, or that a signal interrupts.
 
 use crate::images::shifting_block;
 use crate::sources::memory_source_of_items;
@@ -15,7 +15,8 @@ const LINES: &[u8] = b"f 0 /b\n";
 
 const OUTPUT: &[u8] = b"error: output\n";
 
-// Gives or takes at most so many bytes a call, and fails at the call `fails_at`, a flush too.
+// A reader and writer that transfers at most `most` bytes in a call. The call with the number
+// `fails_at` fails, and a flush counts as a call.
 #[derive(Drop)]
 struct Faulty<'a> {
     left: &'a [u8],
@@ -77,10 +78,11 @@ fn stream_failing_at_call<'a>(
     })
 }
 
-// How a call fails, and whether that is a failure: one that a signal interrupted is made again.
+// The kind of an error, and whether it counts as a failure. A call that a signal interrupted is
+// repeated.
 const KINDS: [(ErrorKind, bool); 2] = [(ErrorKind::Other, true), (ErrorKind::Interrupted, false)];
 
-// How many bytes a call gives, and how many calls find the end of 65,536 bytes.
+// The number of bytes that each call reads, and the number of calls up to the end of 65,536 bytes.
 const READERS: [(usize, u32); 2] = [(3000, 23), (30000, 4)];
 
 #[test]
@@ -108,8 +110,9 @@ fn failing_readers_are_reported(rt: HostRuntime) -> Result<(), Fail> {
     Ok(())
 }
 
-// Whether an image is made or listed, how many bytes a call takes, at which call that fails, and how
-// many bytes it took before. The last call is the flush.
+// Whether an image is created rather than listed, the number of bytes that each call writes, the
+// number of the call that fails, and the number of bytes written before it. The last call is the
+// flush.
 const WRITERS: [(bool, usize, u32, usize); 19] = [
     (false, 1, 1, 0),
     (false, 1, 2, 1),
@@ -132,7 +135,8 @@ const WRITERS: [(bool, usize, u32, usize); 19] = [
     (true, 65535, 3, 65536),
 ];
 
-// What is written, with the line of an error behind it: an image of nothing, or the lines of this one.
+// Returns what is written before and after the failure. That is an empty image or the listing of
+// `image`, and then the error line.
 fn text_from_failing_writer(
     alloc: Global,
     image: &[u8],
@@ -156,7 +160,7 @@ fn text_from_failing_writer(
     Ok(text)
 }
 
-// Whether the text is this beginning of the whole one, with the line of an error behind it.
+// Returns whether the text is the first `len` bytes of `whole` and then the error line.
 fn is_beginning_with_error_line(text: &[u8], whole: &[u8], len: usize) -> bool {
     match (text.split_at_checked(len), whole.get(..len)) {
         (Some((beginning, end)), Some(wanted)) => beginning == wanted && end == OUTPUT,

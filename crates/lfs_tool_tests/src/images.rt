@@ -1,4 +1,4 @@
-// Images, what is listed of them, and what unpacking them does.
+// Images, and the results of listing and unpacking them.
 
 use crate::log_entries::{
     A0, A1, A2, AB1, AB2, B1, B2, D1, D3, E2, EMPTY, EMPTY0, EMPTY1, EMPTY2, FIRST, GOES_ON,
@@ -19,7 +19,7 @@ const CORRUPT: &str = "error: Corrupt (84)\n";
 
 const INVALID: &str = "error: Invalid (22)\n";
 
-// Addresses of pairs.
+// Addresses of metadata pairs.
 const HALF: &[u8] = &[2, 0, 0, 0, 0xff, 0xff, 0xff, 0xff];
 
 const NO_PAIR: &[u8] = &[0xff; 8];
@@ -29,12 +29,13 @@ const WITH_F: BlockFilling<'static> = Commit(&[(0x0010_0001, b"f"), (0x2010_0002
 
 const WITH_A: BlockFilling<'static> = Commit(&[A0, (0x2010_0002, b"hi")]);
 
-// An image: a second commit of its first block, its other blocks, and what is shown of it.
+// An image, and the expected text. The image has a second commit in its first block, and some other
+// blocks.
 type Row<'a> = (FixtureEntries<'a>, &'a [(usize, BlockFilling<'a>)], &'a str);
 
-// A second commit of these entries, and what is listed.
+// The entries of a second commit, and the expected listing.
 const COMMITS: [(FixtureEntries<'static>, &str); 19] = [
-    // bytes that are shown as numbers, of an empty file and of one of five bytes
+    // names with bytes that are printed as numbers, for an empty file and for one of five bytes
     (
         &[(0x0010_0405, b"a\n\\\xc3\xa9"), EMPTY1],
         "f 0 /a\\x0a\\x5c\\xc3\\xa9\n",
@@ -43,13 +44,13 @@ const COMMITS: [(FixtureEntries<'static>, &str); 19] = [
         &[(0x0010_0405, b"a\n\\\xc3\xa9"), (0x2010_0405, b"hello")],
         "f 5 /a\\x0a\\x5c\\xc3\\xa9\n",
     ),
-    // a directory that isn't in the thread, a list of one block, a directory with a file's struct, a
-    // tail to a pair without a commit
+    // a directory outside the tail list, a list of one block, a directory with a file's struct, and
+    // a tail to a pair without a commit
     (&[D1, TO_PAIR1], CORRUPT),
     (&[A1, (0x2020_0408, PAIR)], "f 3 /a\n"),
     (&[D1, EMPTY1], CORRUPT),
     (&[(0x600f_fc08, PAIR), (0x7fff_fc0c, &[0; 12])], CORRUPT),
-    // a sync bit, an id without a move, and a move state that says nothing
+    // a sync bit, an id without a move, and an empty move state
     (
         &[
             (0x600f_fc08, NO_PAIR),
@@ -71,7 +72,7 @@ const COMMITS: [(FixtureEntries<'static>, &str); 19] = [
         ],
         "",
     ),
-    // a superblock that isn't the first, a name twice, a name out of order
+    // a superblock in a later slot, a name twice, and a name that is out of order
     (&[(0x0ff0_0408, b"littlefs"), EMPTY1], CORRUPT),
     (&[A1, EMPTY1, A2, EMPTY2], CORRUPT),
     (&[A2, EMPTY2, B1, EMPTY1], CORRUPT),
@@ -79,21 +80,21 @@ const COMMITS: [(FixtureEntries<'static>, &str); 19] = [
     (&[(0x0010_0400, b""), EMPTY1], CORRUPT),
     (&[(0x0010_0402, b".."), EMPTY1], CORRUPT),
     (&[(0x0010_0403, b"a/b"), EMPTY1], CORRUPT),
-    // a file with a directory's struct, and one without a struct
+    // a file with a directory's struct, and a file without a struct
     (&[A1, TO_PAIR1], CORRUPT),
     (&[A1, (0x3410_0400, b"")], CORRUPT),
-    // a slot in front of the superblock's, and a struct for a slot that isn't there
+    // a slot before the superblock's, and a struct for a slot that doesn't exist
     (&[(0x4010_0000, b""), A0, EMPTY0], CORRUPT),
     (&[A1, EMPTY1, EMPTY2], CORRUPT),
 ];
 
 const TAILS: [Row<'static>; 8] = [
-    // to the first pair, to a block twice, to half a pair, to nothing
+    // tails to the first pair, to the same block twice, to half a pair, and to no pair
     (&[(SOFT_TAIL, FIRST)], &[], CORRUPT),
     (&[(SOFT_TAIL, SAME)], &[(2, WITH_F)], CORRUPT),
     (&[(SOFT_TAIL, HALF)], &[], CORRUPT),
     (&[(SOFT_TAIL, NO_PAIR)], &[], ""),
-    // a pair that isn't reached, with the sync bit and without
+    // an orphan, with and without the sync bit
     (
         &[
             NEXT_PAIR,
@@ -110,15 +111,15 @@ const TAILS: [Row<'static>; 8] = [
         &[(2, EMPTY)],
         CORRUPT,
     ),
-    // a file of 600 bytes in its slot, and a limit that isn't written here
+    // an inline file of 600 bytes, and another limit
     (&[A1, (0x2010_0658, &[7; 600])], &[], "f 600 /a\n"),
     (&[SHORT_FIELDS], &[], ""),
 ];
 
 const DIRECTORIES: [Row<'static>; 5] = [
-    // the root itself
+    // an entry that points to the root
     (&[D1, TO_ROOT1], &[], CORRUPT),
-    // an address in the other order, a pair that two entries name
+    // an address with its blocks swapped, and a pair that two entries point to
     (
         &[D1, (0x2000_0408, TURNED), NEXT_PAIR],
         &[(2, WITH_F)],
@@ -142,7 +143,7 @@ const DIRECTORIES: [Row<'static>; 5] = [
         &[(2, WITH_F)],
         "d 0 /d\nf 2 /g\n",
     ),
-    // a directory that goes on in a second pair
+    // a directory with two pairs
     (&[A1, EMPTY1, GOES_ON], &[(2, WITH_F)], "f 0 /a\nf 2 /f\n"),
 ];
 
@@ -173,7 +174,8 @@ const SUPERBLOCKS: [Row<'static>; 4] = [
 
 const FORWARD_CHECKSUM: (u32, &[u8]) = (0x5fff_fc08, &[0x10, 0, 0, 0, 0x12, 0x34, 0x56, 0x78]);
 
-// Files of which one name begins the other, in this order: the longer first, or the shorter.
+// Two files, of which one name is a prefix of the other. Either the longer or the shorter name
+// comes first.
 const LONGER: BlockFilling<'static> = Commit(&[
     (0x0010_0002, b"xy"),
     EMPTY0,
@@ -196,8 +198,8 @@ const SHORTER_FIRST: FixtureEntries<'static> = &[A1, EMPTY1, AB2, EMPTY2, D3, TO
 
 const BOTH: &str = "f 0 /a\nf 0 /ab\nd 0 /d\nf 0 /d/x\nf 0 /d/xy\n";
 
-// The same tree in each order of names, orders that differ from folder to folder, and what a driver
-// of version 2.1 leaves.
+// The same tree in each order of names, directories with different orders, and an image that a
+// driver of version 2.1 has written.
 const ORDERS: [Row<'static>; 6] = [
     (LONGER_FIRST, &[(2, LONGER)], BOTH),
     (SHORTER_FIRST, &[(2, SHORTER)], BOTH),
@@ -211,7 +213,8 @@ const ORDERS: [Row<'static>; 6] = [
     (&[LATER_FIELDS, FORWARD_CHECKSUM], &[], CORRUPT),
 ];
 
-// The superblock's slot named by a move, and one of two files of one name.
+// A move that refers to the superblock's slot, and a move that refers to one of two files with the
+// same name.
 const MOVES: [Row<'static>; 2] = [
     (
         &[(MOVE_STATE, &[0, 0, 0xf0, 0x4f, 0, 0, 0, 0, 1, 0, 0, 0])],
@@ -235,7 +238,7 @@ const MOVES: [Row<'static>; 2] = [
 const SECOND: BlockFilling<'static> = Bytes(&[4, 0, 0, 0]);
 
 const LISTS: [Row<'static>; 8] = [
-    // a block of two files, the superblock's, one that isn't there
+    // a block in two files, the superblock's block, and a block that isn't in the image
     (&[A1, LIST1, B2, LIST2], &[], CORRUPT),
     (
         &[A1, (0x2020_0408, &[1, 0, 0, 0, 3, 0, 0, 0])],
@@ -247,7 +250,7 @@ const LISTS: [Row<'static>; 8] = [
         &[],
         CORRUPT,
     ),
-    // no byte, and one more than a file may have
+    // an empty list, and a list that is one byte too long
     (
         &[A1, (0x2020_0408, &[2, 0, 0, 0, 0, 0, 0, 0])],
         &[],
@@ -258,7 +261,7 @@ const LISTS: [Row<'static>; 8] = [
         &[],
         CORRUPT,
     ),
-    // three blocks, with a right pointer 1 and with a wrong one
+    // three blocks, with a right and a wrong pointer 1
     (
         &[A1, (0x2020_0408, &[6, 0, 0, 0, 0x08, 0x20, 0, 0])],
         &[(5, SECOND), (6, Bytes(&[5, 0, 0, 0, 4, 0, 0, 0]))],
@@ -277,7 +280,7 @@ const LISTS: [Row<'static>; 8] = [
     ),
 ];
 
-// A file with bytes, a directory, and an empty file in it.
+// A file with bytes, a directory, and an empty file in that directory.
 pub(crate) const ENTRIES: FixtureEntries<'static> = &[
     A1,
     (0x2010_0405, b"hello"),
@@ -288,17 +291,17 @@ pub(crate) const ENTRIES: FixtureEntries<'static> = &[
 
 pub(crate) const BELOW: BlockFilling<'static> = Commit(&[(0x0010_0001, b"x"), EMPTY0]);
 
-// Images, and what unpacking them does.
+// Images, and the expected actions for unpacking them.
 const UNPACKED: [Row<'static>; 4] = [
     (ENTRIES, &[(2, BELOW)], "f /a hello\nd /d\nf /d/x \n"),
     (&[], &[], ""),
     // a list of one block
     (&[A1, LIST1], &[(2, Bytes(b"abcd"))], "f /a abc\n"),
-    // a directory that isn't in the thread
+    // a directory outside the tail list
     (&[D1, TO_PAIR1], &[], "error: Corrupt (84)\n"),
 ];
 
-// Whether an image is listed so, or does this where it is unpacked.
+// Returns whether listing an image, or unpacking it, gives the expected text.
 fn has_expected_list_or_unpack_text(
     alloc: Global,
     row: Row<'_>,
@@ -315,7 +318,7 @@ fn has_expected_list_or_unpack_text(
     Ok(text.as_slice() == wanted.as_bytes())
 }
 
-// All images that are listed, but for those with a commit of the first block alone.
+// All images to list, except those with only a commit in the first block.
 const LISTED: [&[Row<'static>]; 6] = [&TAILS, &DIRECTORIES, &SUPERBLOCKS, &ORDERS, &MOVES, &LISTS];
 
 #[test]
@@ -357,31 +360,34 @@ pub(crate) fn shifting_block(alloc: Global) -> Result<Vec<u8>, AllocError> {
     commits_beginning(alloc, 1, &SHIFTING)
 }
 
-// A log of a file `x` up to the middle of its checksum's entry: its first bytes, 67 zeros, and its last
-// bytes. With 0xff behind them the checksum is right.
+// A log with a file `x` up to the middle of its CRC entry: the first bytes, 67 zeros, and the last
+// bytes. If 0xff follows, the CRC is right.
 const NEARLY: &[u8] =
     b"\x02\0\0\0\xf0\x0f\xff\xf7littlefs\x2f\xe0\0\x10\0\0\x02\0\0\x10\0\0\x10\0\0\0\xff\0\0\0\xff\xff\xff\x7f\xfe\x03\0\0\x60\0\x04\x18\x40\0\0\x01x\x20\0\0\x46\x86\x39\xe6\xa0";
 
 const NEARLY_END: &[u8] = b"\x70\x1f\xf8\x3b";
 
-// Images that more than commits make.
+// Images that can't be built only from commits.
 #[derive(Clone, Copy)]
 enum UnusualImage {
-    // The block in which a file moves, and a second block: its revision and its second commit.
+    // The block with the moving file, and a second block with this revision count and second
+    // commit.
     Second(u32, FixtureEntries<'static>),
-    // A first block without a commit, and such a second block.
+    // A first block without a commit, and a second block with this revision count and second
+    // commit.
     Uncommitted(u32, FixtureEntries<'static>),
-    // The block in which a file moves, and one that is nearly a log, with this byte behind the first 132.
+    // The block with the moving file, and a block that is nearly a log, whose first 132 bytes are
+    // followed by this byte.
     Nearly(u8),
-    // The block in which a file moves, and flipped bits of a byte.
+    // The block with the moving file, in which these bits of the byte at this offset are flipped.
     Flipped(usize, u8),
-    // So many bytes of a fresh image, or with bytes 0xff behind it.
+    // The given number of bytes of a fresh image, filled up with 0xff if it is shorter.
     Fresh(usize),
-    // So many bytes 0xff.
+    // The given number of bytes 0xff.
     Blank(usize),
 }
 
-// These images, and what is listed of them.
+// Unusual images, and the expected listing of each.
 const ODD: [(UnusualImage, &str); 15] = [
     (UnusualImage::Second(0xffff_ffff, &[]), "f 0 /b\n"),
     (
@@ -406,7 +412,7 @@ const ODD: [(UnusualImage, &str); 15] = [
     (UnusualImage::Blank(65536), CORRUPT),
 ];
 
-// The block that is nearly a log.
+// Returns the block that is nearly a log.
 fn block_nearly_with_log(alloc: Global, byte: u8) -> Result<Vec<u8>, AllocError> {
     let mut block = Vec::from_slice(alloc, NEARLY)?;
     block.resize(128, 0)?;
@@ -415,7 +421,7 @@ fn block_nearly_with_log(alloc: Global, byte: u8) -> Result<Vec<u8>, AllocError>
     Ok(block)
 }
 
-// The bytes of such an image.
+// Returns the bytes of an unusual image.
 fn odd_image(alloc: Global, odd: UnusualImage) -> Result<Vec<u8>, AllocError> {
     let mut first = shifting_block(alloc)?;
     let mut second = Vec::new(alloc);
@@ -460,7 +466,7 @@ fn is_odd_image_listed(
     Ok(text.as_slice() == wanted.as_bytes())
 }
 
-// Sizes of a block and of a page, and what is listed of a fresh image.
+// The block size, the page size, and the expected listing of a fresh image.
 const SIZES: [(u32, u32, &str); 6] = [
     (4096, 256, ""),
     (0, 256, INVALID),
@@ -491,8 +497,8 @@ fn odd_images_are_listed_or_refused(rt: HostRuntime) -> Result<(), Fail> {
     Ok(())
 }
 
-// Up to which byte of its first two blocks one is inverted in the image in which a file moves, and what
-// is listed then. `bench/image_reader.py` gave these.
+// The expected listing if one byte is inverted, for all offsets below each limit. The image is the
+// one with the moving file, and the listings are from `bench/image_reader.py`.
 const INVERTED: [(usize, &str); 6] = [
     (52, CORRUPT),
     (256, "f 0 /b\n"),
@@ -508,7 +514,8 @@ fn invert_byte(image: &mut [u8], at: usize) {
     }
 }
 
-// Whether the image is listed so where this byte is inverted. The image is as it was then.
+// Returns whether the listing is as expected if the byte at this offset is inverted. The image is
+// restored at the end.
 fn is_image_listed_with_inverted_byte(
     alloc: Global,
     image: &mut [u8],

@@ -1,5 +1,6 @@
 // SPDX-License-Identifier: BSD-3-Clause
-//! Tests of mklittlefs's libraries: rows as data, each carried out by one small function.
+//! Tests of the libraries of mklittlefs. The cases are rows of tables, and a small function runs
+//! each row.
 #![tactic(auto)]
 
 #[cfg(test)]

@@ -1,4 +1,4 @@
-// The system's files, of which some calls fail.
+// A file system in which some calls fail.
 
 use std::alloc::Allocator;
 use std::cell::Cell;
@@ -6,27 +6,27 @@ use std::fs::{Files, Metadata, OpenFile, OpenOptions, Permissions};
 use std::io;
 use std::io::{ErrorKind, Read, Seek, SeekFrom, Write};
 
-// What is refused beside more bytes than there is room for.
+// What the file system refuses, in addition to bytes beyond its free space.
 #[derive(Clone, Copy, PartialEq, Eq, Debug, Drop)]
 pub(crate) enum Refusal {
     Nothing,
-    // An old file isn't opened for writing.
+    // An old file can't be opened for writing.
     Writing,
-    // No new name is made.
+    // No new file can be created.
     NewNames,
-    // Nothing gets another name.
+    // No file can be renamed.
     Renames,
 }
 
 #[derive(Drop)]
 pub(crate) struct LimitedFiles<'a, R> {
     pub(crate) files: &'a R,
-    // How many bytes are taken yet.
+    // The number of bytes that can still be written.
     pub(crate) room: &'a Cell<usize>,
     pub(crate) refusal: Refusal,
 }
 
-// A file that takes at most 7 bytes a call.
+// A file that writes at most 7 bytes in a call.
 #[derive(Drop)]
 pub(crate) struct LimitedFile<'a, F> {
     file: F,

@@ -1,4 +1,4 @@
-// Command lines, and what is shown of those that are refused.
+// Command lines, and the output for those that are refused.
 
 use crate::runs::program_words;
 use crate::texts::report_of;
@@ -8,7 +8,7 @@ use lfs_tool::{Fault, Line, LineError, Mode, ToolError, read_line};
 use std::alloc::{AllocError, Global};
 use std::test::Fail;
 
-// What is accepted and written where no option says otherwise.
+// The profile if no option changes it.
 const PROFILE: Profile = Profile {
     versions: AcceptedVersions::OnlyTwoZero,
     name_max: 255,
@@ -19,7 +19,7 @@ const PROFILE: Profile = Profile {
     search_seed: 0,
 };
 
-// The line of a list with no option.
+// The command line of a listing without options.
 const DEFAULT: Line<'static> = Line {
     mode: Mode::List,
     block_size: 4096,
@@ -34,9 +34,9 @@ const DEFAULT: Line<'static> = Line {
     image: "i",
 };
 
-// The words of command lines, and what they say.
+// The words of command lines, and the expected result of parsing them.
 const LINES: [(&str, Line<'static>); 13] = [
-    // what the image's own superblock decides
+    // options that let the image's own superblock decide
     (
         "--auto -l --offset 1M i",
         Line {
@@ -96,7 +96,7 @@ const LINES: [(&str, Line<'static>); 13] = [
             ..DEFAULT
         },
     ),
-    // a standard stream's name is no option
+    // `-` for a standard stream, which isn't an option
     (
         "-c dir - -s 8192",
         Line {
@@ -159,7 +159,7 @@ const LINES: [(&str, Line<'static>); 13] = [
     ),
 ];
 
-// The same with limits, boards and versions.
+// Command lines with limits, boards and versions.
 const PROFILES: [(&str, Line<'static>); 8] = [
     (
         "-l --also-2.1 i",
@@ -171,7 +171,7 @@ const PROFILES: [(&str, Line<'static>); 8] = [
             ..DEFAULT
         },
     ),
-    // the least of each limit, and the largest
+    // the smallest and the largest value of each limit
     (
         "-cd --name-max=1 --file-max=1 --attr-max=1 --inline-max=1 i",
         Line {
@@ -197,7 +197,7 @@ const PROFILES: [(&str, Line<'static>); 8] = [
             ..DEFAULT
         },
     ),
-    // numbers in each form
+    // numbers in all forms
     (
         "-cd -b=4K -p 0X80 -s 0x160000 --name-max=0x1F --file-max 1.5M --attr-max=0.5k --inline-max +256 i",
         Line {
@@ -214,7 +214,7 @@ const PROFILES: [(&str, Line<'static>); 8] = [
             ..DEFAULT
         },
     ),
-    // each board, and what is given beside it
+    // each board, and options that override it
     (
         "-cd --board esp8266 i",
         Line {
@@ -271,7 +271,7 @@ const PROFILES: [(&str, Line<'static>); 8] = [
     ),
 ];
 
-// Whether the words of a text are read as that line.
+// Returns whether the words of a text are parsed as the expected command line.
 fn is_read_as(rt: &HostRuntime, text: &str, wanted: Line<'static>) -> Result<bool, Fail> {
     let words = program_words(rt.alloc(), text)?;
     let line = read_line(rt.alloc(), words.as_slice())?;
@@ -329,7 +329,7 @@ For more information, try '--help'.
 
 const VERSION: &str = "mklittlefs 1.0.0 (littlefs on-disk version 2.0)\n";
 
-// How options are shown, first those of `-h`.
+// The options in the help. Those of `-h` come first.
 const SHORT_HELP: [&str; 20] = [
     "Usage: mklittlefs (-c DIR | -u DIR | -l |",
     "-c, --create <DIR> ",
@@ -378,8 +378,8 @@ const LONG_HELP: [&str; 22] = [
     "from memory\n",
 ];
 
-// Words that are no line, which end with status 2, and what goes to `err`, if that isn't the parser's own
-// text.
+// Invalid command lines, which end with status 2. If the text on `err` isn't the parser's own, it
+// is given.
 const PART: &str = "error: -b auto and --offset are for -l, -u, --check and --cat\n";
 
 const SIZE: &str = "error: --size auto is for -c\n";
@@ -398,7 +398,7 @@ const DECIDED: &str =
     "error: --auto replaces -b, --board, --also-2.1, --name-max, --file-max and --attr-max\n";
 
 const REFUSED: [(&str, Option<&str>); 58] = [
-    // what the image decides, with what it would decide
+    // `--auto` together with an option that it replaces
     ("--auto -cd i", Some(AUTO)),
     ("--auto -cd -b512 i", Some(AUTO)),
     ("--auto -l -b4096 i", Some(DECIDED)),
@@ -409,7 +409,7 @@ const REFUSED: [(&str, Option<&str>); 58] = [
     ("--auto --remove=/a --file-max=9 i", Some(DECIDED)),
     ("--auto --mkdir=/a --attr-max=9 i", Some(DECIDED)),
     ("--auto --mkdir=/a --offset=9 i", Some(PART)),
-    // options that are for other modes
+    // options for other modes
     ("-l -sauto i", Some(SIZE)),
     ("-cd --spare=1 i", Some(SPARE)),
     ("-l --spare=1 i", Some(SPARE)),
@@ -422,21 +422,21 @@ const REFUSED: [(&str, Option<&str>); 58] = [
     ("--remove=/a --pair-cycles=x i", None),
     ("--put - /a --pair-cycles 1 -", Some(STREAMS)),
     ("--put - /a -", Some(STREAMS)),
-    // a part of a file that is to be made
+    // part of a file in a mode that writes an image
     ("-cd -b auto i", Some(PART)),
     ("-cd --offset=1 i", Some(PART)),
     ("-l -pauto i", None),
-    // not exactly one mode
+    // no mode, or several
     ("i", Some(MODES)),
     ("-p 256 i -b0", Some(MODES)),
     ("-l -c d i", Some(MODES)),
     ("-l -u d i", Some(MODES)),
     ("-l --check i", Some(MODES)),
     ("--check -cd i", Some(MODES)),
-    // an order that is none
+    // an unknown order of names
     ("-l --order first i", Some(ORDER)),
     ("-c d --order  i", Some(ORDER)),
-    // a board that is none, and limits that break their rules: the first of them is named
+    // an unknown board, and limits that break their rules, of which the first is reported
     ("-l --board ESP32 i", Some(BOARD)),
     ("-l --board= --name-max=0 i", Some(BOARD)),
     ("-l --order=x --board=x i", Some(ORDER)),
@@ -449,7 +449,7 @@ const REFUSED: [(&str, Option<&str>); 58] = [
     ("-cd --inline-max 0 i", Some(INLINE_MAX)),
     ("-cd --inline-max 513 i", Some(INLINE_MAX)),
     ("-cd -b65536 --inline-max 1023 i", Some(INLINE_MAX)),
-    // what the parser refuses
+    // words that the parser refuses
     ("-cd --name-max 4294967296 i", None),
     ("-cd --board", None),
     ("-l", None),
@@ -457,7 +457,7 @@ const REFUSED: [(&str, Option<&str>); 58] = [
     ("-l i -c", None),
     ("-l -b 4294967296 i", None),
     ("-x", None),
-    // numbers that are none, or too large
+    // values that aren't numbers or are too large
     ("-l -p 0x i", Some(BAD_PAGE)),
     ("-cd -p=1.3k -s4k4 i", Some(BAD_PAGE_IN_UNITS)),
     ("--name-max 0x100000000 i", Some(BAD_NAME_MAX)),
@@ -466,7 +466,8 @@ const REFUSED: [(&str, Option<&str>); 58] = [
     ("-l -b 1.5 i", None),
 ];
 
-// Whether a fault is shown so, which is its own text too.
+// Returns whether a fault is reported with the expected status and text. The text must also be the
+// one that the fault displays.
 fn is_fault_reported_as(
     alloc: Global,
     fault: &Fault,
@@ -515,7 +516,8 @@ fn versions_are_shown(rt: HostRuntime) -> Result<(), Fail> {
     Ok(())
 }
 
-// Whether words show a help that has these texts and not that one, in so many lines at most.
+// Returns whether the words print a help that contains `texts` but not `other`, in at most `most`
+// lines.
 fn is_help(
     alloc: Global,
     text: &str,
@@ -548,7 +550,7 @@ fn helps_are_shown(rt: HostRuntime) -> Result<(), Fail> {
     Ok(())
 }
 
-// Errors of the tool, their status and their line.
+// Errors of the tool, with their status and line.
 const ERRORS: [(ToolError, u8, &str); 4] = [
     (ToolError::Fs(Error::NoEnt), 1, "error: NoEnt (2)\n"),
     (ToolError::Fs(Error::Failed), 1, "error: Failed (200)\n"),

@@ -1,11 +1,11 @@
-// Entries of logs and what stands in them, for images in rows.
+// Log entries and their contents, from which images are built.
 
 use lfs_fixtures::BlockFilling;
 
-/// An entry of a log: its tag and its bytes.
+/// A log entry: its tag and its data.
 pub(crate) type Entry = (u32, &'static [u8]);
 
-// Addresses of pairs.
+// Addresses of metadata pairs.
 pub(crate) const FIRST: &[u8] = &[0, 0, 0, 0, 1, 0, 0, 0];
 
 pub(crate) const PAIR: &[u8] = &[2, 0, 0, 0, 3, 0, 0, 0];
@@ -21,7 +21,8 @@ pub(crate) const HARD_TAIL: u32 = 0x601f_fc08;
 
 pub(crate) const MOVE_STATE: u32 = 0x7fff_fc0c;
 
-// Superblocks: as the first one, with a block more, with names of at most 32 bytes, and of version 2.1.
+// Superblocks: a usual one, one with one block more, one with names of at most 32 bytes, and one of
+// version 2.1.
 pub(crate) const FIELDS: &[u8] = &[
     0, 0, 2, 0, 0, 16, 0, 0, 16, 0, 0, 0, 255, 0, 0, 0, 255, 255, 255, 127, 254, 3, 0, 0,
 ];
@@ -38,7 +39,7 @@ pub(crate) const LATER_VERSION: &[u8] = &[
     1, 0, 2, 0, 0, 16, 0, 0, 16, 0, 0, 0, 255, 0, 0, 0, 255, 255, 255, 127, 254, 3, 0, 0,
 ];
 
-// A superblock's name, and its struct with these fields.
+// The name of a superblock, and its struct with these fields.
 pub(crate) const SUPERBLOCK: Entry = (0x0ff0_0008, b"littlefs");
 
 pub(crate) const PLAIN_FIELDS: Entry = (0x2010_0018, FIELDS);
@@ -47,7 +48,7 @@ pub(crate) const SHORT_FIELDS: Entry = (0x2010_0018, SHORT_NAMES);
 
 pub(crate) const LATER_FIELDS: Entry = (0x2010_0018, LATER_VERSION);
 
-// Names of files, each for the slot of its number.
+// Names of files. The digit is the slot.
 pub(crate) const A0: Entry = (0x0010_0001, b"a");
 
 pub(crate) const B0: Entry = (0x0010_0001, b"b");
@@ -64,7 +65,7 @@ pub(crate) const B2: Entry = (0x0010_0801, b"b");
 
 pub(crate) const AB2: Entry = (0x0010_0802, b"ab");
 
-// Structs of files: without bytes, and lists of three bytes in block 2.
+// Structs of files: empty inline files, and lists of three bytes in block 2.
 pub(crate) const EMPTY0: Entry = (0x2010_0000, b"");
 
 pub(crate) const EMPTY1: Entry = (0x2010_0400, b"");
@@ -77,7 +78,7 @@ pub(crate) const LIST1: Entry = (0x2020_0408, PAIR);
 
 pub(crate) const LIST2: Entry = (0x2020_0808, PAIR);
 
-// Names of directories, and their structs: to the pair 2 3, and to the root's.
+// Names of directories, and their structs, which point to the pair 2 3 or to the root's pair.
 pub(crate) const D1: Entry = (0x0020_0401, b"d");
 
 pub(crate) const E2: Entry = (0x0020_0801, b"e");
@@ -92,7 +93,7 @@ pub(crate) const TO_PAIR3: Entry = (0x2000_0c08, PAIR);
 
 pub(crate) const TO_ROOT1: Entry = (0x2000_0408, FIRST);
 
-// Tails to the pair 2 3: of another directory, and of the same one.
+// Tails to the pair 2 3, which begins another directory or continues the same one.
 pub(crate) const NEXT_PAIR: Entry = (SOFT_TAIL, PAIR);
 
 pub(crate) const GOES_ON: Entry = (HARD_TAIL, PAIR);

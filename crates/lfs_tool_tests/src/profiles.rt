@@ -1,4 +1,4 @@
-// Images with other versions and limits, and what is made with other limits.
+// Images with other versions and limits, and the creation of images with other limits.
 
 use crate::checks::FRESH;
 use crate::log_entries::{A1, GOES_ON, LATER_FIELDS, PLAIN_FIELDS, SHORT_FIELDS, SUPERBLOCK};
@@ -11,7 +11,7 @@ use lfs_tool::{ImageLayout, Stream};
 use std::alloc::{AllocError, Global};
 use std::test::Fail;
 
-// What is accepted and written by default, and the same with version 2.1.
+// The default profile, and the same profile with version 2.1 also accepted.
 const DEFAULT: Profile = Profile {
     versions: AcceptedVersions::OnlyTwoZero,
     name_max: 255,
@@ -27,7 +27,7 @@ const ALSO: Profile = Profile {
     ..DEFAULT
 };
 
-// The same with names of at most 32 bytes, and with files of at most 64 bytes in their folder.
+// Profiles with names of at most 32 bytes, and with inline files of at most 64 bytes.
 const SHORT: Profile = Profile {
     name_max: 32,
     ..DEFAULT
@@ -38,7 +38,7 @@ const SMALL: Profile = Profile {
     ..DEFAULT
 };
 
-// Superblocks: of version 2.2, and with a smaller limit of a file and of an attribute.
+// Superblocks of version 2.2, and with smaller limits for files and attributes.
 const NO_VERSION: &[u8] = &[
     2, 0, 2, 0, 0, 16, 0, 0, 16, 0, 0, 0, 255, 0, 0, 0, 255, 255, 255, 127, 254, 3, 0, 0,
 ];
@@ -51,7 +51,8 @@ const SHORT_ATTRIBUTES: &[u8] = &[
     0, 0, 2, 0, 0, 16, 0, 0, 16, 0, 0, 0, 255, 0, 0, 0, 255, 255, 255, 127, 100, 0, 0, 0,
 ];
 
-// A first block that littlefs has compacted: a file stands between the superblock's name and its struct.
+// A first block that littlefs has compacted, so that a file comes between the superblock's name and
+// its struct.
 const COMPACTED: BlockFilling<'static> = Commit(&[
     SUPERBLOCK,
     A1,
@@ -64,8 +65,8 @@ const OTHER_NUMBERS: &[u8] = &[
     1, 0, 2, 0, 0, 16, 0, 0, 16, 0, 0, 0, 64, 0, 0, 0, 0, 1, 0, 0, 100, 0, 0, 0,
 ];
 
-// The first two blocks of an image of littlefs 2.11. A file was made in version 2.0, and written twice in version 2.1.
-// Both times the pair was compacted.
+// The first two blocks of an image that littlefs 2.11 has changed. A file was created in version
+// 2.0 and written twice in version 2.1. Both times the pair was compacted.
 const FIRMWARE_FIRST: &[u8] =
     b"\x02\0\0\0\xf0\x0f\xff\xf7littlefs\x0f\xe0\x04\x09a \0\0\x1dxxxxxxxxxxxxxxxxxxxxxxxxxxxx\0\0\x04\x04\
     \x01\0\x02\0\0\x10\0\0\x10\0\0\0\xff\0\0\0\xff\xff\xff\x7f\xfe\x03\0\0\
@@ -95,14 +96,16 @@ const FORMATTED_BLOCKS: &[(usize, BlockFilling<'static>)] = &[
     (1, Bytes(FORMATTED_SECOND)),
 ];
 
-// The second pair of a superblock's chain, with a superblock of version 2.1, one of 2.0, and one with another limit.
+// The second pair of a superblock chain, with a superblock of version 2.1, of version 2.0, or with
+// another limit.
 const LATER_ROOT: &[(usize, BlockFilling<'static>)] = &[(2, Commit(&[SUPERBLOCK, LATER_FIELDS]))];
 
 const PLAIN_ROOT: &[(usize, BlockFilling<'static>)] = &[(2, Commit(&[SUPERBLOCK, PLAIN_FIELDS]))];
 
 const OTHER_ROOT: &[(usize, BlockFilling<'static>)] = &[(2, Commit(&[SUPERBLOCK, SHORT_FIELDS]))];
 
-// An image, by its second commit and its other blocks; a profile; and the lines of its check.
+// An image, a profile, and the lines of the check. The image has a second commit in its first
+// block, and some other blocks.
 type Row<'a> = (
     FixtureEntries<'a>,
     &'a [(usize, BlockFilling<'a>)],
@@ -110,7 +113,7 @@ type Row<'a> = (
     &'a str,
 );
 
-// The lines of an image of version 2.1 with a file.
+// The lines for an image of version 2.1 with a file.
 const LATER_FILE: &str =
     "ok\nfiles 1\ndirectories 0\nused 2 of 16 blocks\nfree 14\norder either\nversion 2.1\nrecover no\nwritable yes\n";
 
@@ -135,7 +138,7 @@ const CHECKED: [Row<'static>; 23] = [
         ALSO,
         "corrupt\npair 0 1, superblock: version 2.2\n",
     ),
-    // superblocks that differ in the version, and in something else
+    // superblocks that differ in more than their version
     (
         &[GOES_ON],
         LATER_ROOT,
@@ -160,7 +163,7 @@ const CHECKED: [Row<'static>; 23] = [
         ALSO,
         "corrupt\npair 2 3, superblock: another one than in pair 0 1\n",
     ),
-    // a superblock's struct that doesn't stand behind its name
+    // a superblock whose struct doesn't follow its name
     (
         &[],
         &[(0, COMPACTED)],
@@ -252,7 +255,7 @@ const CHECKED: [Row<'static>; 23] = [
     ),
 ];
 
-// Whether an image has these lines where it is checked with the profile.
+// Returns whether checking an image with the profile gives the expected lines.
 fn has_expected_check_text(alloc: Global, row: Row<'_>) -> Result<bool, AllocError> {
     let (entries, others, profile, wanted) = row;
     let image = image_with_commit(alloc, entries, others)?;
@@ -269,7 +272,7 @@ fn profiles_are_checked(rt: HostRuntime) -> Result<(), Fail> {
     Ok(())
 }
 
-// Whether an image of version 2.1 with a file is listed and unpacked so.
+// Returns whether an image of version 2.1 with a file is listed and unpacked as expected.
 fn is_later_image_read_as(
     alloc: Global,
     profile: Profile,
@@ -302,18 +305,19 @@ const NAME_TOO_LONG: &str = "error: NameTooLong (36)\n";
 
 const TOO_BIG: &str = "error: TooBig (27)\n";
 
-// Files of at most 1,000 bytes.
+// A profile with files of at most 1,000 bytes.
 const SHORT_FILE: Profile = Profile {
     file_max: 1000,
     ..DEFAULT
 };
 
-// Names of 32 and of 33 bytes.
+// Names of 32 and 33 bytes.
 const NAME_32: &[u8] = b"/nnnnnnnnnnnnnnnnnnnnnnnnnnnnnnnn";
 
 const NAME_33: &[u8] = b"/nnnnnnnnnnnnnnnnnnnnnnnnnnnnnnnnn";
 
-// A source, a profile, and the error of a making, or the lines of the image's check.
+// A source, a profile, and the expected result: the error of the creation, or the lines of a check
+// of the image.
 const MADE: [(Items<'static>, Profile, &str); 9] = [
     (
         &[(NAME_32, Some(b""))],
@@ -333,7 +337,7 @@ const MADE: [(Items<'static>, Profile, &str); 9] = [
         "ok\nfiles 1\ndirectories 0\nused 3 of 16 blocks\nfree 13\norder either\nfile_max 1000\nrecover no\nwritable yes\n",
     ),
     (&[(b"/a", Some(&[7; 1001]))], SHORT_FILE, TOO_BIG),
-    // a file that isn't inline takes a block
+    // the largest inline file, and a larger file, which needs a block
     (
         &[(b"/a", Some(&[7; 64]))],
         SMALL,
@@ -344,7 +348,7 @@ const MADE: [(Items<'static>, Profile, &str); 9] = [
         SMALL,
         "ok\nfiles 1\ndirectories 0\nused 3 of 16 blocks\nfree 13\norder either\nrecover no\nwritable yes\n",
     ),
-    // an image of version 2.0 is made
+    // an image of version 2.0, which is created even if version 2.1 is accepted
     (
         &[(b"/a", Some(&[7; 512]))],
         ALSO,
@@ -352,7 +356,8 @@ const MADE: [(Items<'static>, Profile, &str); 9] = [
     ),
 ];
 
-// What is shown where an image of a source is made with the profile, and then checked with its limits.
+// Creates an image of a source with the profile, and checks it with the same limits. Returns the
+// lines of the check, or the error of the creation.
 fn text_of_made_image(alloc: Global, items: Items<'_>, profile: Profile) -> Result<Vec<u8>, Error> {
     let mut source = memory_source_of_items(alloc, items)?;
     let geometry = Geometry::new(4096, 256, 16)?.with_profile(profile);

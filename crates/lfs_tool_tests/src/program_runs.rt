@@ -1,4 +1,4 @@
-// Runs of the program over real files: the rows, and what no row says.
+// Runs of the program on real files, for the rows and for cases that no row can express.
 
 use crate::runs::{RUNS, make_files, program_words, seconds_at, set_seconds, time_in_image};
 use lfs_tool::{FaultLog, Stream};
@@ -28,7 +28,7 @@ fn push_run(
     Ok(())
 }
 
-// A row with what its runs print now.
+// Runs the command lines of a row, and returns the row with their actual output.
 fn row_of_runs(rt: &HostRuntime, row: &str) -> io::Result<Vec<u8>> {
     make_files(rt)?;
     let mut text = Vec::new(rt.alloc());
@@ -86,7 +86,7 @@ fn times_are_kept_and_set(rt: HostRuntime) -> Result<(), Fail> {
     assert!(rt; run_line(&rt, "-u times/to --times times/image")?);
     assert_eq!(rt; seconds_at(&rt, "times/to/d/a")?, 1_000_000_000);
     assert_eq!(rt; seconds_at(&rt, "times/to/d")?, 0xffff_ffff);
-    // Without the option nothing is set.
+    // Without the option, no time is set.
     assert!(rt; run_line(&rt, "-u times/others times/image")?);
     assert!(rt; seconds_at(&rt, "times/others/d/a")? > 1_000_000_000);
     let image = fs::read(&rt, "times/image")?;

@@ -1,4 +1,4 @@
-// What is told of how far a work is.
+// The progress that tasks report.
 
 use crate::images::{BELOW, ENTRIES};
 use crate::sources::memory_source_of_items;
@@ -9,7 +9,7 @@ use lfs_tool::{FilesAndBytes, FollowsProgress, ImageLayout, MemoryTarget, Stream
 use std::alloc::{AllocError, Global};
 use std::test::Fail;
 
-// Keeps what it is told: the whole first.
+// Records the reported progress, the totals first.
 #[derive(Drop)]
 struct RecordedProgress {
     amounts: Vec<FilesAndBytes>,
@@ -33,7 +33,8 @@ fn no_progress_told(alloc: Global) -> RecordedProgress {
     }
 }
 
-// Whether these were told: the files and bytes of the whole, and of each entry.
+// Returns whether the recorded progress is as expected: the totals of files and bytes, and those of
+// each entry.
 fn is_progress_told(told: &RecordedProgress, wanted: &[(usize, usize)]) -> bool {
     let is_same = told.amounts.iter().zip(wanted).all(|(amount, (files, bytes))| amount.files
         == *files
@@ -41,7 +42,7 @@ fn is_progress_told(told: &RecordedProgress, wanted: &[(usize, usize)]) -> bool 
     is_same && told.amounts.len() == wanted.len() && !told.is_full
 }
 
-// What is told of an image that is made, of two files and a folder.
+// Returns the progress of creating an image of two files and a folder.
 fn progress_of_making_image(alloc: Global) -> Result<RecordedProgress, Error> {
     let mut source = memory_source_of_items(
         alloc,
@@ -58,7 +59,7 @@ fn progress_of_making_image(alloc: Global) -> Result<RecordedProgress, Error> {
     Ok(told)
 }
 
-// What is told of one that is unpacked.
+// Returns the progress of unpacking an image.
 fn progress_of_unpacking_image(alloc: Global) -> Result<RecordedProgress, AllocError> {
     let image = image_with_commit(alloc, ENTRIES, &[(2, BELOW)])?;
     let mut target = MemoryTarget {

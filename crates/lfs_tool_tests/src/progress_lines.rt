@@ -1,4 +1,4 @@
-// The line that says how far a work is, at a terminal and a clock of the test's own.
+// The progress line, on a terminal and with a clock that the test provides.
 
 use lfs_tool::{FilesAndBytes, FollowsProgress, ProgressLine};
 use std::cell::Cell;
@@ -8,7 +8,7 @@ use std::test::Fail;
 use std::time::{Clock, Duration};
 use std::{fs, io};
 
-// A terminal: a file, which takes so many bytes yet.
+// A terminal that is a file, with space for `room` more bytes.
 #[derive(Drop)]
 struct LimitedTerminal {
     file: File,
@@ -31,7 +31,7 @@ impl Write for LimitedTerminal {
     }
 }
 
-// A clock that goes on by so many milliseconds at each look, and fails without a step.
+// A clock that advances by `step` milliseconds whenever it is read. It fails if `step` is 0.
 #[derive(Drop)]
 struct TickingClock {
     now: Cell<u64>,
@@ -52,13 +52,13 @@ impl Clock for TickingClock {
     }
 }
 
-// A look at the clock takes so many milliseconds, so many files of 4 bytes are done, the terminal takes so
-// many bytes, and gets these.
+// The step of the clock in milliseconds, the number of files of 4 bytes, the number of bytes that
+// the terminal accepts, and the bytes that it receives.
 const LINES: [(u64, usize, usize, &str); 8] = [
-    // not for a second
+    // no line within the first second
     (100, 4, 999, ""),
     (500, 1, 999, ""),
-    // from then on, and then at most five times a second
+    // a line after the first second, and then at most five updates a second
     (500, 2, 999, "\r\x1b[K2 of 2 files, 8 of 8 bytes\r\x1b[K"),
     (
         100,
@@ -72,14 +72,15 @@ const LINES: [(u64, usize, usize, &str); 8] = [
         999,
         "\r\x1b[K2 of 3 files, 8 of 12 bytes\r\x1b[K3 of 3 files, 12 of 12 bytes\r\x1b[K",
     ),
-    // also before the first file is done
+    // a line before the first file is done
     (2000, 0, 999, "\r\x1b[K0 of 0 files, 0 of 0 bytes\r\x1b[K"),
-    // a write that fails, and a clock
+    // a failing write, and a failing clock
     (2000, 3, 5, "\r\x1b[K0"),
     (0, 3, 999, ""),
 ];
 
-// Does so many files, with a terminal at this file, or with what is none.
+// Reports the progress of the given number of files, with the file `shown` as output, which is or
+// isn't a terminal.
 fn write_progress_lines(
     rt: &HostRuntime,
     row: (u64, usize, usize),

@@ -1,4 +1,4 @@
-// Rows of runs of the program over real files, and their files; `bench/program_lines.py` has more.
+// Runs of the program on real files, as rows. `bench/program_lines.py` has more of them.
 
 use lfs_device::{Geometry, RamDevice};
 use lfs_fs::mount;
@@ -8,8 +8,9 @@ use std::os::unix::fs::symlink;
 use std::time::{Duration, UNIX_EPOCH};
 use std::{fs, io};
 
-/// Rows of runs: behind each its lines, its status where that isn't 0, and at the end how long the image is. An image of
-/// 14 bytes is there before each row. `%` ends a line without an end.
+/// Rows of command lines. Each line is followed by its output and, unless it is 0, its status. The
+/// last line of a row states the length of the image. Before each row, an image of 14 bytes exists.
+/// `%` marks output without a final newline.
 pub(crate) const RUNS: &str = r#"$ -c runs/files -s 16384 runs/image
 $ -l runs/image
 f 5 /a
@@ -163,7 +164,7 @@ status 1
 image: 14
 "#;
 
-/// Makes the files of a row.
+/// Creates the files for a row.
 pub(crate) fn make_files(rt: &HostRuntime) -> io::Result<()> {
     let _ = fs::remove_dir_all(rt, "runs");
     fs::create_dir_all(rt, "runs/files")?;
@@ -181,7 +182,7 @@ pub(crate) fn make_files(rt: &HostRuntime) -> io::Result<()> {
     fs::write(rt, "runs/image", b"an older image")
 }
 
-/// The words of a command line, which have a space between them.
+/// Returns the words of a command line, which are separated by spaces.
 pub(crate) fn program_words(alloc: Global, line: &str) -> Result<Vec<String>, AllocError> {
     let mut words = vec![in alloc; String::from_str(alloc, "mklittlefs")?]?;
     for word in line.split(' ') {
@@ -190,7 +191,7 @@ pub(crate) fn program_words(alloc: Global, line: &str) -> Result<Vec<String>, Al
     Ok(words)
 }
 
-/// Sets the time of what is at a path, in seconds since 1970.
+/// Sets the modification time of the file or folder at a path, in seconds since 1970.
 pub(crate) fn set_seconds(rt: &HostRuntime, path: &str, seconds: u64) -> io::Result<()> {
     let time = UNIX_EPOCH
         .checked_add(Duration::from_secs(seconds))
@@ -199,7 +200,7 @@ pub(crate) fn set_seconds(rt: &HostRuntime, path: &str, seconds: u64) -> io::Res
     Ok(())
 }
 
-/// The time of what is at a path.
+/// Returns the modification time of the file or folder at a path, in seconds since 1970.
 pub(crate) fn seconds_at(rt: &HostRuntime, path: &str) -> io::Result<u64> {
     let since = fs::metadata(rt, path)?
         .modified()?
@@ -207,7 +208,7 @@ pub(crate) fn seconds_at(rt: &HostRuntime, path: &str) -> io::Result<u64> {
     Ok(since.map(|time| time.as_secs()).unwrap_or(0))
 }
 
-/// The attribute of type `t` at a path of an image.
+/// Returns the attribute of type `t` at a path of an image.
 pub(crate) fn time_in_image(alloc: Global, image: &[u8], path: &[u8]) -> Option<Vec<u8>> {
     let count = u32::try_from(image.len() / 4096).ok()?;
     let geometry = Geometry::new(4096, 256, count).ok()?;

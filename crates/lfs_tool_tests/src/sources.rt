@@ -1,4 +1,4 @@
-// Sources, and what is read of them.
+// Sources, and the entries that are read from them.
 
 use lfs_tool::{
     FaultLog, FileError, Folder, FolderRules, MemorySource, Source, SourceEntry, read_tree,
@@ -8,10 +8,10 @@ use std::rt::Files;
 use std::test::Fail;
 use std::{fs, io};
 
-// What stands at paths: a file's bytes, and none for a folder.
+// Paths, each with the bytes of a file or None for a folder.
 pub(crate) type Items<'a> = &'a [(&'a [u8], Option<&'a [u8]>)];
 
-// A source in memory of these.
+// Returns a source in memory with these files and folders.
 pub(crate) fn memory_source_of_items(
     alloc: Global,
     items: Items<'_>,
@@ -32,7 +32,7 @@ pub(crate) fn memory_source_of_items(
     Ok(MemorySource::new(held))
 }
 
-// Whether these are the entries of a source, in this order.
+// Returns whether the entries of a source are the expected ones, in this order.
 fn is_source_read_as_items<S: Source>(
     alloc: Global,
     source: &mut S,
@@ -52,7 +52,7 @@ fn is_source_read_as_items<S: Source>(
     Ok(entries.len() == wanted.len())
 }
 
-// Sources, and what is read of them in turn.
+// Sources, and the entries that are read from them.
 const READ: [(Items<'static>, Items<'static>); 2] = [
     (
         &[
@@ -86,7 +86,7 @@ const READ: [(Items<'static>, Items<'static>); 2] = [
     ),
 ];
 
-// Sources with a name that can't stand where it does.
+// Sources with a name that isn't allowed in a path.
 const BAD: [Items<'static>; 6] = [
     &[(b"/", Some(b""))],
     &[(b"/.", Some(b""))],
@@ -111,7 +111,8 @@ fn sources_are_read(rt: HostRuntime) -> Result<(), Fail> {
     Ok(())
 }
 
-// A folder whose name isn't text, one that is not there, and a folder that is read as a file.
+// A folder with a name that isn't UTF-8, a folder that doesn't exist, and a folder that is read as
+// a file.
 #[test]
 fn real_folders_report_faults(rt: HostRuntime) -> Result<(), Fail> {
     fs::create_dir_all(&rt, "source_folder/d")?;
@@ -126,10 +127,10 @@ fn real_folders_report_faults(rt: HostRuntime) -> Result<(), Fail> {
     Ok(())
 }
 
-// Lengths of files, about those of single reads.
+// Lengths of files around those of a single read.
 const LENGTHS: [usize; 8] = [0, 1, 511, 512, 8191, 8192, 8193, 100_000];
 
-// Whether a folder gives all of a file of so many bytes, which had others when it was listed.
+// Returns whether all `len` bytes of a file are read, even if it was listed with another length.
 fn is_read_whole<R: Files + AllocGlobal + Clone + Drop>(
     rt: &R,
     folder: &mut Folder<'_, R>,
@@ -162,7 +163,7 @@ fn real_files_are_read_whole(rt: HostRuntime) -> Result<(), Fail> {
     Ok(())
 }
 
-// A file that says that it has no bytes, and gives what it has to the first read alone.
+// A file that reports a length of 0, and returns its bytes only to the first read.
 #[test]
 fn files_of_no_stated_length_are_read(rt: HostRuntime) -> Result<(), Fail> {
     let log = FaultLog::new();

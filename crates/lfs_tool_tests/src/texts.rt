@@ -1,4 +1,4 @@
-// What the tool shows, as text.
+// The output of the tool as text.
 
 use lfs_device::Geometry;
 use lfs_model::NameOrder;
@@ -10,7 +10,7 @@ use lfs_tool_run::{create, read_source_entries};
 use std::alloc::{AllocError, Global};
 use std::io::Write;
 
-// What is shown of a fault: the status, and what goes to `out` and to `err`.
+// The report of a fault: the status, and the bytes written to `out` and to `err`.
 #[derive(Drop)]
 pub(crate) struct Report {
     pub(crate) status: u8,
@@ -29,7 +29,7 @@ pub(crate) fn report_of(alloc: Global, fault: &Fault) -> Report {
     }
 }
 
-// What was written, and behind it the line of an error.
+// Returns the bytes that were written, with the error line appended if there is an error.
 pub(crate) fn with_error_line(
     alloc: Global,
     written: Vec<u8>,
@@ -43,7 +43,7 @@ pub(crate) fn with_error_line(
     Ok(text)
 }
 
-// What listing an image prints.
+// Returns what listing an image prints.
 pub(crate) fn list_text(
     alloc: Global,
     image: &[u8],
@@ -54,7 +54,7 @@ pub(crate) fn list_text(
     with_error_line(alloc, out.into_inner(), answer)
 }
 
-// What checking an image prints.
+// Returns what checking an image prints.
 pub(crate) fn check_text(
     alloc: Global,
     image: &[u8],
@@ -82,7 +82,7 @@ fn push_unpacked_entry(text: &mut Vec<u8>, done: &TargetAction) -> Result<(), Al
     Ok(())
 }
 
-// What is done where an image is unpacked.
+// Returns the actions that unpacking an image does, as text.
 pub(crate) fn unpack_text(
     alloc: Global,
     image: &[u8],
@@ -99,7 +99,7 @@ pub(crate) fn unpack_text(
     with_error_line(alloc, text, answer)
 }
 
-// Writes the image of all that a source has.
+// Writes the image of a source.
 pub(crate) fn create_of_source<S: Source, W: Write, F: FollowsProgress>(
     alloc: Global,
     source: &mut S,

@@ -1,4 +1,4 @@
-// Images that are written whole or not at all.
+// Images that are written completely or not at all.
 
 use crate::limited_files::{LimitedFiles, Refusal};
 use lfs_tool::NewImage;
@@ -15,7 +15,7 @@ const IMAGE: &[u8] = b"the bytes of a new image";
 
 const OLD: &[u8] = b"an old image";
 
-// What stands at the path. A link leads to a file in another folder.
+// What is at the path before the image is written. A link points to a file in another folder.
 #[derive(Clone, Copy, PartialEq, Eq, Debug)]
 enum Standing {
     Nothing,
@@ -23,8 +23,8 @@ enum Standing {
     Link,
 }
 
-// What stands at the path, how many bytes are taken, what is refused, whether the image is made, and the bytes at the
-// path then.
+// What is at the path before, how many bytes can be written, which calls are refused, whether the
+// image is created, and the bytes that are then at the path.
 const ROWS: [(Standing, usize, Refusal, bool, Option<&[u8]>); 12] = [
     (Standing::Nothing, 24, Refusal::Nothing, true, Some(IMAGE)),
     (Standing::Nothing, 23, Refusal::Nothing, false, None),
@@ -46,7 +46,7 @@ const ROWS: [(Standing, usize, Refusal, bool, Option<&[u8]>); 12] = [
     (Standing::File, 23, Refusal::Renames, false, Some(OLD)),
 ];
 
-// Makes the folder anew, in which that stands at the path.
+// Recreates the folder, with this at the path.
 fn make_folder(rt: &HostRuntime, standing: Standing) -> io::Result<()> {
     let _ = fs::remove_dir_all(rt, "whole");
     fs::create_dir_all(rt, "whole")?;
@@ -60,7 +60,7 @@ fn make_folder(rt: &HostRuntime, standing: Standing) -> io::Result<()> {
     }
 }
 
-// The names in the folder.
+// Returns the number of names in the folder.
 fn count_names(rt: &HostRuntime) -> io::Result<usize> {
     let mut count = 0usize;
     for entry in fs::read_dir(rt, "whole")? {
@@ -78,8 +78,8 @@ fn write_new_image<'a, R: Files>(rt: &HostRuntime, files: &'a R) -> io::Result<N
     Ok(image)
 }
 
-// Whether an image that isn't put in its place leaves what was there, and whether names that are taken are left alone, and
-// the permissions of the old file are kept.
+// Returns whether an image that isn't moved to its path leaves the old file there. Also checks that
+// another run's temporary file stays, and that the image gets the old file's permissions.
 fn are_old_images_and_names_kept(rt: &HostRuntime) -> io::Result<bool> {
     make_folder(rt, Standing::File)?;
     fs::set_permissions(rt, PATH, Permissions::from_mode(0o640))?;
@@ -93,7 +93,7 @@ fn are_old_images_and_names_kept(rt: &HostRuntime) -> io::Result<bool> {
     Ok(fs::read(rt, PATH)?.as_slice() == IMAGE && count_names(rt)? == 2 && mode == 0o640)
 }
 
-// Whether nothing is made where nothing is written.
+// Returns whether no file is created if nothing is written.
 fn is_nothing_made_unwritten(rt: &HostRuntime) -> io::Result<bool> {
     make_folder(rt, Standing::Nothing)?;
     let mut image = NewImage::new(rt.alloc(), rt, PATH)?;

@@ -1,5 +1,6 @@
 // SPDX-License-Identifier: BSD-3-Clause
-//! mklittlefs: makes an image of a littlefs file system from a folder, unpacks one into a folder, lists one, or checks one.
+//! The program mklittlefs, which creates, unpacks, lists, checks or changes an image of a littlefs
+//! file system.
 #![tactic(auto)]
 
 use lfs_tool::{FaultLog, Stream};
@@ -8,12 +9,13 @@ use std::io::IsTerminal;
 use std::process::ExitCode;
 use std::{env, io};
 
-// The words of the command line, the program's name first.
+// Returns the words of the command line, of which the first is the program's name.
 fn read_command_line_words(rt: &HostRuntime) -> io::Result<Vec<String>> {
     Ok(env::args(rt)?.collect(rt.alloc())?)
 }
 
-// Returns whether errors are explained: as the environment says, and else if standard error is a terminal.
+// Returns whether errors are explained. The environment variable decides if it is set, and
+// otherwise whether standard error is a terminal.
 fn is_explanation_wanted(rt: &HostRuntime) -> bool {
     match env::var(rt, "MKLITTLEFS_EXPLAIN") {
         Ok(value) if value.as_str() == "1" => true,

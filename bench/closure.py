@@ -23,7 +23,7 @@ TOP = os.path.dirname(os.path.dirname(os.path.abspath(__file__)))
 WORD = re.compile(r"[^\s(){};,.λ∷]+")
 STARTS = re.compile(r"^(?:abbrev |pub |unfoldable |private )*(?:record|data|syntax )?")
 HEADLINE = ["LifeHeadline.LifeMatchesDisk"]
-POWER_LOSS = ["RepeatedPowerLoss.CrashSafe", "RepeatedPowerLoss.MeetsRunPremises", "LifeTrees.LeavesTreeOfLife", "LifeTrees.MayLosePower"]
+POWER_LOSS = ["RepeatedPowerLoss.CrashSafe", "RepeatedPowerLoss.MeetsCrashSafetyPremises", "LifeTrees.LeavesTreeOfLife", "LifeTrees.HasWritableDiskTree"]
 
 
 def without_comments(text):

@@ -3,12 +3,14 @@
 ghost use Rattle.std.specs.Prelude.{◌≡◌, ◌≤◌, ◌<◌, ◌+◌, ◌*◌, length, replicate};
 ghost use Rattle.lfs_model.specs.format.Blocks.{cut, overwritten_at};
 ghost use Rattle.lfs_model.specs.crash.Conformance.{CallsConform};
-ghost use Rattle.lfs_model.specs.session.History.{LeftByLatest};
+ghost use Rattle.lfs_model.specs.session.History.{LeftByLatestCall};
 ghost use Rattle.lfs_device.specs.Bytes.{ElementsAreBytes};
 
 use lfs_device::{BlockDevice, Error, Geometry, Trace};
 use lfs_fs::format;
-use saved_files::{append_to_log, raise_counter, read_settings, save_settings, set_counter, start};
+use saved_files::{
+    append_to_log, increment_counter, read_settings, save_settings, set_counter, start,
+};
 use std::alloc::Global;
 use std::{io, str};
 
@@ -21,7 +23,7 @@ struct Chip {
     trace: Trace,
     ghost are_bytes: { ElementsAreBytes bytes.items },
     ghost size: { length bytes.items ≡ geometry.block_size * geometry.block_count },
-    ghost newest: { LeftByLatest trace.events (cut geometry.block_size geometry.block_count bytes.items) },
+    ghost newest: { LeftByLatestCall trace.events (cut geometry.block_size geometry.block_count bytes.items) },
     ghost conforms: { CallsConform trace.events },
 }
 
@@ -140,7 +142,7 @@ fn keep_files(alloc: Global) -> Result<(Vec<u8>, u32), Error> {
     save_settings(&mut session, alloc, b"contrast 3")?;
     append_to_log(&mut session, alloc, b"started\n")?;
     set_counter(&mut session, alloc, 41)?;
-    let number = raise_counter(&mut session, alloc)?;
+    let number = increment_counter(&mut session, alloc)?;
     save_settings(&mut session, alloc, b"contrast 5")?;
     let mut next = start(alloc, session.unmount())?;
     Ok((read_settings(&mut next, alloc)?, number))

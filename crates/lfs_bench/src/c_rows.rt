@@ -1,7 +1,7 @@
 // The benchmarks that bench/against_c.py compares with littlefs's own code. Each is called a row.
 
 use crate::counting_device::{CountingDevice, Counts};
-use crate::files::{self, Measured, no_memory_error, write_new_file};
+use crate::files::{self, CountingSession, no_memory_error, write_new_file};
 use crate::{contents, wear};
 use lfs_device::{Error, Geometry, Profile, RamDevice};
 use lfs_fs::format;
@@ -79,7 +79,7 @@ fn row_of_name(name: &str) -> Option<Row> {
 
 /// The settings of the device that a row runs on.
 #[derive(Clone, Copy)]
-pub struct RowDevice {
+pub struct BenchmarkDeviceSettings {
     /// The number of blocks, of 4,096 bytes each.
     pub blocks: u32,
     /// The number of compactions after which a metadata pair is relocated, or 0 for never.
@@ -89,7 +89,10 @@ pub struct RowDevice {
 }
 
 // Makes an empty file system on a device in memory.
-fn formatted_session(alloc: Global, row: RowDevice) -> Result<Measured, Error> {
+fn format_row_device(
+    alloc: Global,
+    row: BenchmarkDeviceSettings,
+) -> Result<CountingSession, Error> {
     let mut profile = Profile::new();
     profile.pair_cycles = row.pair_cycles;
     let geometry = Geometry::new(BLOCK, 256, row.blocks)?.with_profile(profile);
@@ -108,7 +111,7 @@ fn formatted_session(alloc: Global, row: RowDevice) -> Result<Measured, Error> {
 // Makes the files that a row needs before it is measured.
 fn make_row_files(
     alloc: Global,
-    session: &mut Measured,
+    session: &mut CountingSession,
     row: Row,
     bytes: &Buffer,
     count: u32,
@@ -145,16 +148,16 @@ fn make_row_files(
 // Performs the operations of a row, and returns the last session. Only these operations are timed.
 fn perform_benchmark_row(
     alloc: Global,
-    session: Measured,
+    session: CountingSession,
     row: Row,
     bytes: &mut Buffer,
     count: u32,
-) -> Result<Measured, Error> {
+) -> Result<CountingSession, Error> {
     let mut session = session;
     match row {
         Row::Wear => wear::perform_pseudorandom_operations(alloc, session, count),
         Row::BootLog => wear::append_each_mount(alloc, session, count),
-        Row::BootCount => wear::count_each_mount(alloc, session, count),
+        Row::BootCount => wear::rewrite_each_mount(alloc, session, count),
         _ => {
             perform_row_in_session(alloc, &mut session, row, bytes, count)?;
             Ok(session)
@@ -165,7 +168,7 @@ fn perform_benchmark_row(
 // Performs the operations of a row that doesn't measure wear.
 fn perform_row_in_session(
     alloc: Global,
-    session: &mut Measured,
+    session: &mut CountingSession,
     row: Row,
     bytes: &mut Buffer,
     count: u32,
@@ -223,7 +226,7 @@ fn print_device_call_counts(
 }
 
 // Prints the number of erases of each block, one per line.
-fn show_erases(rt: &HostRuntime, session: &Measured) -> io::Result<()> {
+fn print_erase_counts(rt: &HostRuntime, session: &CountingSession) -> io::Result<()> {
     for count in session.device().erase_counts() {
         println!(rt; "{count}")?;
     }
@@ -234,7 +237,7 @@ fn show_erases(rt: &HostRuntime, session: &Measured) -> io::Result<()> {
 // wear, also prints the number of erases of each block.
 fn measure_benchmark_row(
     rt: &HostRuntime,
-    session: Measured,
+    session: CountingSession,
     row: Row,
     name: &str,
     count: u32,
@@ -255,7 +258,7 @@ fn measure_benchmark_row(
     let counts = session.device().counts().since(&before);
     print_device_call_counts(rt, name, &counts, time.as_nanos())?;
     match row {
-        Row::Wear | Row::BootLog | Row::BootCount => show_erases(rt, &session),
+        Row::Wear | Row::BootLog | Row::BootCount => print_erase_counts(rt, &session),
         _ => Ok(()),
     }
 }
@@ -266,13 +269,13 @@ fn measure_benchmark_row(
 pub fn run_benchmark_row(
     rt: &HostRuntime,
     name: &str,
-    device: RowDevice,
+    device: BenchmarkDeviceSettings,
     count: u32,
 ) -> io::Result<()> {
     let Some(row) = row_of_name(name) else {
         return eprintln!(rt; "there is no such row");
     };
-    match formatted_session(rt.alloc(), device) {
+    match format_row_device(rt.alloc(), device) {
         Ok(session) => measure_benchmark_row(rt, session, row, name, count),
         Err(error) => println!(rt; "{error:?}"),
     }

@@ -1,6 +1,6 @@
 // Writes and reads of files for the benchmarks against littlefs's own code.
 
-use crate::files::{Measured, file_path, write_new_file};
+use crate::files::{CountingSession, file_path, write_new_file};
 use lfs_device::Error;
 use lfs_fs::OpenFlags;
 use std::alloc::Global;
@@ -16,7 +16,7 @@ fn replace_open_flags() -> OpenFlags {
 /// Appends bytes to a file, which is created if it is missing.
 pub fn append_bytes_to_file(
     alloc: Global,
-    session: &mut Measured,
+    session: &mut CountingSession,
     path: &[u8],
     bytes: &[u8],
 ) -> Result<(), Error> {
@@ -28,7 +28,7 @@ pub fn append_bytes_to_file(
 /// Replaces the contents of a file, or creates the file.
 pub fn replace_file_contents(
     alloc: Global,
-    session: &mut Measured,
+    session: &mut CountingSession,
     path: &[u8],
     bytes: &[u8],
 ) -> Result<(), Error> {
@@ -51,7 +51,7 @@ pub struct Pieces<'a> {
 #[inline(never)]
 pub fn write_pieces(
     alloc: Global,
-    session: &mut Measured,
+    session: &mut CountingSession,
     pieces: Pieces<'_>,
 ) -> Result<(), Error> {
     let flags = if pieces.are_appended {
@@ -72,7 +72,7 @@ pub fn write_pieces(
 /// Opens a file, appends bytes and closes the file, `count` times.
 pub fn open_and_append(
     alloc: Global,
-    session: &mut Measured,
+    session: &mut CountingSession,
     bytes: &[u8],
     count: u32,
 ) -> Result<(), Error> {
@@ -85,7 +85,7 @@ pub fn open_and_append(
 /// Writes a file that repeats a piece `count` times.
 pub fn write_file_in_pieces(
     alloc: Global,
-    session: &mut Measured,
+    session: &mut CountingSession,
     path: &[u8],
     piece: &[u8],
     count: u32,
@@ -102,7 +102,7 @@ pub fn write_file_in_pieces(
 /// Appends bytes to an open file and syncs it, `count` times.
 pub fn append_and_sync(
     alloc: Global,
-    session: &mut Measured,
+    session: &mut CountingSession,
     bytes: &[u8],
     count: u32,
 ) -> Result<(), Error> {
@@ -118,7 +118,7 @@ pub fn append_and_sync(
 /// Reads `count` pieces of a file into the buffer `piece`.
 pub fn read_file_in_pieces(
     alloc: Global,
-    session: &mut Measured,
+    session: &mut CountingSession,
     path: &[u8],
     piece: &mut [u8],
     count: u32,
@@ -133,7 +133,7 @@ pub fn read_file_in_pieces(
 /// Reads a piece at pseudorandom offsets of a file of 1 MiB, `count` times.
 pub fn read_at_random_positions(
     alloc: Global,
-    session: &mut Measured,
+    session: &mut CountingSession,
     piece: &mut [u8],
     count: u32,
 ) -> Result<(), Error> {
@@ -150,7 +150,7 @@ pub fn read_at_random_positions(
 /// Overwrites ten bytes near the beginning of a file of 1 MiB, `count` times.
 pub fn overwrite_bytes_repeatedly(
     alloc: Global,
-    session: &mut Measured,
+    session: &mut CountingSession,
     count: u32,
 ) -> Result<(), Error> {
     for _ in 0..count {
@@ -165,7 +165,7 @@ pub fn overwrite_bytes_repeatedly(
 /// Replaces the contents of a file with four other bytes, `count` times.
 pub fn replace_small_file_repeatedly(
     alloc: Global,
-    session: &mut Measured,
+    session: &mut CountingSession,
     count: u32,
 ) -> Result<(), Error> {
     let mut bytes = [b'a'; 4];
@@ -177,7 +177,7 @@ pub fn replace_small_file_repeatedly(
 }
 
 /// Nearly fills the root's metadata pair with seven files of 512 bytes.
-pub fn fill_root_pair_nearly(alloc: Global, session: &mut Measured) -> Result<(), Error> {
+pub fn fill_root_pair_nearly(alloc: Global, session: &mut CountingSession) -> Result<(), Error> {
     write_new_file(alloc, session, b"/f90000", b"hell")?;
     for number in 0..7 {
         let path = file_path(alloc, number, 0)?;
@@ -189,7 +189,7 @@ pub fn fill_root_pair_nearly(alloc: Global, session: &mut Measured) -> Result<()
 /// Writes ten bytes to an open file, `count` times.
 pub fn write_ten_bytes_repeatedly(
     alloc: Global,
-    session: &mut Measured,
+    session: &mut CountingSession,
     count: u32,
 ) -> Result<(), Error> {
     let fd = session.open(alloc, b"/tiny", OpenFlags::WRITE | OpenFlags::CREATE)?;

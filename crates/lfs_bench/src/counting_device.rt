@@ -41,7 +41,7 @@ impl Counts {
 
 // The counts of the calls, and what is needed to check their order.
 #[derive(Clone, Copy)]
-struct CallSequence {
+struct CallCounter {
     counts: Counts,
     // The block that was erased last, until it is programmed.
     erased: Option<u32>,
@@ -49,7 +49,7 @@ struct CallSequence {
     last: Option<u32>,
 }
 
-impl CallSequence {
+impl CallCounter {
     fn count_read_call(&mut self, bytes: usize) {
         self.counts.reads = self.counts.reads.saturating_add(1);
         self.counts.read_bytes = self.counts.read_bytes.saturating_add(bytes as u64);
@@ -79,7 +79,7 @@ impl CallSequence {
 #[derive(Drop)]
 pub struct CountingDevice<D: BlockDevice> {
     inner: D,
-    turns: CallSequence,
+    turns: CallCounter,
     // The number of erases of each block. Blocks past the end of this list aren't counted.
     erased: Vec<u32>,
 }
@@ -93,7 +93,7 @@ impl<D: BlockDevice> CountingDevice<D> {
     pub fn with_erase_counts(inner: D, erased: Vec<u32>) -> CountingDevice<D> {
         CountingDevice {
             inner,
-            turns: CallSequence {
+            turns: CallCounter {
                 counts: Counts::NONE,
                 erased: None,
                 last: None,

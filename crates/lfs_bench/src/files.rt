@@ -6,7 +6,7 @@ use lfs_fs::{OpenFlags, Session};
 use std::alloc::Global;
 
 /// The session that the benchmarks work on.
-pub type Measured = Session<CountingDevice<RamDevice>>;
+pub type CountingSession = Session<CountingDevice<RamDevice>>;
 
 /// Converts any allocation error to `NoMemory`.
 pub fn no_memory_error<T: Drop>(_: T) -> Error {
@@ -52,7 +52,7 @@ pub fn file_path(alloc: Global, number: u32, directories: u32) -> Result<Vec<u8>
 /// Writes a new file.
 pub fn write_new_file(
     alloc: Global,
-    session: &mut Measured,
+    session: &mut CountingSession,
     path: &[u8],
     bytes: &[u8],
 ) -> Result<(), Error> {
@@ -62,7 +62,11 @@ pub fn write_new_file(
 }
 
 /// Makes directories 0 to `count - 1` in the root.
-pub fn make_directories(alloc: Global, session: &mut Measured, count: u32) -> Result<(), Error> {
+pub fn make_directories(
+    alloc: Global,
+    session: &mut CountingSession,
+    count: u32,
+) -> Result<(), Error> {
     for number in 0..count {
         let path = directory_path(alloc, number)?;
         session.mkdir(alloc, path.as_slice())?;
@@ -73,7 +77,7 @@ pub fn make_directories(alloc: Global, session: &mut Measured, count: u32) -> Re
 /// Makes files 0 to `count - 1` with the same contents.
 pub fn make_files(
     alloc: Global,
-    session: &mut Measured,
+    session: &mut CountingSession,
     bytes: &[u8],
     count: u32,
     directories: u32,
@@ -88,7 +92,7 @@ pub fn make_files(
 /// Calls `stat` for `count` files, in steps of seven.
 pub fn stat_files(
     alloc: Global,
-    session: &mut Measured,
+    session: &mut CountingSession,
     count: u32,
     directories: u32,
 ) -> Result<(), Error> {
@@ -103,7 +107,7 @@ pub fn stat_files(
 /// Removes files 0 to `count - 1`.
 pub fn remove_files(
     alloc: Global,
-    session: &mut Measured,
+    session: &mut CountingSession,
     count: u32,
     directories: u32,
 ) -> Result<(), Error> {
@@ -115,7 +119,7 @@ pub fn remove_files(
 }
 
 /// Lists the root directory.
-pub fn list_root(alloc: Global, session: &mut Measured) -> Result<(), Error> {
+pub fn list_root(alloc: Global, session: &mut CountingSession) -> Result<(), Error> {
     session.list(alloc, b"/")?;
     Ok(())
 }
@@ -123,7 +127,7 @@ pub fn list_root(alloc: Global, session: &mut Measured) -> Result<(), Error> {
 /// Renames one file back and forth, `count` times in all.
 pub fn rename_often(
     alloc: Global,
-    session: &mut Measured,
+    session: &mut CountingSession,
     count: u32,
     other: &[u8],
 ) -> Result<(), Error> {
@@ -140,7 +144,7 @@ pub fn rename_often(
 /// Sets an attribute of 16 bytes, `count` times.
 pub fn set_attribute_repeatedly(
     alloc: Global,
-    session: &mut Measured,
+    session: &mut CountingSession,
     count: u32,
 ) -> Result<(), Error> {
     let mut bytes = [b'a'; 16];
@@ -152,7 +156,7 @@ pub fn set_attribute_repeatedly(
 }
 
 /// Makes a file beneath 12 nested directories.
-pub fn make_deeply_nested_file(alloc: Global, session: &mut Measured) -> Result<(), Error> {
+pub fn make_deeply_nested_file(alloc: Global, session: &mut CountingSession) -> Result<(), Error> {
     let mut path = Vec::new(alloc);
     for _ in 0..12 {
         path.extend_from_slice(b"/dd").map_err(no_memory_error)?;
@@ -165,7 +169,7 @@ pub fn make_deeply_nested_file(alloc: Global, session: &mut Measured) -> Result<
 /// Calls `stat` for the file of `make_deeply_nested_file`, `count` times.
 pub fn stat_deeply_nested_file(
     alloc: Global,
-    session: &mut Measured,
+    session: &mut CountingSession,
     count: u32,
 ) -> Result<(), Error> {
     for _ in 0..count {

@@ -27,7 +27,7 @@ fn fill_block_with_log(block: &mut [u8]) {
     let _finished = commit.finish(Some([0xff; 4]));
 }
 
-fn id_of_lookup(lookup: Lookup) -> u32 {
+fn lookup_as_number(lookup: Lookup) -> u32 {
     match lookup {
         Lookup::Found(id) => u32::from(id),
         Lookup::Place(id) => 65536 + u32::from(id),
@@ -44,7 +44,7 @@ fn read_log_repeatedly(block: &[u8], rounds: u32) -> u64 {
 }
 
 // Constructs the log from its known end `rounds` times, and returns the sum of the ends.
-fn take_known_log(block: &[u8], rounds: u32) -> u64 {
+fn construct_log_repeatedly(block: &[u8], rounds: u32) -> u64 {
     let log = Log::read(block);
     let (end, last) = (log.end(), log.last_log_tag());
     let mut sum = 0u64;
@@ -63,7 +63,7 @@ fn find_names_repeatedly(log: &Log<'_>, rounds: u32) -> u64 {
             &file_name_of_number(round),
             None,
         );
-        sum = sum.wrapping_add(u64::from(id_of_lookup(found)));
+        sum = sum.wrapping_add(u64::from(lookup_as_number(found)));
     }
     sum
 }
@@ -87,12 +87,12 @@ pub fn benchmark_log_lookups(rt: &HostRuntime, rounds: u32) -> io::Result<()> {
     let log = Log::read(&block);
     let last = find(&log, NameOrder::ShorterFirst, &file_name_of_number(0), None);
     let none = find(&log, NameOrder::ShorterFirst, b"\0", None);
-    println!(rt; "{} {}", id_of_lookup(last), id_of_lookup(none))?;
+    println!(rt; "{} {}", lookup_as_number(last), lookup_as_number(none))?;
     let start = Instant::now(rt)?;
     let read = read_log_repeatedly(&block, rounds);
     let reading = start.elapsed(rt)?;
     let start = Instant::now(rt)?;
-    let known = take_known_log(&block, rounds);
+    let known = construct_log_repeatedly(&block, rounds);
     let knowing = start.elapsed(rt)?;
     let start = Instant::now(rt)?;
     let found = find_names_repeatedly(&log, rounds);

@@ -48,7 +48,7 @@ fn run_row_of_arguments(rt: &HostRuntime, words: &[String]) -> io::Result<()> {
     c_rows::run_benchmark_row(
         rt,
         row.as_str(),
-        c_rows::RowDevice {
+        c_rows::BenchmarkDeviceSettings {
             blocks: argument_number_or(words, 3, 0),
             pair_cycles: argument_number_or(words, 5, 0),
             checks_blanks: words.get(6).is_some(),

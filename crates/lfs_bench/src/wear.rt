@@ -1,7 +1,7 @@
 // The wear of a device that is mounted many times.
 
 use crate::contents::{append_bytes_to_file, replace_file_contents};
-use crate::files::{Measured, file_path, make_directories};
+use crate::files::{CountingSession, file_path, make_directories};
 use lfs_device::Error;
 use lfs_fs::mount;
 use std::alloc::Global;
@@ -9,7 +9,7 @@ use std::alloc::Global;
 const FILE: [u8; 700] = [b'x'; 700];
 
 // Appends to a log, which is removed once it has more than 40,000 bytes.
-fn append_log(alloc: Global, session: &mut Measured, bytes: &[u8]) -> Result<(), Error> {
+fn append_log(alloc: Global, session: &mut CountingSession, bytes: &[u8]) -> Result<(), Error> {
     append_bytes_to_file(alloc, session, b"/log", bytes)?;
     if session.stat(alloc, b"/log")?.size > 40000 {
         session.remove(alloc, b"/log")?;
@@ -21,7 +21,7 @@ fn append_log(alloc: Global, session: &mut Measured, bytes: &[u8]) -> Result<(),
 // exists.
 fn perform_pseudorandom_operation(
     alloc: Global,
-    session: &mut Measured,
+    session: &mut CountingSession,
     state: u32,
 ) -> Result<(), Error> {
     let path = file_path(alloc, (state >> 8) % 12, 3)?;
@@ -40,7 +40,7 @@ fn perform_pseudorandom_operation(
 }
 
 // Ends a session and mounts its device again, as a reboot does.
-fn mount_again(alloc: Global, session: Measured) -> Result<Measured, Error> {
+fn mount_again(alloc: Global, session: CountingSession) -> Result<CountingSession, Error> {
     match mount(alloc, session.unmount()) {
         Ok(session) => Ok(session),
         Err((_, error)) => Err(error),
@@ -51,9 +51,9 @@ fn mount_again(alloc: Global, session: Measured) -> Result<Measured, Error> {
 /// session.
 pub fn perform_pseudorandom_operations(
     alloc: Global,
-    session: Measured,
+    session: CountingSession,
     count: u32,
-) -> Result<Measured, Error> {
+) -> Result<CountingSession, Error> {
     let mut session = session;
     make_directories(alloc, &mut session, 3)?;
     let mut state = 1u32;
@@ -69,7 +69,11 @@ pub fn perform_pseudorandom_operations(
 
 /// Mounts the device `count` times, and appends 100 bytes to a log after each mount. Returns the
 /// last session.
-pub fn append_each_mount(alloc: Global, session: Measured, count: u32) -> Result<Measured, Error> {
+pub fn append_each_mount(
+    alloc: Global,
+    session: CountingSession,
+    count: u32,
+) -> Result<CountingSession, Error> {
     let mut session = session;
     for _ in 0..count {
         session = mount_again(alloc, session)?;
@@ -80,7 +84,11 @@ pub fn append_each_mount(alloc: Global, session: Measured, count: u32) -> Result
 
 /// Mounts the device `count` times, and rewrites a counter after each mount. Returns the last
 /// session.
-pub fn count_each_mount(alloc: Global, session: Measured, count: u32) -> Result<Measured, Error> {
+pub fn rewrite_each_mount(
+    alloc: Global,
+    session: CountingSession,
+    count: u32,
+) -> Result<CountingSession, Error> {
     let mut session = session;
     for _ in 0..count {
         session = mount_again(alloc, session)?;

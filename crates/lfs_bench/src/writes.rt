@@ -53,7 +53,7 @@ fn write_pieces_and_close(
 }
 
 // Returns whether the file consists of `pieces` pieces.
-fn has_file_all_pieces(alloc: Global, session: &mut Writing, pieces: u32) -> Result<bool, Error> {
+fn file_has_pieces(alloc: Global, session: &mut Writing, pieces: u32) -> Result<bool, Error> {
     let piece = pseudorandom_file_piece();
     let fd = session.open(alloc, b"/file", OpenFlags::READ)?;
     for _ in 0..pieces {
@@ -88,8 +88,7 @@ pub fn benchmark_file_writes(rt: &HostRuntime, pieces: u32) -> io::Result<()> {
     let written = write_pieces_and_close(rt.alloc(), &mut session, fd, pieces);
     let time = start.elapsed(rt)?;
     print_write_call_counts(rt, pieces, session.device().counts().since(&before))?;
-    let is_read = written.is_ok()
-        && has_file_all_pieces(rt.alloc(), &mut session, pieces) == Ok(true);
+    let is_read = written.is_ok() && file_has_pieces(rt.alloc(), &mut session, pieces) == Ok(true);
     println!(rt; "read as written: {is_read}")?;
     eprintln!(rt; "{}", time.as_nanos())
 }

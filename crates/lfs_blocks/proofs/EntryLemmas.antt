@@ -19,31 +19,31 @@ module _ {V : Type 0} (b : ℕ) where
   abbrev pub rest : List (ℕ × V) → List (ℕ × V)
   rest es = filter (λ e. not (nat_eq b e.0)) es
 
-  abbrev pub IsAbsent : List (ℕ × V) → Type 0
-  IsAbsent es = AllByRecursion (λ k. nat_eq b k ≡ false) (keys_of es)
+  abbrev pub IsNameAbsentFrom : List (ℕ × V) → Type 0
+  IsNameAbsentFrom es = AllByRecursion (λ k. nat_eq b k ≡ false) (keys_of es)
 
-  pub IsAbsent-lookup : (es : List (ℕ × V)) → lookup (nat_eq b) es ≡ None → IsAbsent es
-  IsAbsent-lookup [] none = tt
-  IsAbsent-lookup (e ∷ es) none = go (nat_eq b e.0) refl none (IsAbsent-lookup es)
+  pub IsNameAbsentFrom-lookup : (es : List (ℕ × V)) → lookup (nat_eq b) es ≡ None → IsNameAbsentFrom es
+  IsNameAbsentFrom-lookup [] none = tt
+  IsNameAbsentFrom-lookup (e ∷ es) none = go (nat_eq b e.0) refl none (IsNameAbsentFrom-lookup es)
     where
-      go : (t : Bool) → nat_eq b e.0 ≡ t → cond t (Some e.1) (lookup (nat_eq b) es) ≡ None → (lookup (nat_eq b) es ≡ None → IsAbsent es) → IsAbsent (e ∷ es)
+      go : (t : Bool) → nat_eq b e.0 ≡ t → cond t (Some e.1) (lookup (nat_eq b) es) ≡ None → (lookup (nat_eq b) es ≡ None → IsNameAbsentFrom es) → IsNameAbsentFrom (e ∷ es)
       go true is none' next = absurd (cc)
       go false is none' next = (is, next none')
 
-  pub IsAbsent-take : (n : ℕ) (es : List (ℕ × V)) → IsAbsent es → IsAbsent (take n es)
-  IsAbsent-take zero es absent = tt
-  IsAbsent-take (suc n) [] absent = tt
-  IsAbsent-take (suc n) (e ∷ es) absent = (absent.0, IsAbsent-take n es absent.1)
+  pub IsNameAbsentFrom-take : (n : ℕ) (es : List (ℕ × V)) → IsNameAbsentFrom es → IsNameAbsentFrom (take n es)
+  IsNameAbsentFrom-take zero es absent = tt
+  IsNameAbsentFrom-take (suc n) [] absent = tt
+  IsNameAbsentFrom-take (suc n) (e ∷ es) absent = (absent.0, IsNameAbsentFrom-take n es absent.1)
 
-  pub IsAbsent-rest : (es : List (ℕ × V)) → IsAbsent (rest es)
-  IsAbsent-rest [] = tt
-  IsAbsent-rest (e ∷ es) = go (nat_eq b e.0) refl (IsAbsent-rest es)
+  pub IsNameAbsentFrom-rest : (es : List (ℕ × V)) → IsNameAbsentFrom (rest es)
+  IsNameAbsentFrom-rest [] = tt
+  IsNameAbsentFrom-rest (e ∷ es) = go (nat_eq b e.0) refl (IsNameAbsentFrom-rest es)
     where
-      go : (t : Bool) → nat_eq b e.0 ≡ t → IsAbsent (rest es) → IsAbsent (cond (not t) (e ∷ rest es) (rest es))
+      go : (t : Bool) → nat_eq b e.0 ≡ t → IsNameAbsentFrom (rest es) → IsNameAbsentFrom (cond (not t) (e ∷ rest es) (rest es))
       go true is next = next
       go false is next = (is, next)
 
-  pub rest-absent : (es : List (ℕ × V)) → IsAbsent es → rest es ≡ es
+  pub rest-absent : (es : List (ℕ × V)) → IsNameAbsentFrom es → rest es ≡ es
   rest-absent [] absent = refl
   rest-absent (e ∷ es) absent =
       ap (λ t. cond (not t) (e ∷ rest es) (rest es)) absent.0 ∙ ap (λ r. e ∷ r) (rest-absent es absent.1)
@@ -96,7 +96,7 @@ pub distinct-take : {V : Type 0} (n : ℕ) (es : List (ℕ × V)) → IsDistinct
 unfolding IsDistinct
 distinct-take zero es distinct = tt
 distinct-take (suc n) [] distinct = tt
-distinct-take (suc n) (e ∷ es) distinct = (IsAbsent-take e.0 n es distinct.0, distinct-take n es distinct.1)
+distinct-take (suc n) (e ∷ es) distinct = (IsNameAbsentFrom-take e.0 n es distinct.0, distinct-take n es distinct.1)
 
 -- ---- what is shown
 
@@ -183,7 +183,7 @@ module _ (recent : LruCache ℕ (Vec ℕ Global)) (b : ℕ) (cache : CachesAtMos
     IsCache-found = record {
       capacity = cache.capacity;
       few = rw promoted-found few-found;
-      distinct = rw promoted-found (IsDistinct-cons nat_eq b (keys_of (rest b recent.entries)) (IsAbsent-rest b recent.entries)
+      distinct = rw promoted-found (IsDistinct-cons nat_eq b (keys_of (rest b recent.entries)) (IsNameAbsentFrom-rest b recent.entries)
           (IsDistinct-keys_filter nat_eq (λ e. not (nat_eq b e.0)) recent.entries cache.distinct));
     }
 
@@ -209,14 +209,14 @@ module _ (recent : LruCache ℕ (Vec ℕ Global)) (b : ℕ) (cache : CachesAtMos
       capacity = cache.capacity;
       few = rw (put_entries-none v) (omega (arith, length-take 7 recent.entries));
       distinct = rw (put_entries-none v) (IsDistinct-cons nat_eq b (keys_of (take 7 recent.entries))
-          (IsAbsent-take b 7 recent.entries (IsAbsent-lookup b recent.entries none)) (distinct-take 7 recent.entries cache.distinct));
+          (IsNameAbsentFrom-take b 7 recent.entries (IsNameAbsentFrom-lookup b recent.entries none)) (distinct-take 7 recent.entries cache.distinct));
     }
 
     shown-new : (v : Vec ℕ Global) → cached_view (put_entries nat_eq recent b v) ≡ cache_with (cached_view recent.entries) b v.items
     shown-new v =
         ap cached_view (put_entries-none v)
         ∙ ap (λ r. (b, v.items) ∷ r) (sym (take-map (λ (e : ℕ × Vec ℕ Global). (e.0, e.1.items)) 7 recent.entries))
-        ∙ ap (λ es. take cache_limit ((b, v.items) ∷ cached_view es)) (sym (rest-absent b recent.entries (IsAbsent-lookup b recent.entries none)))
+        ∙ ap (λ es. take cache_limit ((b, v.items) ∷ cached_view es)) (sym (rest-absent b recent.entries (IsNameAbsentFrom-lookup b recent.entries none)))
         ∙ ap (λ r. take cache_limit ((b, v.items) ∷ r)) (shown-rest recent.entries b)
 
   -- after `promote`

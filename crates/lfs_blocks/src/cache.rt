@@ -4,7 +4,7 @@ ghost use Rattle.std.specs.Borrow.{sem};
 ghost use Rattle.std.specs.Option.{option_copied_mut};
 ghost use Rattle.lfs_model.specs.format.Blocks.{block_bytes};
 ghost use Rattle.lfs_model.specs.layers.Cache.{cache_limit, cached_bytes, cache_with, cache_without};
-ghost use Rattle.lfs_device.specs.DeviceCalls.{ReadsOrIo, ReadsOrNoMemory, ReadsOnly, ReportsFaults};
+ghost use Rattle.lfs_device.specs.DeviceCalls.{ReadsOnlyOrIo, ReadsOnlyOrNoMemory, ReadsOnly, ReportsFaults};
 ghost use Rattle.lfs_model.specs.session.History.{read_count};
 ghost use Rattle.lfs_model.specs.layers.BlockSets.{IsUsedBlock};
 ghost use Rattle.lfs_blocks.specs.UsedBlocks.{AreCachedUsed, KeepsUsed};
@@ -68,7 +68,7 @@ impl Cache {
         ensures err { OnErr result (self.new ≡ self.old) }
         ensures few { length self.new ≤ cache_limit }
         ensures calls { ReadsUnlessCached D.BlockDevice (cached_bytes self.old block) block device.old device.new result }
-        ensures reading { ReadsOrNoMemory D.BlockDevice device.old device.new result }
+        ensures reading { ReadsOnlyOrNoMemory D.BlockDevice device.old device.new result }
     {
         if self.promote(block) {
             return Ok(());
@@ -100,7 +100,7 @@ impl Cache {
         ensures bytes { OnOk result (buf.new ≡ slice_range (block_bytes (D.blocks device.old) block) offset (offset + length buf.old)) }
         ensures cached { (self.new ≡ self.old) ⊎ (self.new ≡ cache_with self.old block (block_bytes (D.blocks device.old) block)) }
         ensures few { ReadsOnceUncached D.BlockDevice (cached_bytes self.old block) device.old device.new }
-        ensures reading { ReadsOrIo D.BlockDevice device.old device.new result }
+        ensures reading { ReadsOnlyOrIo D.BlockDevice device.old device.new result }
     {
         if let Some(bytes) = self.lend(block) {
             copy_range(bytes, offset, buf);

@@ -5,7 +5,7 @@ use Rattle.lfs_device.specs.DeviceCalls.{ReadsOnly, ChangesOneBlock}
 use Rattle.lfs_model.specs.format.Blocks.{SameExcept}
 use Rattle.lfs_model.specs.session.History.{call_event}
 use Rattle.lfs_model.specs.session.History.DeviceCall.{Read, Program, Erase}
-use Rattle.lfs_model.proofs.Histories.{began, goes_on, goes_on_by, HoldsAtLosses-weaker, HoldsAtLosses-read_count, LossLeavesAtWorst-read, OnlyReadsSince-read, StayUnprogrammed-trans, StayUnprogrammed-read_count, StayUnprogrammed-erase, StayUnprogrammed-program}
+use Rattle.lfs_model.proofs.Histories.{began, goes_on, goes_on_by, HoldsAtLosses-weaker, HoldsAtLosses-read_count, LossLeavesAtWorst-read, OnlyReadsSince-read, OthersStayUnprogrammed-trans, OthersStayUnprogrammed-read_count, OthersStayUnprogrammed-erase, OthersStayUnprogrammed-program}
 use Rattle.lfs_model.proofs.Overwrites.{SameExcept-refl, SameExcept-trans}
 
 module _ {D : Type 0} (g : Ghosts D) where
@@ -18,7 +18,7 @@ module _ {D : Type 0} (g : Ghosts D) where
   pub ChangesOneBlock-reads : {old new : D} (b : ℕ) → ReadsOnly g old new → ChangesOneBlock g b old new
   ChangesOneBlock-reads {old} b only = record {
     others = subst (SameExcept b (g.blocks old)) (sym only.same) (SameExcept-refl b (g.blocks old));
-    elsewhere = StayUnprogrammed-read_count (b ∷ []) only.reads;
+    elsewhere = OthersStayUnprogrammed-read_count (b ∷ []) only.reads;
     geometry = only.geometry;
     at_worst = HoldsAtLosses-read_count LossLeavesAtWorst-read only.reads (SameExcept-refl b (g.blocks old));
   }
@@ -26,7 +26,7 @@ module _ {D : Type 0} (g : Ghosts D) where
   pub ChangesOneBlock-trans : {b : ℕ} {old mid new : D} → ChangesOneBlock g b old mid → ChangesOneBlock g b mid new → ChangesOneBlock g b old new
   ChangesOneBlock-trans first second = record {
     others = SameExcept-trans first.others second.others;
-    elsewhere = StayUnprogrammed-trans first.elsewhere second.elsewhere;
+    elsewhere = OthersStayUnprogrammed-trans first.elsewhere second.elsewhere;
     geometry = second.geometry ∙ first.geometry;
     at_worst = goes_on_by first.at_worst (HoldsAtLosses-weaker (λ disk left. SameExcept-trans first.others left) second.at_worst);
   }
@@ -35,7 +35,7 @@ module _ {D : Type 0} (g : Ghosts D) where
       → SameExcept b (g.blocks old) (g.blocks new) → g.geometry new ≡ g.geometry old → ChangesOneBlock g b old new
   ChangesOneBlock-erase is others geometry = record {
     others = others;
-    elsewhere = StayUnprogrammed-erase is;
+    elsewhere = OthersStayUnprogrammed-erase is;
     geometry = geometry;
     at_worst = goes_on began is (λ disk left. left);
   }
@@ -44,7 +44,7 @@ module _ {D : Type 0} (g : Ghosts D) where
       → SameExcept b (g.blocks old) (g.blocks new) → g.geometry new ≡ g.geometry old → ChangesOneBlock g b old new
   ChangesOneBlock-program is others geometry = record {
     others = others;
-    elsewhere = StayUnprogrammed-program is;
+    elsewhere = OthersStayUnprogrammed-program is;
     geometry = geometry;
     at_worst = goes_on began is (λ disk left. left);
   }

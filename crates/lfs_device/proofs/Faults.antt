@@ -8,23 +8,23 @@ use Rattle.lfs_device.specs.declared.fault.FaultExtent.TheVariants.{Nothing, Fir
 use Rattle.lfs_device.specs.declared.fault.PlannedFault.{PlannedFault}
 use Rattle.lfs_model.specs.format.Blocks.{Blocks}
 use Rattle.lfs_model.specs.session.History.{DeviceCall, Read, Program, Erase, Blank, CallEvent, call_event, fault_count, is_unprogrammed_byte, unprogrammed_after}
-use Rattle.lfs_device.specs.Fault.{is_to_fail, extent_if_due, have_due_failed, unplanned_faults}
-use Rattle.lfs_device.specs.CallsBelow.{PassesUnlessDue}
+use Rattle.lfs_device.specs.Fault.{is_to_fail, extent_if_planned, planned_calls_failed, unplanned_faults}
+use Rattle.lfs_device.specs.CallsBelow.{ForwardsUnlessFaulted}
 
-fails_if_due : {D : Type 0} (g : Ghosts D) (o : Option FaultExtent) (call : DeviceCall) (failed : Bool) (old new : D) → PassesUnlessDue g o call failed old new → is_some o ≡ true → failed ≡ true
+fails_if_due : {D : Type 0} (g : Ghosts D) (o : Option FaultExtent) (call : DeviceCall) (failed : Bool) (old new : D) → ForwardsUnlessFaulted g o call failed old new → is_some o ≡ true → failed ≡ true
 fails_if_due g None call failed old new carried is = absurd (cc)
 fails_if_due g (Some Nothing) call failed old new carried is = carried.0
 fails_if_due g (Some (FirstBytes k)) call failed old new carried is = carried.0
 fails_if_due g (Some (AllButFirst k)) call failed old new carried is = carried.0
 fails_if_due g (Some Whole) call failed old new carried is = carried.0
 
-pub have_due_failed-call : {D : Type 0} {call : DeviceCall} {failed : Bool} {before after : Blocks} {older later : List CallEvent} (g : Ghosts D) (fault : PlannedFault) (old new : D)
-    → PassesUnlessDue g (extent_if_due fault call older) call failed old new → later ≡ call_event call before after failed ∷ older
-    → have_due_failed fault older ≡ true → have_due_failed fault later ≡ true
-have_due_failed-call {call = call} {failed = failed} {older = older} g fault old new carried is so_far =
-    ap (have_due_failed fault) is
+pub planned_calls_failed-call : {D : Type 0} {call : DeviceCall} {failed : Bool} {before after : Blocks} {older later : List CallEvent} (g : Ghosts D) (fault : PlannedFault) (old new : D)
+    → ForwardsUnlessFaulted g (extent_if_planned fault call older) call failed old new → later ≡ call_event call before after failed ∷ older
+    → planned_calls_failed fault older ≡ true → planned_calls_failed fault later ≡ true
+planned_calls_failed-call {call = call} {failed = failed} {older = older} g fault old new carried is so_far =
+    ap (planned_calls_failed fault) is
     ∙ ap (λ rest. (not (is_to_fail fault call older) || failed) && rest) so_far
-    ∙ here (is_to_fail fault call older) failed (λ to_fail. fails_if_due g (extent_if_due fault call older) call failed old new carried to_fail)
+    ∙ here (is_to_fail fault call older) failed (λ to_fail. fails_if_due g (extent_if_planned fault call older) call failed old new carried to_fail)
   where
     here : (to_fail failed : Bool) → (to_fail ≡ true → failed ≡ true) → ((not to_fail || failed) && true) ≡ true
     here true true of = refl
@@ -32,7 +32,7 @@ have_due_failed-call {call = call} {failed = failed} {older = older} g fault old
     here false failed of = refl
 
 -- how many faults a call adds that wasn't to fail
-adds_undue : {D : Type 0} (g : Ghosts D) (o : Option FaultExtent) (call : DeviceCall) (failed : Bool) (old new : D) → PassesUnlessDue g o call failed old new
+adds_undue : {D : Type 0} (g : Ghosts D) (o : Option FaultExtent) (call : DeviceCall) (failed : Bool) (old new : D) → ForwardsUnlessFaulted g o call failed old new
     → fault_count (g.history old) ≤ fault_count (g.history new) → fault_count (g.history old) + cond (failed && not (is_some o)) 1 0 ≤ fault_count (g.history new)
 adds_undue g None call true old new carried grow = let more : fault_count (g.history new) ≡ fault_count (g.history old) + 1 = ap fault_count carried in omega (arith, more)
 adds_undue g None call false old new carried grow = omega (arith, grow)
@@ -40,12 +40,12 @@ adds_undue g (Some extent) call true old new carried grow = omega (arith, grow)
 adds_undue g (Some extent) call false old new carried grow = omega (arith, grow)
 
 pub unplanned_faults-call : {D : Type 0} {call : DeviceCall} {failed : Bool} {before after : Blocks} {older later : List CallEvent} (g : Ghosts D) (fault : PlannedFault) (old new : D)
-    → PassesUnlessDue g (extent_if_due fault call older) call failed old new → later ≡ call_event call before after failed ∷ older → fault_count (g.history old) ≤ fault_count (g.history new)
+    → ForwardsUnlessFaulted g (extent_if_planned fault call older) call failed old new → later ≡ call_event call before after failed ∷ older → fault_count (g.history old) ≤ fault_count (g.history new)
     → unplanned_faults fault older ≤ fault_count (g.history old) → unplanned_faults fault later ≤ fault_count (g.history new)
 unplanned_faults-call {call = call} {failed = failed} {older = older} {later = later} g fault old new carried is grow so_far =
     let u = unplanned_faults fault in
-    let adds : u later ≡ u older + cond (failed && not (is_some (extent_if_due fault call older))) 1 0 = ap u is in
-    let more = adds_undue g (extent_if_due fault call older) call failed old new carried grow in
+    let adds : u later ≡ u older + cond (failed && not (is_some (extent_if_planned fault call older))) 1 0 = ap u is in
+    let more = adds_undue g (extent_if_planned fault call older) call failed old new carried grow in
     omega (arith, adds, more, so_far)
 
 -- what is unprogrammed above is so below

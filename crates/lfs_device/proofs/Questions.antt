@@ -9,15 +9,15 @@ use Rattle.lfs_device.specs.declared.fault.CountedCalls.TheVariants.{Any, Read, 
 use Rattle.lfs_device.specs.declared.fault.FaultExtent.{FaultExtent}
 use Rattle.lfs_device.specs.declared.fault.PlannedFault.{PlannedFault}
 use Rattle.lfs_model.specs.format.Blocks.{Blocks}
-use Rattle.lfs_model.specs.session.History.{DeviceCall, Blank, CallEvent, call_event, history_with_outcome, fault_count, read_count, program_count, erase_count, is_unprogrammed_byte, LeftByLatest}
+use Rattle.lfs_model.specs.session.History.{DeviceCall, Blank, CallEvent, call_event, history_with_outcome, fault_count, read_count, program_count, erase_count, is_unprogrammed_byte, LeftByLatestCall}
 use Rattle.lfs_model.specs.crash.Conformance.{CallsConform}
-use Rattle.lfs_model.specs.crash.Premises.{MeetsPremises}
+use Rattle.lfs_model.specs.crash.Premises.{MeetsPowerLossPremises}
 use Rattle.lfs_model.proofs.Conformance.{conforms_blank, conforms_next}
 use Rattle.lfs_device.specs.BlockCalls.{AsksIfBlank}
-use Rattle.lfs_device.specs.CallsBelow.{PassesCall, PassesUnlessDue}
-use Rattle.lfs_device.specs.DevicePremises.{DevicesMeetPremisesFaultless}
-use Rattle.lfs_device.specs.Fault.{extent_if_due, have_due_failed, is_counted, is_partial, numbered_extent, unplanned_faults}
-use Rattle.lfs_device.proofs.Faults.{have_due_failed-call, unplanned_faults-call, below-call}
+use Rattle.lfs_device.specs.CallsBelow.{ForwardsCall, ForwardsUnlessFaulted}
+use Rattle.lfs_device.specs.DevicePremises.{AreReliableDevices}
+use Rattle.lfs_device.specs.Fault.{extent_if_planned, planned_calls_failed, is_counted, is_partial_extent, nth_call_extent, unplanned_faults}
+use Rattle.lfs_device.proofs.Faults.{planned_calls_failed-call, unplanned_faults-call, below-call}
 use Rattle.lfs_device.proofs.Newest.{newest_call}
 use Rattle.lfs_device.proofs.Premises.{premises_call}
 
@@ -34,8 +34,8 @@ uncounted Read block off len = refl
 uncounted Program block off len = refl
 uncounted Erase block off len = refl
 
-pub not_due : (fault : PlannedFault) (block off len : ℕ) (older : List CallEvent) → is_none (numbered_extent fault false older) ≡ true → extent_if_due fault (Blank block off len) older ≡ None
-not_due fault block off len older none = rw (uncounted fault.which block off len, without (numbered_extent fault false older) none) refl
+pub not_due : (fault : PlannedFault) (block off len : ℕ) (older : List CallEvent) → is_none (nth_call_extent fault false older) ≡ true → extent_if_planned fault (Blank block off len) older ≡ None
+not_due fault block off len older none = rw (uncounted fault.which block off len, without (nth_call_extent fault false older) none) refl
   where
     without : (o : Option FaultExtent) → is_none o ≡ true → o ≡ None
     without None e = refl
@@ -45,7 +45,7 @@ not_due fault block off len older none = rw (uncounted fault.which block off len
 abbrev pub HasPassed : {D : Type 0} → Ghosts D → DeviceCall → List CallEvent → List CallEvent → D → D → Type 0
 HasPassed g call older later old new =
     ((later ≡ older) × (g.history new ≡ g.history old))
-    ⊎ ((failed : Bool) × ((later ≡ call_event call (g.blocks old) (g.blocks new) failed ∷ older) × PassesCall g call failed old new))
+    ⊎ ((failed : Bool) × ((later ≡ call_event call (g.blocks old) (g.blocks new) failed ∷ older) × ForwardsCall g call failed old new))
 
 pub has_passed : {D : Type 0} (g : Ghosts D) (block off len : ℕ) (older : List CallEvent) (old new : D) (r : Result Bool Error)
     → AsksIfBlank block off len (g.blocks old) (g.blocks new) (g.history old) (g.history new) r → IfErr r (λ e. e ≡ Io)
@@ -77,11 +77,11 @@ module _ {D : Type 0} (g : Ghosts D) (block off len : ℕ) (older later : List C
           let erases : erase_count later ≡ erase_count (call_event call (g.blocks old) (g.blocks new) failed ∷ older) = ap erase_count e in
           (omega (arith, reads), (omega (arith, programs), omega (arith, erases)))
 
-  pub newest_stays : LeftByLatest older (g.blocks old) → LeftByLatest later (g.blocks new)
+  pub newest_stays : LeftByLatestCall older (g.blocks old) → LeftByLatestCall later (g.blocks new)
   newest_stays so_far = go passed
     where
-      go : HasPassed g call older later old new → LeftByLatest later (g.blocks new)
-      go (inl (e, f)) = subst (λ h. LeftByLatest h (g.blocks new)) (sym e) (subst (LeftByLatest older) (sym same) so_far)
+      go : HasPassed g call older later old new → LeftByLatestCall later (g.blocks new)
+      go (inl (e, f)) = subst (λ h. LeftByLatestCall h (g.blocks new)) (sym e) (subst (LeftByLatestCall older) (sym same) so_far)
       go (inr (failed, (e, f))) = newest_call call (g.blocks old) (g.blocks new) (g.blocks new) failed older later e refl
 
   pub conforms_still : CallsConform older → CallsConform later
@@ -98,16 +98,16 @@ module _ {D : Type 0} (g : Ghosts D) (block off len : ℕ) (older later : List C
       go (inl (e, f)) b k was = ap (λ (h : List CallEvent). is_unprogrammed_byte h b k) f ∙ below b k (sym (ap (λ (h : List CallEvent). is_unprogrammed_byte h b k) e) ∙ was)
       go (inr (failed, (e, f))) b k was = below-call (g.history old) (g.history new) e below (λ b k was. ap (λ (h : List CallEvent). is_unprogrammed_byte h b k) f ∙ was) b k was
 
-  module _ (fault : PlannedFault) (none : extent_if_due fault (Blank block off len) older ≡ None) where
-    carried : (failed : Bool) → PassesCall g call failed old new → PassesUnlessDue g (extent_if_due fault call older) call failed old new
-    carried failed f = subst (λ o. PassesUnlessDue g o call failed old new) (sym none) f
+  module _ (fault : PlannedFault) (none : extent_if_planned fault (Blank block off len) older ≡ None) where
+    carried : (failed : Bool) → ForwardsCall g call failed old new → ForwardsUnlessFaulted g (extent_if_planned fault call older) call failed old new
+    carried failed f = subst (λ o. ForwardsUnlessFaulted g o call failed old new) (sym none) f
 
-    pub due_failed_still : have_due_failed fault older ≡ true → have_due_failed fault later ≡ true
+    pub due_failed_still : planned_calls_failed fault older ≡ true → planned_calls_failed fault later ≡ true
     due_failed_still so_far = go passed
       where
-        go : HasPassed g call older later old new → have_due_failed fault later ≡ true
-        go (inl (e, f)) = ap (have_due_failed fault) e ∙ so_far
-        go (inr (failed, (e, f))) = have_due_failed-call g fault old new (carried failed f) e so_far
+        go : HasPassed g call older later old new → planned_calls_failed fault later ≡ true
+        go (inl (e, f)) = ap (planned_calls_failed fault) e ∙ so_far
+        go (inr (failed, (e, f))) = planned_calls_failed-call g fault old new (carried failed f) e so_far
 
     pub undue_faults_still : unplanned_faults fault older ≤ fault_count (g.history old) → unplanned_faults fault later ≤ fault_count (g.history new)
     undue_faults_still so_far = go passed
@@ -120,9 +120,9 @@ module _ {D : Type 0} (g : Ghosts D) (block off len : ℕ) (older later : List C
         go (inl (e, f)) = let a : unplanned_faults fault later ≡ unplanned_faults fault older = ap (unplanned_faults fault) e in let b : fault_count (g.history new) ≡ fault_count (g.history old) = ap fault_count f in omega (arith, a, b, so_far)
         go (inr (failed, (e, f))) = unplanned_faults-call g fault old new (carried failed f) e (subst (λ h. fault_count (g.history old) ≤ fault_count h) (sym f) (grows failed)) so_far
 
-    pub premises_still : is_partial fault.extent ≡ false → CallsConform (g.history new) → DevicesMeetPremisesFaultless g → ∥ MeetsPremises older ∥₁ → ∥ MeetsPremises later ∥₁
+    pub premises_still : is_partial_extent fault.extent ≡ false → CallsConform (g.history new) → AreReliableDevices g → ∥ MeetsPowerLossPremises older ∥₁ → ∥ MeetsPowerLossPremises later ∥₁
     premises_still untorn conforms reliable so_far = go passed
       where
-        go : HasPassed g call older later old new → ∥ MeetsPremises later ∥₁
-        go (inl (e, f)) = subst (λ h. ∥ MeetsPremises h ∥₁) (sym e) so_far
+        go : HasPassed g call older later old new → ∥ MeetsPowerLossPremises later ∥₁
+        go (inl (e, f)) = subst (λ h. ∥ MeetsPowerLossPremises h ∥₁) (sym e) so_far
         go (inr (failed, (e, f))) = premises_call g fault old new untorn (carried failed f) e conforms reliable so_far

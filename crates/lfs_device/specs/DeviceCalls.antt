@@ -6,7 +6,7 @@ use Rattle.lfs_device.specs.declared.device.BlockDevice.{Ghosts}
 use Rattle.lfs_device.specs.declared.error.Error.{Error}
 use Rattle.lfs_device.specs.declared.error.Error.TheVariants.{Io, NoMemory}
 use Rattle.lfs_model.specs.format.Blocks.{SameExcept, SameExceptBlocks}
-use Rattle.lfs_model.specs.session.History.{LossLeavesAtWorst, HoldsAtLosses, OnlyReadsSince, StayUnprogrammed, call_event, fault_count}
+use Rattle.lfs_model.specs.session.History.{LossLeavesAtWorst, HoldsAtLosses, OnlyReadsSince, OthersStayUnprogrammed, call_event, fault_count}
 use Rattle.lfs_model.specs.session.History.DeviceCall.{Read}
 
 -- The device was only read. So its blocks are unchanged, also after a power loss during the call.
@@ -19,7 +19,7 @@ pub record ReadsOnly {D : Type 0} (g : Ghosts D) (old new : D) : Type 0 where
 -- during the call leaves every other block unchanged.
 pub record ChangesOneBlock {D : Type 0} (g : Ghosts D) (b : ℕ) (old new : D) : Type 0 where
   pub others : SameExcept b (g.blocks old) (g.blocks new)
-  pub elsewhere : StayUnprogrammed (b ∷ []) (g.history old) (g.history new)
+  pub elsewhere : OthersStayUnprogrammed (b ∷ []) (g.history old) (g.history new)
   pub geometry : g.geometry new ≡ g.geometry old
   pub at_worst : HoldsAtLosses LossLeavesAtWorst (g.history old) (g.history new) (SameExcept b (g.blocks old))
 
@@ -27,7 +27,7 @@ pub record ChangesOneBlock {D : Type 0} (g : Ghosts D) (b : ℕ) (old new : D) :
 -- loss during the call leaves every other block unchanged.
 pub record ChangesTheseBlocks {D : Type 0} (g : Ghosts D) (bs : List ℕ) (old new : D) : Type 0 where
   pub others : SameExceptBlocks bs (g.blocks old) (g.blocks new)
-  pub elsewhere : StayUnprogrammed bs (g.history old) (g.history new)
+  pub elsewhere : OthersStayUnprogrammed bs (g.history old) (g.history new)
   pub geometry : g.geometry new ≡ g.geometry old
   pub at_worst : HoldsAtLosses LossLeavesAtWorst (g.history old) (g.history new) (SameExceptBlocks bs (g.blocks old))
 
@@ -42,19 +42,19 @@ pub record ReportsOnlyIo {D X : Type 0} (g : Ghosts D) (old new : D) (result : R
   pub errors : IfErr result (λ e. e ≡ Io)
 
 -- The result is `Io` if and only if the device had a fault, and the only other error is `NoMemory`.
-pub record ReportsIoNoMemory {D X : Type 0} (g : Ghosts D) (old new : D) (result : Result X Error) : Type 0 where
+pub record ReportsIoOrNoMemory {D X : Type 0} (g : Ghosts D) (old new : D) (result : Result X Error) : Type 0 where
   pub faults : ReportsFaults g old new result
   pub errors : IfErr result (λ e. (e ≡ Io) ⊎ (e ≡ NoMemory))
 
 -- The device was only read, and the only error is `Io`.
-pub record ReadsOrIo {D X : Type 0} (g : Ghosts D) (old new : D) (result : Result X Error) : Type 0 where
+pub record ReadsOnlyOrIo {D X : Type 0} (g : Ghosts D) (old new : D) (result : Result X Error) : Type 0 where
   pub device : ReadsOnly g old new
   pub reports : ReportsOnlyIo g old new result
 
 -- The device was only read, and the only errors are `Io` and `NoMemory`.
-pub record ReadsOrNoMemory {D X : Type 0} (g : Ghosts D) (old new : D) (result : Result X Error) : Type 0 where
+pub record ReadsOnlyOrNoMemory {D X : Type 0} (g : Ghosts D) (old new : D) (result : Result X Error) : Type 0 where
   pub device : ReadsOnly g old new
-  pub reports : ReportsIoNoMemory g old new result
+  pub reports : ReportsIoOrNoMemory g old new result
 
 -- The device is read once, and the read fails if the result is `Io`. It isn't read if the result is
 -- `NoMemory`.

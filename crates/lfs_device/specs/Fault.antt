@@ -45,36 +45,36 @@ has_stopped which nth stops older = stops && nat_lt 0 nth && nat_le nth (call_co
 
 -- How much is done of a call that fails by its number, or None if it isn't due to fail by its
 -- number.
-abbrev pub numbered_extent : PlannedFault → Bool → List CallEvent → Option FaultExtent
-numbered_extent fault counted older =
+abbrev pub nth_call_extent : PlannedFault → Bool → List CallEvent → Option FaultExtent
+nth_call_extent fault counted older =
     if is_nth_call counted fault.which fault.nth older then Some fault.extent else
     (if has_stopped fault.which fault.nth fault.stops older then Some Nothing else None)
 
 -- The extent of a call that fails by its number. For any other call it is Nothing if the call
 -- writes the bad block, and None if it doesn't.
-abbrev pub extent_with_bad : Bool → Option FaultExtent → Option FaultExtent
-extent_with_bad bad (Some extent) = Some extent
-extent_with_bad bad None = if bad then Some Nothing else None
+abbrev pub extent_with_bad_block : Bool → Option FaultExtent → Option FaultExtent
+extent_with_bad_block bad (Some extent) = Some extent
+extent_with_bad_block bad None = if bad then Some Nothing else None
 
 -- How much is done of the call before it fails, or None if it isn't due to fail.
-abbrev pub extent_if_due : PlannedFault → DeviceCall → List CallEvent → Option FaultExtent
-extent_if_due fault call older = extent_with_bad (is_bad_call fault.bad_block call) (numbered_extent fault (is_counted fault.which call) older)
+abbrev pub extent_if_planned : PlannedFault → DeviceCall → List CallEvent → Option FaultExtent
+extent_if_planned fault call older = extent_with_bad_block (is_bad_call fault.bad_block call) (nth_call_extent fault (is_counted fault.which call) older)
 
 -- Whether the next call is due to fail.
 abbrev pub is_to_fail : PlannedFault → DeviceCall → List CallEvent → Bool
-is_to_fail fault call older = is_some (extent_if_due fault call older)
+is_to_fail fault call older = is_some (extent_if_planned fault call older)
 
 -- Whether the call is done in part.
-abbrev pub is_partial : FaultExtent → Bool
-is_partial Nothing = false
-is_partial (FirstBytes k) = true
-is_partial (AllButFirst k) = true
-is_partial Whole = false
+abbrev pub is_partial_extent : FaultExtent → Bool
+is_partial_extent Nothing = false
+is_partial_extent (FirstBytes k) = true
+is_partial_extent (AllButFirst k) = true
+is_partial_extent Whole = false
 
 -- Whether every call that was due to fail failed.
-abbrev pub have_due_failed : PlannedFault → List CallEvent → Bool
-have_due_failed fault [] = true
-have_due_failed fault (e ∷ older) = (not (is_to_fail fault e.call older) || e.failed) && have_due_failed fault older
+abbrev pub planned_calls_failed : PlannedFault → List CallEvent → Bool
+planned_calls_failed fault [] = true
+planned_calls_failed fault (e ∷ older) = (not (is_to_fail fault e.call older) || e.failed) && planned_calls_failed fault older
 
 -- The number of calls that failed without being due to.
 abbrev pub unplanned_faults : PlannedFault → List CallEvent → ℕ

@@ -1,6 +1,6 @@
 ghost use Rattle.std.specs.Prelude.{◌≡◌, ◌<◌, ◌+◌, List, ◌∷◌, length, slice_range, is_err, IfErr, OnOk};
 ghost use Rattle.lfs_model.specs.format.Blocks.{Blocks, HasBlockSizes, SameExcept, block_bytes};
-ghost use Rattle.lfs_model.specs.session.History.{CallEvent, call_event, LeftByLatest};
+ghost use Rattle.lfs_model.specs.session.History.{CallEvent, call_event, LeftByLatestCall};
 ghost use Rattle.lfs_model.specs.session.History.DeviceCall.{Read, Program, Erase};
 ghost use Rattle.lfs_model.specs.crash.Conformance.{CallsConform};
 ghost use Rattle.lfs_device.specs.declared.geometry.Geometry.{Geometry};
@@ -93,7 +93,7 @@ pub trait BlockDevice {
     ghost bytes: { (d : Self) → AreByteBlocks (blocks d) };
 
     /// If there was a call, the blocks are as the newest call left them.
-    ghost newest: { (d : Self) → LeftByLatest (history d) (blocks d) };
+    ghost newest: { (d : Self) → LeftByLatestCall (history d) (blocks d) };
 
     /// Each call that didn't fail did its work and changed no other block.
     ghost conforms: { (d : Self) → CallsConform (history d) };

@@ -1,13 +1,13 @@
 ghost use Rattle.std.specs.Prelude.{◌≡◌, ◌≤◌, ◌<◌, ◌+◌, ◌-◌, ◌^◌, ◌||◌, ℕ, true, false, min, [], length, slice_range, is_err, is_none, ◌&&◌, IfErr, IfSome, OnOk, Ok, None, Some};
 ghost use Rattle.lfs_model.specs.format.Blocks.{SameExcept, block_bytes, programmed};
-ghost use Rattle.lfs_model.specs.session.History.{read_count, program_count, erase_count, fault_count, is_unprogrammed_byte, LeftByLatest};
+ghost use Rattle.lfs_model.specs.session.History.{read_count, program_count, erase_count, fault_count, is_unprogrammed_byte, LeftByLatestCall};
 ghost use Rattle.lfs_model.specs.session.History.DeviceCall.{Read, Program, Erase, Blank};
 ghost use Rattle.lfs_model.specs.crash.Conformance.{CallsConform};
-ghost use Rattle.lfs_model.specs.crash.Premises.{MeetsPremises};
+ghost use Rattle.lfs_model.specs.crash.Premises.{MeetsPowerLossPremises};
 ghost use Rattle.lfs_device.specs.BlockCalls.{AsksIfBlank, CanProgram, IsWithinBlock, Programs};
-ghost use Rattle.lfs_device.specs.Fault.{call_count, extent_if_due, extent_with_bad, have_due_failed, is_bad_block, is_partial, numbered_extent, unplanned_faults};
-ghost use Rattle.lfs_device.specs.DevicePremises.{DevicesMeetPremisesFaultless};
-ghost use Rattle.lfs_device.specs.CallsBelow.{AddsNoFault, KeepsFirstBytes, PassesUnlessDue, programmed_bytes};
+ghost use Rattle.lfs_device.specs.Fault.{call_count, extent_if_planned, extent_with_bad_block, planned_calls_failed, is_bad_block, is_partial_extent, nth_call_extent, unplanned_faults};
+ghost use Rattle.lfs_device.specs.DevicePremises.{AreReliableDevices};
+ghost use Rattle.lfs_device.specs.CallsBelow.{AddsNoFault, EraseKeepsFirstBytes, ForwardsUnlessFaulted, bytes_stored_at_fault};
 
 use crate::partial::{erase_as_planned, program_as_planned, read_as_planned};
 use crate::{BlockDevice, Error, Geometry, Trace};
@@ -69,20 +69,20 @@ pub struct FaultDevice<D: BlockDevice> {
     program_calls: u64,
     erase_calls: u64,
     trace: Trace,
-    pub ghost due_failed: { have_due_failed fault trace.events ≡ true },
+    pub ghost due_failed: { planned_calls_failed fault trace.events ≡ true },
     pub ghost undue_faults: { unplanned_faults fault trace.events ≤ fault_count (D.history inner) },
     ghost reads_counted: { read_calls ≡ min (read_count trace.events) (2 ^ 64 - 1) },
     ghost programs_counted: { program_calls ≡ min (program_count trace.events) (2 ^ 64 - 1) },
     ghost erases_counted: { erase_calls ≡ min (erase_count trace.events) (2 ^ 64 - 1) },
-    ghost newest: { LeftByLatest trace.events (D.blocks inner) },
+    ghost newest: { LeftByLatestCall trace.events (D.blocks inner) },
     ghost conforms: { CallsConform trace.events },
     ghost below: { (block byte : ℕ) → is_unprogrammed_byte trace.events block byte ≡ true → is_unprogrammed_byte (D.history inner) block byte ≡ true },
-    ghost untorn: { tears ≡ false → is_partial fault.extent ≡ false },
-    pub ghost premises: { tears ≡ false → DevicesMeetPremisesFaultless ⟦<D as BlockDevice>⟧ → ∥ MeetsPremises trace.events ∥₁ },
+    ghost untorn: { tears ≡ false → is_partial_extent fault.extent ≡ false },
+    pub ghost premises: { tears ≡ false → AreReliableDevices ⟦<D as BlockDevice>⟧ → ∥ MeetsPowerLossPremises trace.events ∥₁ },
 }
 
 impl<D: BlockDevice> FaultDevice<D> {
-    ghost use Rattle.lfs_device.specs.FaultDevice.{inner_device, planned_fault, can_tear, passes_blanks, fault_history};
+    ghost use Rattle.lfs_device.specs.FaultDevice.{inner_device, planned_fault, can_tear, forwards_blank_checks, fault_history};
 
     /// Creates a device whose `n`-th call of the kind `which` fails without any effect. Calls are
     /// counted from 1, and if `n` is 0, no call fails. If `stop` is true, every later call fails
@@ -91,7 +91,7 @@ impl<D: BlockDevice> FaultDevice<D> {
         ensures inner { inner_device result ≡ inner }
         ensures fault { planned_fault result ≡ record { which = which; nth = n; stops = stop; extent = FaultExtent.Nothing; bad_block = None } }
         ensures tears { can_tear result ≡ false }
-        ensures checks { passes_blanks result ≡ false }
+        ensures checks { forwards_blank_checks result ≡ false }
         ensures no_call { fault_history result ≡ [] }
     {
         FaultDevice::with_fault(
@@ -112,7 +112,7 @@ impl<D: BlockDevice> FaultDevice<D> {
         ensures inner { inner_device result ≡ inner }
         ensures fault { planned_fault result ≡ record { which = CountedCalls.Any; nth = 0; stops = false; extent = FaultExtent.Nothing; bad_block = Some block } }
         ensures tears { can_tear result ≡ false }
-        ensures checks { passes_blanks result ≡ false }
+        ensures checks { forwards_blank_checks result ≡ false }
         ensures no_call { fault_history result ≡ [] }
     {
         FaultDevice::with_fault(
@@ -129,11 +129,11 @@ impl<D: BlockDevice> FaultDevice<D> {
 
     // Creates a device whose failing call is performed either as a whole or not at all.
     fn with_fault(inner: D, fault: PlannedFault) -> FaultDevice<D>
-        requires { is_partial fault.extent ≡ false }
+        requires { is_partial_extent fault.extent ≡ false }
         ensures inner { inner_device result ≡ inner }
         ensures fault { planned_fault result ≡ fault }
         ensures tears { can_tear result ≡ false }
-        ensures checks { passes_blanks result ≡ false }
+        ensures checks { forwards_blank_checks result ≡ false }
         ensures no_call { fault_history result ≡ [] }
     {
         let trace = Trace::with_ghost_history(&inner, &());
@@ -156,7 +156,7 @@ impl<D: BlockDevice> FaultDevice<D> {
         ensures inner { inner_device result ≡ inner_device self }
         ensures fault { planned_fault result ≡ record (planned_fault self) { extent = FaultExtent.FirstBytes k } }
         ensures tears { can_tear result ≡ true }
-        ensures checks { passes_blanks result ≡ passes_blanks self }
+        ensures checks { forwards_blank_checks result ≡ forwards_blank_checks self }
         ensures history { fault_history result ≡ fault_history self }
     {
         self.with_fault_extent(FaultExtent::FirstBytes(k))
@@ -165,11 +165,11 @@ impl<D: BlockDevice> FaultDevice<D> {
     /// Changes the planned fault so that a failing erase keeps the block's first `k` bytes, and
     /// returns the device. If the buffer isn't exactly as long as a block, a failing erase does
     /// nothing.
-    pub fn torn_erase(mut self, k: u32, buffer: Vec<u8>) -> FaultDevice<D>
+    pub fn with_torn_erase(mut self, k: u32, buffer: Vec<u8>) -> FaultDevice<D>
         ensures inner { inner_device result ≡ inner_device self }
         ensures fault { planned_fault result ≡ record (planned_fault self) { extent = FaultExtent.AllButFirst k } }
         ensures tears { can_tear result ≡ true }
-        ensures checks { passes_blanks result ≡ passes_blanks self }
+        ensures checks { forwards_blank_checks result ≡ forwards_blank_checks self }
         ensures history { fault_history result ≡ fault_history self }
     {
         self.buffer = Some(buffer);
@@ -182,7 +182,7 @@ impl<D: BlockDevice> FaultDevice<D> {
         ensures inner { inner_device result ≡ inner_device self }
         ensures fault { planned_fault result ≡ record (planned_fault self) { extent = FaultExtent.Whole } }
         ensures tears { can_tear result ≡ can_tear self }
-        ensures checks { passes_blanks result ≡ passes_blanks self }
+        ensures checks { forwards_blank_checks result ≡ forwards_blank_checks self }
         ensures history { fault_history result ≡ fault_history self }
     {
         self.with_fault_extent(FaultExtent::Whole)
@@ -194,7 +194,7 @@ impl<D: BlockDevice> FaultDevice<D> {
         ensures inner { inner_device result ≡ inner_device self }
         ensures fault { planned_fault result ≡ planned_fault self }
         ensures tears { can_tear result ≡ can_tear self }
-        ensures checks { passes_blanks result ≡ true }
+        ensures checks { forwards_blank_checks result ≡ true }
         ensures history { fault_history result ≡ fault_history self }
     {
         self.checks_blanks = true;
@@ -204,8 +204,8 @@ impl<D: BlockDevice> FaultDevice<D> {
     fn with_fault_extent(mut self, extent: FaultExtent) -> FaultDevice<D>
         ensures inner { inner_device result ≡ inner_device self }
         ensures fault { planned_fault result ≡ record (planned_fault self) { extent = extent } }
-        ensures tears { can_tear result ≡ (can_tear self || is_partial extent) }
-        ensures checks { passes_blanks result ≡ passes_blanks self }
+        ensures tears { can_tear result ≡ (can_tear self || is_partial_extent extent) }
+        ensures checks { forwards_blank_checks result ≡ forwards_blank_checks self }
         ensures history { fault_history result ≡ fault_history self }
     {
         self.tears = self.tears || is_part(extent);
@@ -254,9 +254,9 @@ impl<D: BlockDevice> FaultDevice<D> {
         }
     }
 
-    /// Returns whether [`torn`](FaultDevice::torn) or [`torn_erase`](FaultDevice::torn_erase) was
+    /// Returns whether [`torn`](FaultDevice::torn) or [`with_torn_erase`](FaultDevice::with_torn_erase) was
     /// ever called. After such a call, a failing program or erase may be performed only in part.
-    pub fn may_tear_program(&self) -> bool
+    pub fn may_tear_calls(&self) -> bool
         ensures { result ≡ can_tear self.now }
     {
         self.tears
@@ -266,13 +266,13 @@ impl<D: BlockDevice> FaultDevice<D> {
     /// no program or erase is torn, and that each device of the wrapped type never fails and meets
     /// these premises too. The call does nothing at run time.
     pub fn lemma_premises_hold(&self)
-        ensures { can_tear self.now ≡ false → DevicesMeetPremisesFaultless ⟦<D as BlockDevice>⟧ → MeetsPremises (fault_history self.now) }
+        ensures { can_tear self.now ≡ false → AreReliableDevices ⟦<D as BlockDevice>⟧ → MeetsPowerLossPremises (fault_history self.now) }
     {}
 
     // Returns the part of the next call that is performed before it fails, or `None` if the call
     // isn't due to fail. `counts` says whether the call is counted.
-    fn numbered_extent(&self, counts: bool) -> Option<FaultExtent>
-        ensures { result ≡ numbered_extent self.now.fault counts self.now.trace.events }
+    fn nth_call_extent(&self, counts: bool) -> Option<FaultExtent>
+        ensures { result ≡ nth_call_extent self.now.fault counts self.now.trace.events }
     {
         let so_far = self.calls(self.fault.which);
         if self.fault.nth == 0 {
@@ -289,10 +289,10 @@ impl<D: BlockDevice> FaultDevice<D> {
 
     // Returns the part of a program or an erase of the block that is performed before it fails, or
     // `None` if the call isn't due to fail.
-    fn extent_at_block(&self, counts: bool, block: u32) -> Option<FaultExtent>
-        ensures { result ≡ extent_with_bad (is_bad_block self.now.fault.bad_block block) (numbered_extent self.now.fault counts self.now.trace.events) }
+    fn write_call_extent(&self, counts: bool, block: u32) -> Option<FaultExtent>
+        ensures { result ≡ extent_with_bad_block (is_bad_block self.now.fault.bad_block block) (nth_call_extent self.now.fault counts self.now.trace.events) }
     {
-        match self.numbered_extent(counts) {
+        match self.nth_call_extent(counts) {
             Some(extent) => Some(extent),
             None if self.is_bad(block) => Some(FaultExtent::Nothing),
             None => None,
@@ -300,10 +300,10 @@ impl<D: BlockDevice> FaultDevice<D> {
     }
 
     // Returns whether `is_unprogrammed` asks the wrapped device.
-    fn passes_questions(&self) -> bool
-        ensures { result ≡ (self.now.checks_blanks && is_none (numbered_extent self.now.fault false self.now.trace.events)) }
+    fn forwards_blank_queries(&self) -> bool
+        ensures { result ≡ (self.now.checks_blanks && is_none (nth_call_extent self.now.fault false self.now.trace.events)) }
     {
-        self.checks_blanks && self.numbered_extent(false).is_none()
+        self.checks_blanks && self.nth_call_extent(false).is_none()
     }
 
     fn is_bad(&self, block: u32) -> bool
@@ -318,7 +318,7 @@ impl<D: BlockDevice> FaultDevice<D> {
 
 // Returns whether the fault performs only a part of a call.
 fn is_part(extent: FaultExtent) -> bool
-    ensures { result ≡ is_partial extent }
+    ensures { result ≡ is_partial_extent extent }
 {
     matches!(
         extent,
@@ -327,7 +327,7 @@ fn is_part(extent: FaultExtent) -> bool
 }
 
 impl<D: BlockDevice> BlockDevice for FaultDevice<D> {
-    ghost use Rattle.lfs_device.specs.FaultDevice.{AddsCall, KeepsSettings, inner_device, planned_fault, passes_blanks, inner_blocks, fault_history};
+    ghost use Rattle.lfs_device.specs.FaultDevice.{AddsCall, KeepsSettings, inner_device, planned_fault, forwards_blank_checks, inner_blocks, fault_history};
 
     ghost geometry = { λ d. D.geometry d.inner };
 
@@ -349,9 +349,9 @@ impl<D: BlockDevice> BlockDevice for FaultDevice<D> {
 
     fn read(&mut self, block: u32, off: u32, buf: &mut [u8]) -> Result<(), Error>
         requires within { IsWithinBlock (D.geometry (inner_device self.old)) block off (length buf.old) }
-        ensures carried { PassesUnlessDue ⟦<D as BlockDevice>⟧ (extent_if_due (planned_fault self.old) (Read block off (length buf.old)) (fault_history self.old))
+        ensures carried { ForwardsUnlessFaulted ⟦<D as BlockDevice>⟧ (extent_if_planned (planned_fault self.old) (Read block off (length buf.old)) (fault_history self.old))
             (Read block off (length buf.old)) (is_err result) (inner_device self.old) (inner_device self.new) }
-        ensures whole { extent_if_due (planned_fault self.old) (Read block off (length buf.old)) (fault_history self.old) ≡ Some FaultExtent.Whole
+        ensures whole { extent_if_planned (planned_fault self.old) (Read block off (length buf.old)) (fault_history self.old) ≡ Some FaultExtent.Whole
             → AddsNoFault ⟦<D as BlockDevice>⟧ (inner_device self.old) (inner_device self.new)
             → buf.new ≡ slice_range (block_bytes (inner_blocks self.old) block) off (off + length buf.old) }
         ensures bytes { OnOk result (buf.new ≡ slice_range (block_bytes (inner_blocks self.old) block) off (off + length buf.old)) }
@@ -359,7 +359,7 @@ impl<D: BlockDevice> BlockDevice for FaultDevice<D> {
         ensures noted { AddsCall (Read block off (length buf.old)) self.old self.new result }
     {
         let counts = matches!(self.fault.which, CountedCalls::Any | CountedCalls::Read);
-        let due = self.numbered_extent(counts);
+        let due = self.nth_call_extent(counts);
         let begun = Trace::with_ghost_history(self, &(block, off, buf.len()));
         self.read_calls = self.read_calls.saturating_add(1);
         let outcome = read_as_planned(&mut self.inner, due, block, off, buf);
@@ -369,16 +369,16 @@ impl<D: BlockDevice> BlockDevice for FaultDevice<D> {
 
     fn prog(&mut self, block: u32, off: u32, bytes: &[u8]) -> Result<(), Error>
         requires can { CanProgram (D.geometry (inner_device self.old)) (fault_history self.old) block off (length bytes.now) }
-        ensures carried { PassesUnlessDue ⟦<D as BlockDevice>⟧ (extent_if_due (planned_fault self.old) (Program block off bytes.now) (fault_history self.old))
+        ensures carried { ForwardsUnlessFaulted ⟦<D as BlockDevice>⟧ (extent_if_planned (planned_fault self.old) (Program block off bytes.now) (fault_history self.old))
             (Program block off bytes.now) (is_err result) (inner_device self.old) (inner_device self.new) }
-        ensures stored { IfSome (extent_if_due (planned_fault self.old) (Program block off bytes.now) (fault_history self.old))
+        ensures stored { IfSome (extent_if_planned (planned_fault self.old) (Program block off bytes.now) (fault_history self.old))
             (λ extent. AddsNoFault ⟦<D as BlockDevice>⟧ (inner_device self.old) (inner_device self.new)
-            → inner_blocks self.new ≡ programmed (inner_blocks self.old) block off (programmed_bytes extent bytes.now)) }
+            → inner_blocks self.new ≡ programmed (inner_blocks self.old) block off (bytes_stored_at_fault extent bytes.now)) }
         ensures programs { Programs block off bytes.now (inner_blocks self.old) (inner_blocks self.new) result }
         ensures noted { AddsCall (Program block off bytes.now) self.old self.new result }
     {
         let counts = matches!(self.fault.which, CountedCalls::Any | CountedCalls::Program);
-        let due = self.extent_at_block(counts, block);
+        let due = self.write_call_extent(counts, block);
         let begun = Trace::with_ghost_history(self, &(block, off, bytes));
         self.program_calls = self.program_calls.saturating_add(1);
         let outcome = program_as_planned(&mut self.inner, due, block, off, bytes);
@@ -388,14 +388,14 @@ impl<D: BlockDevice> BlockDevice for FaultDevice<D> {
 
     fn erase(&mut self, block: u32) -> Result<(), Error>
         requires { block < (D.geometry (inner_device self.old)).block_count }
-        ensures carried { PassesUnlessDue ⟦<D as BlockDevice>⟧ (extent_if_due (planned_fault self.old) (Erase block) (fault_history self.old))
+        ensures carried { ForwardsUnlessFaulted ⟦<D as BlockDevice>⟧ (extent_if_planned (planned_fault self.old) (Erase block) (fault_history self.old))
             (Erase block) (is_err result) (inner_device self.old) (inner_device self.new) }
-        ensures kept { KeepsFirstBytes ⟦<D as BlockDevice>⟧ (extent_if_due (planned_fault self.old) (Erase block) (fault_history self.old)) block (inner_device self.old) (inner_device self.new) }
+        ensures kept { EraseKeepsFirstBytes ⟦<D as BlockDevice>⟧ (extent_if_planned (planned_fault self.old) (Erase block) (fault_history self.old)) block (inner_device self.old) (inner_device self.new) }
         ensures others { SameExcept block (inner_blocks self.old) (inner_blocks self.new) }
         ensures noted { AddsCall (Erase block) self.old self.new result }
     {
         let counts = matches!(self.fault.which, CountedCalls::Any | CountedCalls::Erase);
-        let due = self.extent_at_block(counts, block);
+        let due = self.write_call_extent(counts, block);
         let begun = Trace::with_ghost_history(self, &block);
         self.erase_calls = self.erase_calls.saturating_add(1);
         let outcome = erase_as_planned(&mut self.inner, due, block, &mut self.buffer);
@@ -407,15 +407,15 @@ impl<D: BlockDevice> BlockDevice for FaultDevice<D> {
     /// hasn't stopped all calls. Otherwise returns false without asking the wrapped device.
     fn is_unprogrammed(&mut self, block: u32, off: u32, len: u32) -> Result<bool, Error>
         requires within { IsWithinBlock (D.geometry (inner_device self.old)) block off len }
-        ensures unasked { passes_blanks self.old ≡ false → (result ≡ Ok false) × (self.new ≡ self.old) }
-        ensures passed { passes_blanks self.old ≡ true → extent_if_due (planned_fault self.old) (Blank block off len) (fault_history self.old) ≡ None
+        ensures unasked { forwards_blank_checks self.old ≡ false → (result ≡ Ok false) × (self.new ≡ self.old) }
+        ensures passed { forwards_blank_checks self.old ≡ true → extent_if_planned (planned_fault self.old) (Blank block off len) (fault_history self.old) ≡ None
             → AsksIfBlank block off len (inner_blocks self.old) (inner_blocks self.new) (D.history (inner_device self.old)) (D.history (inner_device self.new)) result }
         ensures asks { AsksIfBlank block off len (inner_blocks self.old) (inner_blocks self.new) (fault_history self.old) (fault_history self.new) result }
         ensures same { inner_blocks self.new ≡ inner_blocks self.old }
         ensures settings { KeepsSettings self.old self.new }
         ensures error { IfErr result (λ e. e ≡ Error.Io) }
     {
-        if !self.passes_questions() {
+        if !self.forwards_blank_queries() {
             return Ok(false);
         }
         let begun = Trace::with_ghost_history(self, &(block, off, len));

@@ -1,5 +1,5 @@
 ghost use Rattle.std.specs.Prelude.{◌≡◌, MatchResult};
-ghost use Rattle.lfs_model.specs.format.Disk.{pair_capacity, profile_attr_max, charge_limit, default_profile, profile_file_max, inline_limit, struct_max, profile_name_max, slots_limit};
+ghost use Rattle.lfs_model.specs.format.Disk.{pair_capacity, profile_attr_max, half_pair_capacity, default_profile, profile_file_max, inline_limit, struct_max, profile_name_max, slots_limit};
 ghost use Rattle.lfs_model.specs.format.Geometry.{IsValidGeometry};
 
 use crate::Error;
@@ -80,7 +80,7 @@ impl Geometry {
     /// Returns the number of bytes that a name and its attributes may need, including their tags:
     /// half of what `pair_capacity` returns.
     pub fn entry_size_limit(self) -> u32
-        ensures { result ≡ charge_limit self.block_size self.page }
+        ensures { result ≡ half_pair_capacity self.block_size self.page }
     {
         self.pair_capacity() / 2
     }

@@ -4,7 +4,7 @@ ghost use Rattle.lfs_model.specs.session.History.{fault_count};
 ghost use Rattle.lfs_model.specs.session.History.DeviceCall.{Read, Program, Erase};
 ghost use Rattle.lfs_device.specs.DeviceCalls.{ReadsOnly};
 ghost use Rattle.lfs_device.specs.BlockCalls.{CanProgram, IsWithinBlock};
-ghost use Rattle.lfs_device.specs.CallsBelow.{AddsNoFault, IfDone, KeepsFirstBytes, PassesUnlessDue, programmed_bytes};
+ghost use Rattle.lfs_device.specs.CallsBelow.{AddsNoFault, HoldsIfCallDone, EraseKeepsFirstBytes, ForwardsUnlessFaulted, bytes_stored_at_fault};
 ghost use Rattle.lfs_device.specs.Partial.{ChangesOnlyErasedBlock, ChangesOnlyRange, IsUnprogrammedPage};
 
 use crate::fault::FaultExtent;
@@ -20,8 +20,8 @@ pub(crate) fn read_as_planned<D: BlockDevice>(
     buf: &mut [u8],
 ) -> Result<(), Error>
     requires within { IsWithinBlock (D.geometry device.old) block off (length buf.old) }
-    ensures carried { PassesUnlessDue ⟦<D as BlockDevice>⟧ due (Read block off (length buf.old)) (is_err result) device.old device.new }
-    ensures bytes { IfDone D.BlockDevice due device.old device.new result (buf.new ≡ slice_range (block_bytes (D.blocks device.old) block) off (off + length buf.old)) }
+    ensures carried { ForwardsUnlessFaulted ⟦<D as BlockDevice>⟧ due (Read block off (length buf.old)) (is_err result) device.old device.new }
+    ensures bytes { HoldsIfCallDone D.BlockDevice due device.old device.new result (buf.new ≡ slice_range (block_bytes (D.blocks device.old) block) off (off + length buf.old)) }
     ensures device { ReadsOnly D.BlockDevice device.old device.new }
     ensures error { IfErr result (λ e. e ≡ Error.Io) }
     ensures faults { fault_count (D.history device.old) ≤ fault_count (D.history device.new) }
@@ -46,9 +46,9 @@ pub(crate) fn program_as_planned<D: BlockDevice>(
     bytes: &[u8],
 ) -> Result<(), Error>
     requires can { CanProgram (D.geometry device.old) (D.history device.old) block off (length bytes.now) }
-    ensures carried { PassesUnlessDue ⟦<D as BlockDevice>⟧ due (Program block off bytes.now) (is_err result) device.old device.new }
+    ensures carried { ForwardsUnlessFaulted ⟦<D as BlockDevice>⟧ due (Program block off bytes.now) (is_err result) device.old device.new }
     ensures stored { IfSome due (λ extent. AddsNoFault ⟦<D as BlockDevice>⟧ device.old device.new
-        → D.blocks device.new ≡ programmed (D.blocks device.old) block off (programmed_bytes extent bytes.now)) }
+        → D.blocks device.new ≡ programmed (D.blocks device.old) block off (bytes_stored_at_fault extent bytes.now)) }
     ensures ok { OnOk result (D.blocks device.new ≡ programmed (D.blocks device.old) block off bytes.now) }
     ensures part { ChangesOnlyRange D.BlockDevice block off (off + length bytes.now) device.old device.new }
     ensures error { IfErr result (λ e. e ≡ Error.Io) }
@@ -77,15 +77,15 @@ pub(crate) fn erase_as_planned<D: BlockDevice>(
     buffer: &mut Option<Vec<u8>>,
 ) -> Result<(), Error>
     requires { block < (D.geometry device.old).block_count }
-    ensures carried { PassesUnlessDue ⟦<D as BlockDevice>⟧ due (Erase block) (is_err result) device.old device.new }
-    ensures kept { KeepsFirstBytes ⟦<D as BlockDevice>⟧ due block device.old device.new }
+    ensures carried { ForwardsUnlessFaulted ⟦<D as BlockDevice>⟧ due (Erase block) (is_err result) device.old device.new }
+    ensures kept { EraseKeepsFirstBytes ⟦<D as BlockDevice>⟧ due block device.old device.new }
     ensures block { ChangesOnlyErasedBlock D.BlockDevice block device.old device.new result }
     ensures error { IfErr result (λ e. e ≡ Error.Io) }
 {
     match due {
         None => device.erase(block),
         Some(FaultExtent::AllButFirst(k)) => {
-            erase_all_but_first(device, block, k, buffer);
+            erase_keeping_first(device, block, k, buffer);
             Err(Error::Io)
         }
         Some(FaultExtent::Whole) => {
@@ -98,7 +98,7 @@ pub(crate) fn erase_as_planned<D: BlockDevice>(
 
 // Erases a block, and then programs the first `k` bytes that the block had before. Does nothing
 // unless there is a buffer of exactly a block's size.
-fn erase_all_but_first<D: BlockDevice>(
+fn erase_keeping_first<D: BlockDevice>(
     device: &mut D,
     block: u32,
     k: u32,
@@ -111,14 +111,14 @@ fn erase_all_but_first<D: BlockDevice>(
     let block_size = device.geometry().block_size as usize;
     if let Some(bytes) = buffer {
         if bytes.len() == block_size {
-            let _ = erase_behind_first(device, block, k, bytes);
+            let _ = erase_with_buffer(device, block, k, bytes);
         }
     }
 }
 
 // Erases a block, and then programs the first `k` bytes that the block had before. The buffer has a
 // block's size.
-fn erase_behind_first<D: BlockDevice>(
+fn erase_with_buffer<D: BlockDevice>(
     device: &mut D,
     block: u32,
     k: u32,
@@ -156,12 +156,12 @@ pub(crate) fn program_first_bytes<D: BlockDevice>(
     if whole == stored {
         return Ok(());
     }
-    program_page_part(device, block, off + whole as u32, &bytes[whole..stored])
+    program_partial_page(device, block, off + whole as u32, &bytes[whole..stored])
 }
 
 // Programs the given bytes at the beginning of a page, and the rest of the page with the bytes that
 // it already holds.
-fn program_page_part<D: BlockDevice>(
+fn program_partial_page<D: BlockDevice>(
     device: &mut D,
     block: u32,
     off: u32,

@@ -1,11 +1,11 @@
 ghost use Rattle.std.specs.Prelude.{◌≡◌, ◌≤◌, ◌<◌, ◌+◌, ◌*◌, [], ◌∷◌, false, true, length, replicate, slice_range, IsOk, IfOk, OnErr, MatchResult};
 ghost use Rattle.lfs_model.specs.format.Blocks.{SameExcept, block_bytes, cut, overwritten_at, programmed};
-ghost use Rattle.lfs_model.specs.session.History.{call_event, fault_count, LeftByLatest};
+ghost use Rattle.lfs_model.specs.session.History.{call_event, fault_count, LeftByLatestCall};
 ghost use Rattle.lfs_model.specs.session.History.DeviceCall.{Read, Program, Erase, Blank};
 ghost use Rattle.lfs_model.specs.crash.Conformance.{CallsConform};
-ghost use Rattle.lfs_model.specs.crash.Premises.{MeetsPremises};
+ghost use Rattle.lfs_model.specs.crash.Premises.{MeetsPowerLossPremises};
 ghost use Rattle.lfs_device.specs.Bytes.{ElementsAreBytes};
-ghost use Rattle.lfs_device.specs.DevicePremises.{DevicesMeetPremisesFaultless};
+ghost use Rattle.lfs_device.specs.DevicePremises.{AreReliableDevices};
 ghost use Rattle.lfs_device.specs.Erased.{FillIsByte, erased_bytes, erased_range};
 
 use crate::{BlockDevice, Error, Geometry, Trace};
@@ -32,13 +32,13 @@ pub struct RamDevice {
     ghost are_bytes: { ElementsAreBytes bytes.items },
     ghost size: { length bytes.items ≡ geometry.block_size * geometry.block_count },
     pub ghost no_fault: { fault_count trace.events ≡ 0 },
-    ghost newest: { LeftByLatest trace.events (cut geometry.block_size geometry.block_count bytes.items) },
+    ghost newest: { LeftByLatestCall trace.events (cut geometry.block_size geometry.block_count bytes.items) },
     ghost conforms: { CallsConform trace.events },
-    pub ghost premises: { ∥ MeetsPremises trace.events ∥₁ },
+    pub ghost premises: { ∥ MeetsPowerLossPremises trace.events ∥₁ },
 }
 
 impl RamDevice {
-    ghost use Rattle.lfs_device.specs.RamDevice.{ram_geometry, ram_bytes, ram_blocks, erase_setting, checks_blanks, ram_history};
+    ghost use Rattle.lfs_device.specs.RamDevice.{ram_geometry, ram_bytes, ram_blocks, erase_behavior, checks_blanks, ram_history};
 
     /// Creates a device whose bytes are all 0xff and count as programmed. An erase fills a block
     /// with 0xff.
@@ -47,7 +47,7 @@ impl RamDevice {
     pub fn blank(alloc: Global, geometry: Geometry) -> Result<RamDevice, Error>
         ensures geometry { IfOk result (λ d. ram_geometry d ≡ geometry) }
         ensures bytes { IfOk result (λ d. ram_bytes d ≡ replicate (geometry.block_size * geometry.block_count) 255) }
-        ensures settings { IfOk result (λ d. (erase_setting d ≡ Erased.Fill 255) × (checks_blanks d ≡ false)) }
+        ensures settings { IfOk result (λ d. (erase_behavior d ≡ Erased.Fill 255) × (checks_blanks d ≡ false)) }
         ensures no_call { IfOk result (λ d. ram_history d ≡ []) }
         ensures err { OnErr result (result ≡ Err Error.NoMemory) }
     {
@@ -68,7 +68,7 @@ impl RamDevice {
     /// Errors: `Invalid` if and only if the number of bytes doesn't match the geometry.
     pub fn from_bytes(geometry: Geometry, bytes: Vec<u8>) -> Result<RamDevice, Error>
         ensures made { MatchResult result
-            (λ d. (ram_geometry d ≡ geometry) × (ram_bytes d ≡ bytes.items) × (erase_setting d ≡ Erased.Fill 255) × (checks_blanks d ≡ false))
+            (λ d. (ram_geometry d ≡ geometry) × (ram_bytes d ≡ bytes.items) × (erase_behavior d ≡ Erased.Fill 255) × (checks_blanks d ≡ false))
             (λ e. (e ≡ Error.Invalid) × (¬ (length bytes.items ≡ geometry.block_size * geometry.block_count))) }
         ensures no_call { IfOk result (λ d. ram_history d ≡ []) }
     {
@@ -85,10 +85,10 @@ impl RamDevice {
     }
 
     /// Returns the same device, whose erases leave bytes as `erased` specifies.
-    pub fn with_erased(self, erased: Erased) -> RamDevice
+    pub fn with_erase_behavior(self, erased: Erased) -> RamDevice
         ensures geometry { ram_geometry result ≡ ram_geometry self }
         ensures bytes { ram_bytes result ≡ ram_bytes self }
-        ensures erased { erase_setting result ≡ erased }
+        ensures erased { erase_behavior result ≡ erased }
         ensures checks { checks_blanks result ≡ checks_blanks self }
         ensures history { ram_history result ≡ ram_history self }
     {
@@ -113,7 +113,7 @@ impl RamDevice {
     pub fn with_blank_checks(self) -> RamDevice
         ensures geometry { ram_geometry result ≡ ram_geometry self }
         ensures bytes { ram_bytes result ≡ ram_bytes self }
-        ensures erased { erase_setting result ≡ erase_setting self }
+        ensures erased { erase_behavior result ≡ erase_behavior self }
         ensures checks { checks_blanks result ≡ true }
         ensures history { ram_history result ≡ ram_history self }
     {
@@ -162,7 +162,7 @@ impl RamDevice {
 /// Proves that a device in memory meets the premises of contracts about power loss: no call fails,
 /// and an erase leaves no log or the old one. The call does nothing at run time.
 pub fn lemma_ram_premises()
-    ensures { DevicesMeetPremisesFaultless ⟦<RamDevice as BlockDevice>⟧ }
+    ensures { AreReliableDevices ⟦<RamDevice as BlockDevice>⟧ }
 {}
 
 // Overwrites the bytes at the offset `at`.
@@ -190,7 +190,7 @@ impl BlockDevice for RamDevice {
     ghost use Rattle.lfs_model.proofs.Cuts.{HasBlockSizes-cut};
     ghost use Rattle.lfs_device.specs.ByteLists.{HasBytes-cut};
     ghost use Rattle.lfs_device.specs.BlockCalls.{CanProgram, IsWithinBlock};
-    ghost use Rattle.lfs_device.specs.RamDevice.{KeepsSettings, ram_geometry, ram_bytes, ram_blocks, erase_setting, checks_blanks, ram_history};
+    ghost use Rattle.lfs_device.specs.RamDevice.{KeepsSettings, ram_geometry, ram_bytes, ram_blocks, erase_behavior, checks_blanks, ram_history};
 
     ghost geometry = { ram_geometry };
 
@@ -242,7 +242,7 @@ impl BlockDevice for RamDevice {
     fn erase(&mut self, block: u32) -> Result<(), Error>
         requires { block < (ram_geometry self.old).block_count }
         ensures ok { IsOk result }
-        ensures bytes { block_bytes (ram_blocks self.new) block ≡ erased_bytes (erase_setting self.old) (block_bytes (ram_blocks self.old) block) }
+        ensures bytes { block_bytes (ram_blocks self.new) block ≡ erased_bytes (erase_behavior self.old) (block_bytes (ram_blocks self.old) block) }
         ensures others { SameExcept block (ram_blocks self.old) (ram_blocks self.new) }
         ensures settings { KeepsSettings self.old self.new }
         ensures history { ram_history self.new ≡ call_event (Erase block) (ram_blocks self.old) (ram_blocks self.new) false ∷ ram_history self.old }

@@ -2,12 +2,12 @@
 use Rattle.std.proofs.Common.{ℕ, ◌≡◌, ◌≢◌, Bool, List, [], ◌∷◌, Result, Ok, Err, inl, inr, refl, sym, subst, ◌∙◌, arith}
 use Rattle.std.specs.Prelude.{All}
 use Rattle.lfs_file.specs.FileCalls.{ReadsOrCorrupt}
-use Rattle.lfs_file.proofs.Common.{ReadsOnly, ChangesTheseBlocks, ReportsFaults, SameExcept, call_event, fault_count, Read, began, goes_on, goes_on_by, AllCallsSince-weaker, OnlyReadsSince-trans, StayUnprogrammed-trans, SameExcept-refl, SameExcept-trans, SameExceptBlocks-refl}
+use Rattle.lfs_file.proofs.Common.{ReadsOnly, ChangesTheseBlocks, ReportsFaults, SameExcept, call_event, fault_count, Read, began, goes_on, goes_on_by, AllCallsSince-weaker, OnlyReadsSince-trans, OthersStayUnprogrammed-trans, SameExcept-refl, SameExcept-trans, SameExceptBlocks-refl}
 use Rattle.lfs_device.specs.DeviceCalls.{ChangesOneBlock}
 use Rattle.lfs_device.specs.declared.device.BlockDevice.{Ghosts}
 use Rattle.lfs_device.specs.declared.error.Error.{Error}
 use Rattle.lfs_model.specs.session.History.DeviceCall.{Program, Erase}
-use Rattle.lfs_model.proofs.Histories.{StayUnprogrammed-erase, StayUnprogrammed-program, StayUnprogrammed-read_count, StayUnprogrammed-refl}
+use Rattle.lfs_model.proofs.Histories.{OthersStayUnprogrammed-erase, OthersStayUnprogrammed-program, OthersStayUnprogrammed-read_count, OthersStayUnprogrammed-refl}
 use Rattle.lfs_model.proofs.Overwrites.{SameExceptBlocks-one}
 use Rattle.lfs_file.proofs.Pushing.{stays_one}
 use Rattle.lfs_file.proofs.Readings.{reads_stop}
@@ -30,7 +30,7 @@ module _ {D : Type 0} (g : Ghosts D) where
   pub only_read : {old new : D} (b : ℕ) → ReadsOnly g old new → ChangesOneBlock g b old new
   only_read {old} b read = record {
     others = subst (SameExcept b (g.blocks old)) (sym read.same) (SameExcept-refl b (g.blocks old));
-    elsewhere = StayUnprogrammed-read_count (b ∷ []) read.reads;
+    elsewhere = OthersStayUnprogrammed-read_count (b ∷ []) read.reads;
     geometry = read.geometry;
     at_worst = reads_stop (g.blocks old) b _ _ read.reads;
   }
@@ -39,7 +39,7 @@ module _ {D : Type 0} (g : Ghosts D) where
       → SameExcept block (g.blocks old) (g.blocks new) → g.geometry new ≡ g.geometry old → ChangesOneBlock g block old new
   erase_once called others geometry = record {
     others = others;
-    elsewhere = StayUnprogrammed-erase called;
+    elsewhere = OthersStayUnprogrammed-erase called;
     geometry = geometry;
     at_worst = goes_on began called (λ left stop. stop);
   }
@@ -48,7 +48,7 @@ module _ {D : Type 0} (g : Ghosts D) where
       → SameExcept block (g.blocks old) (g.blocks new) → g.geometry new ≡ g.geometry old → ChangesOneBlock g block old new
   program_once called others geometry = record {
     others = others;
-    elsewhere = StayUnprogrammed-program called;
+    elsewhere = OthersStayUnprogrammed-program called;
     geometry = geometry;
     at_worst = goes_on began called (λ left stop. stop);
   }
@@ -56,7 +56,7 @@ module _ {D : Type 0} (g : Ghosts D) where
   pub changes_on : {old mid new : D} {b : ℕ} → ChangesOneBlock g b old mid → ChangesOneBlock g b mid new → ChangesOneBlock g b old new
   changes_on first second = record {
     others = SameExcept-trans first.others second.others;
-    elsewhere = StayUnprogrammed-trans first.elsewhere second.elsewhere;
+    elsewhere = OthersStayUnprogrammed-trans first.elsewhere second.elsewhere;
     geometry = second.geometry ∙ first.geometry;
     at_worst = goes_on_by first.at_worst (AllCallsSince-weaker (λ e from left stop. SameExcept-trans first.others (from left stop)) second.at_worst);
   }
@@ -64,7 +64,7 @@ module _ {D : Type 0} (g : Ghosts D) where
   pub changes_none : (bs : List ℕ) (d : D) → ChangesTheseBlocks g bs d d
   changes_none bs d = record {
     others = SameExceptBlocks-refl bs (g.blocks d);
-    elsewhere = StayUnprogrammed-refl bs (g.history d);
+    elsewhere = OthersStayUnprogrammed-refl bs (g.history d);
     geometry = refl;
     at_worst = began;
   }

@@ -25,22 +25,22 @@ pub use Rattle.lfs_file.specs.SettledMaps.{KeepsOtherStates, SetsState, SettlesL
 pub use Rattle.lfs_file.specs.SharedBlocks.{IsSharedCount}
 pub use Rattle.lfs_file.specs.TakenBlocks.{ChangesOnlyFree, TakesFreeBlocks}
 pub use Rattle.lfs_file.specs.Way.{HasNotedPointers, HasNotedWalk, IsIndexVisited, visit_count}
-pub use Rattle.lfs_model.proofs.BlockSets.{number_occurrences-Contains, slice_get-set_other, slice_get-set_same}
-pub use Rattle.lfs_model.proofs.Counts.{number_occurrences}
+pub use Rattle.lfs_model.proofs.BlockSets.{occurrence_count-Contains, slice_get-set_other, slice_get-set_same}
+pub use Rattle.lfs_model.proofs.Counts.{occurrence_count}
 pub use Rattle.lfs_model.proofs.Files.{Same, back_same, data_same, length_back}
-pub use Rattle.lfs_model.proofs.Histories.{AllCallsSince-weaker, HoldsAtLosses-read_count, LossLeavesAtWorst-read, OnlyReadsSince-trans, StayUnprogrammed-trans, began, goes_on, goes_on_by}
+pub use Rattle.lfs_model.proofs.Histories.{AllCallsSince-weaker, HoldsAtLosses-read_count, LossLeavesAtWorst-read, OnlyReadsSince-trans, OthersStayUnprogrammed-trans, began, goes_on, goes_on_by}
 pub use Rattle.lfs_model.proofs.ListParts.{part_of_bytes, place-lt}
-pub use Rattle.lfs_model.proofs.ListSizes.{AllSized, block_count_for-more, head_of_back}
+pub use Rattle.lfs_model.proofs.ListSizes.{AllSized, skip_list_block_count-more, head_of_back}
 pub use Rattle.lfs_model.proofs.Overwrites.{SameExcept-refl, SameExcept-trans, SameExceptBlocks-refl, length-overwritten}
 pub use Rattle.lfs_model.specs.format.Blocks.{Blocks, HasBlockSizes, SameExcept, SameExceptBlocks, block_bytes, overwritten_at}
 pub use Rattle.lfs_model.specs.format.Disk.{inline_limit}
-pub use Rattle.lfs_model.specs.format.SkipLists.{AreListBlocks, IsBytePlace, IsSkipList, block_capacity, block_count_for, block_data, blocks_to_head, bytes_before_block, list_bytes, pointer_count, word_at}
+pub use Rattle.lfs_model.specs.format.SkipLists.{AreListBlocks, IsByteInListBlock, IsSkipList, block_capacity, skip_list_block_count, block_data, blocks_to_head, bytes_before_block, list_bytes, pointer_count, word_at}
 pub use Rattle.lfs_model.specs.layers.BlockSets.{BlockState, BlockStates, IsFree, IsInFlight, IsUsedBlock, in_flight_count, is_used, used_count}
 pub use Rattle.lfs_model.specs.layers.BlockSets.BlockState.{Free, InFlight, Used}
-pub use Rattle.lfs_model.specs.session.History.{CallEvent, HoldsAtLosses, LossLeavesAtWorst, StayUnprogrammed, call_event, fault_count, read_count}
+pub use Rattle.lfs_model.specs.session.History.{CallEvent, HoldsAtLosses, LossLeavesAtWorst, OthersStayUnprogrammed, call_event, fault_count, read_count}
 pub use Rattle.lfs_model.specs.session.History.DeviceCall.{Read}
 pub use Rattle.lfs_model.specs.session.Session.{FileWriter, reserved_for_writer}
-pub use Rattle.lfs_model.specs.session.Writers.{truncated_writer, write_position, written_contents, written_writer, zero_padded}
+pub use Rattle.lfs_model.specs.session.Writers.{truncated_writer, write_position, written_contents, writer_after_write, zero_padded}
 pub use Rattle.std.proofs.Math.Nat.{add-mul, mul_assoc, one-le-pow, pow-suc}
 pub use Rattle.std.proofs.Math.Pow.{pow_mono}
 pub use Rattle.std.proofs.Math.Seq.{drop-append-add, take-add, take-append-add}

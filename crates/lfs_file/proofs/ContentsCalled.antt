@@ -1,7 +1,7 @@
 -- The faults of calls of a device in a row, and the blocks that they leave alone.
 use Rattle.std.proofs.Common.{ℕ, ◌≡◌, Bool, List, ◌∷◌, Result, Ok, Err, refl, sym, subst, ◌∙◌, arith}
 use Rattle.lfs_file.proofs.Common.{ChangesTheseBlocks, ReadsOnly, ReportsFaults, Blocks, BlockStates, call_event, fault_count, Read, LossLeavesAtWorst-read, HoldsAtLosses-read_count, OnlyReadsSince-trans, began, goes_on, GrowingList, unwritten_block, IsTakenNotPending, HasBlocksTaken, KeepsTakenBytes, KeepsTakenBlocks, CallKeepsUsed, KeepsUsedBlocks, KeepsUsedBytes}
-use Rattle.lfs_device.specs.DeviceCalls.{ReportsIoNoMemory}
+use Rattle.lfs_device.specs.DeviceCalls.{ReportsIoOrNoMemory}
 use Rattle.lfs_device.specs.declared.device.BlockDevice.{Ghosts}
 use Rattle.lfs_device.specs.declared.error.Error.{Error}
 use Rattle.lfs_model.proofs.Histories.{is_unprogrammed_byte-read_count}
@@ -122,7 +122,7 @@ module _ {D : Type 0} (g : Ghosts D) where
   }
 
   -- and one behind it fails
-  pub writes_fail : {X Y Z : Type 0} {map between later : BlockStates} {old mid new : D} {x : X} {e : Error} → WritesUnusedBlocks g map between old mid (Ok x) → KeepsUsedBlocks between later → CallKeepsUsed g between mid new → ReportsIoNoMemory {X = Y} g mid new (Err e)
+  pub writes_fail : {X Y Z : Type 0} {map between later : BlockStates} {old mid new : D} {x : X} {e : Error} → WritesUnusedBlocks g map between old mid (Ok x) → KeepsUsedBlocks between later → CallKeepsUsed g between mid new → ReportsIoOrNoMemory {X = Y} g mid new (Err e)
       → WritesUnusedBlocks {X = Z} g map later old new (Err e)
   writes_fail first keeps device reports = record {
     map = KeepsUsedBlocks-trans first.map keeps;
@@ -131,7 +131,7 @@ module _ {D : Type 0} (g : Ghosts D) where
   }
 
   -- or succeeds
-  pub writes_on : {X Y Z : Type 0} {map between later : BlockStates} {old mid new : D} {x : X} {y : Y} {z : Z} → WritesUnusedBlocks g map between old mid (Ok x) → KeepsUsedBlocks between later → CallKeepsUsed g between mid new → ReportsIoNoMemory g mid new (Ok y) → WritesUnusedBlocks g map later old new (Ok z)
+  pub writes_on : {X Y Z : Type 0} {map between later : BlockStates} {old mid new : D} {x : X} {y : Y} {z : Z} → WritesUnusedBlocks g map between old mid (Ok x) → KeepsUsedBlocks between later → CallKeepsUsed g between mid new → ReportsIoOrNoMemory g mid new (Ok y) → WritesUnusedBlocks g map later old new (Ok z)
   writes_on first keeps device reports = writes_well (KeepsUsedBlocks-trans first.map keeps) (used_on first.map first.device device) (quiet reports.faults ∙ quiet first.reports.faults)
 
   -- the same of a call with another result
@@ -146,5 +146,5 @@ module _ {D : Type 0} (g : Ghosts D) where
   writes_none map d = writes_well (KeepsUsedBlocks-refl map) (used_reads map (not_read d)) refl
 
   -- a call that only reads
-  pub writes_of_reads : {X : Type 0} {map later : BlockStates} {old new : D} {result : Result X Error} → KeepsUsedBlocks map later → ReadsOnly g old new → ReportsIoNoMemory g old new result → WritesUnusedBlocks g map later old new result
+  pub writes_of_reads : {X : Type 0} {map later : BlockStates} {old new : D} {result : Result X Error} → KeepsUsedBlocks map later → ReadsOnly g old new → ReportsIoOrNoMemory g old new result → WritesUnusedBlocks g map later old new result
   writes_of_reads {map = map} keeps only reports = record { map = keeps; device = used_reads map only; reports = reports }

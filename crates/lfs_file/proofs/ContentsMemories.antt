@@ -1,6 +1,6 @@
 -- Writes to contents in memory, also if they move to a list.
 use Rattle.std.proofs.Common.{ℕ, ◌≢◌, ap₂, refl, subst, inl, ◌≡◌, ◌+◌, ◌-◌, ◌≤◌, ⊎_elim, Bool, true, false, [], if◌then◌else◌, List, ◌++◌, length, take, drop, max, min, replicate, sym, ap, ◌∙◌, arith, length-append, append_assoc}
-use Rattle.lfs_file.proofs.Common.{cases_lt, append-nil, take_all, drop_all, length-replicate, length-take-le, replicate-append-replicate, take_at, take-append-le, take-take, written_contents, zero_padded, take-add, Blocks, BlockStates, IsFree, IsInFlight, AreListBlocks, IsSkipList, blocks_to_head, block_count_for, bytes_before_block, list_bytes, GrowingList, DiskHasList, IsAllBuffered, IsRestAt, growing_bytes, lacks_last_block, blocks_data, lasting_blocks, unwritten_rest_block, unwritten_block, growing_size_with, growing_size, IsListOrEmpty, blocks_of_list, buffered_bytes, IsUnfinishedTo, in_flight_limit, block_count_for-more}
+use Rattle.lfs_file.proofs.Common.{cases_lt, append-nil, take_all, drop_all, length-replicate, length-take-le, replicate-append-replicate, take_at, take-append-le, take-take, written_contents, zero_padded, take-add, Blocks, BlockStates, IsFree, IsInFlight, AreListBlocks, IsSkipList, blocks_to_head, skip_list_block_count, bytes_before_block, list_bytes, GrowingList, DiskHasList, IsAllBuffered, IsRestAt, growing_bytes, lacks_last_block, blocks_data, lasting_blocks, unwritten_rest_block, unwritten_block, growing_size_with, growing_size, IsListOrEmpty, blocks_of_list, buffered_bytes, IsUnfinishedTo, in_flight_limit, skip_list_block_count-more}
 use Rattle.lfs_model.specs.format.Blocks.{overwritten_at as in_block}
 use Rattle.lfs_device.specs.declared.geometry.Geometry.{Geometry}
 use Rattle.std.specs.Prelude.{All, Contains, slice_range}
@@ -59,12 +59,12 @@ wrote_cut old bytes place keep is behind = ⊎_elim
     (cases_lt place (length old))
 
 -- room for a list is room for its first bytes, over no base
-pub no_base_fits : (geometry now : Geometry) (s : StoredList) (used was all was_all size most : ℕ) → now ≡ geometry → s.in_flight ≡ false → size ≤ most → used ≡ was → all ≡ was_all → was + block_count_for geometry.block_size most ≤ was_all
-    → used + block_count_for now.block_size size + in_flight_limit now.block_size s ≤ all
+pub no_base_fits : (geometry now : Geometry) (s : StoredList) (used was all was_all size most : ℕ) → now ≡ geometry → s.in_flight ≡ false → size ≤ most → used ≡ was → all ≡ was_all → was + skip_list_block_count geometry.block_size most ≤ was_all
+    → used + skip_list_block_count now.block_size size + in_flight_limit now.block_size s ≤ all
 no_base_fits geometry now s used was all was_all size most same none le is count room =
-    let first = block_count_for-more now.block_size size most le in
-    let e : block_count_for now.block_size most ≡ block_count_for geometry.block_size most = ap (λ (k : Geometry). block_count_for k.block_size most) same in
-    let f : in_flight_limit now.block_size s ≡ 0 = ap (λ (t : Bool). if t then block_count_for now.block_size s.size else 0) none in
+    let first = skip_list_block_count-more now.block_size size most le in
+    let e : skip_list_block_count now.block_size most ≡ skip_list_block_count geometry.block_size most = ap (λ (k : Geometry). skip_list_block_count k.block_size most) same in
+    let f : in_flight_limit now.block_size s ≡ 0 = ap (λ (t : Bool). if t then skip_list_block_count now.block_size s.size else 0) none in
     omega arith
 
 -- zeros behind the end

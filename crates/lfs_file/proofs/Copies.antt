@@ -1,7 +1,7 @@
 -- Bytes that are read and then appended.
 use Rattle.std.proofs.Common.{ℕ, ◌≡◌, ◌+◌, ◌-◌, ◌≤◌, ◌⊎◌, inl, inr, List, ◌++◌, length, take, drop, Result, Err, sym, ap, ◌∙◌, subst, arith, append_assoc}
 use Rattle.std.specs.Prelude.{All, slice_range}
-use Rattle.lfs_file.proofs.Common.{enumerate_from, take-append-drop, drop-drop, length-take, drop_all, append-nil, Blocks, BlockStates, IsSkipList, blocks_to_head, block_count_for, list_bytes, block_data, GrowingList, growing_size_with, GrowsInFree, IsTakenNotPending, KeepsTakenBytes, IsListOrEmpty, blocks_of_list, ChangesOnlyFree}
+use Rattle.lfs_file.proofs.Common.{enumerate_from, take-append-drop, drop-drop, length-take, drop_all, append-nil, Blocks, BlockStates, IsSkipList, blocks_to_head, skip_list_block_count, list_bytes, block_data, GrowingList, growing_size_with, GrowsInFree, IsTakenNotPending, KeepsTakenBytes, IsListOrEmpty, blocks_of_list, ChangesOnlyFree}
 use Rattle.std.specs.List.{flat_map}
 use Rattle.lfs_device.specs.declared.error.Error.{Error}
 use Rattle.lfs_device.specs.declared.geometry.Geometry.{Geometry}
@@ -31,7 +31,7 @@ few_bytes size xs = omega (arith, length-take size xs)
 -- behind its end a base has no bytes
 pub none_behind : (d : Blocks) (block_size head size end : ℕ) (content : List ℕ) → size ≤ end → content ++ drop end (list_bytes d block_size head size) ≡ content
 none_behind d block_size head size end content le =
-    ap (λ (l : List ℕ). content ++ l) (drop_all end (list_bytes d block_size head size) (let few = few_bytes size (flat_map (block_data d) (enumerate_from 0 (blocks_to_head d (block_count_for block_size size) head))) in omega arith)) ∙ append-nil content
+    ap (λ (l : List ℕ). content ++ l) (drop_all end (list_bytes d block_size head size) (let few = few_bytes size (flat_map (block_data d) (enumerate_from 0 (blocks_to_head d (skip_list_block_count block_size size) head))) in omega arith)) ∙ append-nil content
 
 -- the base is a list still, with the same bytes, also by another name of the geometry
 pub listed : (map : BlockStates) (pending : List ℕ) (d e : Blocks) (geometry now : Geometry) (head size : ℕ) → now ≡ geometry → KeepsTakenBytes map pending d e → All (IsTakenNotPending map pending) (blocks_of_list d geometry.block_size head size)
@@ -47,8 +47,8 @@ read_bytes map pending d e geometry now head size from to taken same spared apar
 pub sized : (geometry now : Geometry) (g : GrowingList) → now ≡ geometry → growing_size_with now.block_size g ≡ growing_size_with geometry.block_size g
 sized geometry now g same = ap (λ (k : Geometry). growing_size_with k.block_size g) same
 
-pub counted : (geometry now : Geometry) (g : GrowingList) (n : ℕ) → now ≡ geometry → n ≡ block_count_for now.block_size (growing_size_with now.block_size g) → n ≡ block_count_for geometry.block_size (growing_size_with geometry.block_size g)
-counted geometry now g n same is = is ∙ ap (λ (k : Geometry). block_count_for k.block_size (growing_size_with k.block_size g)) same
+pub counted : (geometry now : Geometry) (g : GrowingList) (n : ℕ) → now ≡ geometry → n ≡ skip_list_block_count now.block_size (growing_size_with now.block_size g) → n ≡ skip_list_block_count geometry.block_size (growing_size_with geometry.block_size g)
+counted geometry now g n same is = is ∙ ap (λ (k : Geometry). skip_list_block_count k.block_size (growing_size_with k.block_size g)) same
 
 -- a list's blocks are all there
 pub not_corrupt : {T : Type 0} (x : Error) → (x ≡ Error.Io) ⊎ (x ≡ Error.Corrupt) → (◌≡◌ {A = Result T Error} (Err x) (Err Error.Corrupt) → ⊥) → (x ≡ Error.Io) ⊎ (x ≡ Error.NoMemory)

@@ -2,7 +2,7 @@
 use Rattle.std.proofs.Common.{ℕ, ◌≡◌, ◌≢◌, ◌⊎◌, inl, inr, ⊎_elim, Bool, true, false, if◌then◌else◌, nat_eq, get_or, List, [], take, drop, Some, refl, sym, ap, ◌∙◌, subst, arith}
 use Rattle.std.specs.Prelude.{All, Contains}
 use Rattle.std.specs.List.{IsDistinct}
-use Rattle.lfs_file.proofs.Common.{take-append-drop, All-contains, All-contains_itself, Contains-append_cases, Blocks, SameExceptBlocks, BlockStates, IsFree, IsInFlight, Free, Used, block_count_for, AreListBlocks, IsSkipList, GrowingList, growing_blocks, lasting_blocks, unwritten_block, IsListOrEmpty, blocks_of_list, CanEndOver, IsFinishedList, KeepsUsedBlocks, ReleasesInFlight, ChangesOnlyFree}
+use Rattle.lfs_file.proofs.Common.{take-append-drop, All-contains, All-contains_itself, Contains-append_cases, Blocks, SameExceptBlocks, BlockStates, IsFree, IsInFlight, Free, Used, skip_list_block_count, AreListBlocks, IsSkipList, GrowingList, growing_blocks, lasting_blocks, unwritten_block, IsListOrEmpty, blocks_of_list, CanEndOver, IsFinishedList, KeepsUsedBlocks, ReleasesInFlight, ChangesOnlyFree}
 use Rattle.std.proofs.lemmas.List.Elements.{All-drop}
 use Rattle.lfs_device.specs.declared.geometry.Geometry.{Geometry}
 use Rattle.lfs_file.specs.declared.stored_list.StoredList.{StoredList}
@@ -103,10 +103,10 @@ unfolding IsDistinct
 none_chain d head = record { in_range = λ k x l. absurd (omega (arith, l)); distinct = tt; pointers = λ i k l less. absurd (omega (arith, l)) }
 
 -- a base's blocks, from the head back
-pub base_chain : (d : Blocks) (geometry now : Geometry) (head size n : ℕ) → now ≡ geometry → n ≡ block_count_for now.block_size size → IsListOrEmpty d geometry.block_size head size → AreListBlocks d n head
-base_chain d geometry now head size n same is (inl none) = subst (λ k. AreListBlocks d k head) (sym (is ∙ ap (block_count_for now.block_size) none)) (none_chain d head)
+pub base_chain : (d : Blocks) (geometry now : Geometry) (head size n : ℕ) → now ≡ geometry → n ≡ skip_list_block_count now.block_size size → IsListOrEmpty d geometry.block_size head size → AreListBlocks d n head
+base_chain d geometry now head size n same is (inl none) = subst (λ k. AreListBlocks d k head) (sym (is ∙ ap (skip_list_block_count now.block_size) none)) (none_chain d head)
 base_chain d geometry now head size n same is (inr list) =
-    subst (λ k. AreListBlocks d k head) (sym (is ∙ ap (λ (k : Geometry). block_count_for k.block_size size) same)) list.blocks
+    subst (λ k. AreListBlocks d k head) (sym (is ∙ ap (λ (k : Geometry). skip_list_block_count k.block_size size) same)) list.blocks
 
 -- a base stays while the list's last block is written
 pub base_end : (map : BlockStates) (e f : Blocks) (geometry device : Geometry) (h : GrowingList) (base : StoredList) (shared : ℕ) → device ≡ geometry → CanEndOver map e geometry.block_size h base shared → SameExceptBlocks (unwritten_block h) e f

@@ -2,12 +2,12 @@
 use Rattle.std.proofs.Common.{ℕ, zero, suc, get_or, subst, ◌^◌, ◌≡◌, ◌≢◌, ◌+◌, ◌*◌, ◌-◌, ◌<◌, ◌≤◌, List, [], ◌∷◌, ◌++◌, length, take, drop, refl, sym, ap, ◌∙◌, arith, append_assoc, length-append, length-drop}
 use Rattle.std.specs.Prelude.{All}
 use Rattle.std.specs.List.{IsDistinct}
-use Rattle.lfs_file.proofs.Common.{append-nil, take_at, take_all, take-take, drop-append-le, drop-take, length-take-le, take-append-add, Blocks, HasBlockSizes, SameExcept, block_bytes, overwritten_at, pointer_count, block_capacity, bytes_before_block, blocks_to_head, block_count_for, AreListBlocks, block_data, data_same, ListHoldsBytes, blocks_data, IsRestShared}
+use Rattle.lfs_file.proofs.Common.{append-nil, take_at, take_all, take-take, drop-append-le, drop-take, length-take-le, take-append-add, Blocks, HasBlockSizes, SameExcept, block_bytes, overwritten_at, pointer_count, block_capacity, bytes_before_block, blocks_to_head, skip_list_block_count, AreListBlocks, block_data, data_same, ListHoldsBytes, blocks_data, IsRestShared}
 use Rattle.lfs_file.specs.Growing.{IsRestUnwritten}
 use Rattle.lfs_file.proofs.Chains.{length_back}
 use Rattle.lfs_file.proofs.Grown.{same_apart}
 use Rattle.lfs_file.proofs.Joined.{joined-append, length-joined}
-use Rattle.lfs_file.proofs.Sizes.{block_capacity-pos, block_count_for-above, block_count_for-within}
+use Rattle.lfs_file.proofs.Sizes.{block_capacity-pos, skip_list_block_count-above, skip_list_block_count-within}
 
 -- no blocks are a chain
 pub none_chain : (d : Blocks) (head : ℕ) → AreListBlocks d 0 head
@@ -70,10 +70,10 @@ length-full d block_size count full head large shape chain =
     omega (arith, all, ap (bytes_before_block block_size) (let s : 0 + length (blocks_to_head d full head) ≡ full = omega arith in s))
 
 -- a list of so many blocks
-at_end : (d : Blocks) (block_size head size n : ℕ) (content : List ℕ) → 1 ≤ size → size < 2 ^ 31 → block_count_for block_size size ≡ n → AreListBlocks d n head → take size (blocks_data d (blocks_to_head d n head)) ≡ content
+at_end : (d : Blocks) (block_size head size n : ℕ) (content : List ℕ) → 1 ≤ size → size < 2 ^ 31 → skip_list_block_count block_size size ≡ n → AreListBlocks d n head → take size (blocks_data d (blocks_to_head d n head)) ≡ content
     → ListHoldsBytes d block_size head size content (blocks_to_head d n head)
 at_end d block_size head size n content low high count chain is =
-    let whole : AreListBlocks d (block_count_for block_size size) head = subst (λ k. AreListBlocks d k head) (sym count) chain in
+    let whole : AreListBlocks d (skip_list_block_count block_size size) head = subst (λ k. AreListBlocks d k head) (sym count) chain in
     record {
       list = record { size_low = low; size_high = high; blocks = whole };
       bytes = ap (λ k. take size (blocks_data d (blocks_to_head d k head))) count ∙ is;
@@ -86,8 +86,8 @@ pub end_closed : (d : Blocks) (block_size count full head size : ℕ) → 1024 �
 end_closed d block_size count zero head size large shape chain low high is = absurd (omega arith)
 end_closed d block_size count (suc full) head size large shape chain low high is =
     let one = block_capacity-pos block_size full large in
-    let above = block_count_for-above block_size size full large (omega arith) in
-    let within = block_count_for-within block_size size (suc full) large (omega arith) in
+    let above = skip_list_block_count-above block_size size full large (omega arith) in
+    let within = skip_list_block_count-within block_size size (suc full) large (omega arith) in
     at_end d block_size head size (suc full) (blocks_data d (blocks_to_head d (suc full) head)) low high (omega arith) chain
     (take_all size (blocks_data d (blocks_to_head d (suc full) head)) (omega (arith, length-full d block_size count (suc full) head large shape chain)))
 
@@ -98,8 +98,8 @@ pub end_open : (d e : Blocks) (block_size count full head block size : ℕ) (res
     → ListHoldsBytes e block_size block size (blocks_data d (blocks_to_head d full head) ++ rest) (blocks_to_head e (full + 1) block)
 end_open d e block_size count full head block size rest large shape chain more bytes begins some short high is =
     let all = length-full d block_size count full head large shape chain in
-    let above = block_count_for-above block_size size full large (omega arith) in
-    let within = block_count_for-within block_size size (suc full) large (omega arith) in
+    let above = skip_list_block_count-above block_size size full large (omega arith) in
+    let within = skip_list_block_count-within block_size size (suc full) large (omega arith) in
     let sum : size ≡ length (blocks_data d (blocks_to_head d full head)) + length rest = omega arith in
     at_end e block_size block size (full + 1) (blocks_data d (blocks_to_head d full head) ++ rest) (omega arith) high (omega arith) more
     (ap (take size) bytes

@@ -1,7 +1,7 @@
 -- The number of blocks in flight, and the contents after a write.
 use Rattle.std.proofs.Common.{ℕ, ◌≡◌, ◌≢◌, ◌+◌, ◌*◌, ◌-◌, ◌≤◌, inl, inr, ⊎_elim, Bool, true, false, if◌then◌else◌, List, [], ◌++◌, length, take, drop, max, min, replicate, refl, sym, ap, ◌∙◌, subst, arith, length-append, length-drop}
 use Rattle.std.specs.Prelude.{Contains}
-use Rattle.lfs_file.proofs.Common.{drop-append-add, cases_eq, cases_lt, Contains-append_left, Contains-append_right, append-nil, take_all, drop_all, length-replicate, length-take, length-take-le, replicate-append-replicate, take_at, drop-drop, Blocks, HasBlockSizes, BlockStates, in_flight_count, written_contents, zero_padded, blocks_to_head, block_count_for, list_bytes, GrowingList, DiskHasList, growing_bytes, blocks_data, lasting_blocks, unwritten_block, growing_size_with, KeepsTakenBytes, IsListOrEmpty, blocks_of_list, SharesFirstBlocks, IsFinishedList, stored_list_bytes, in_flight_limit, length_back, block_count_for-more}
+use Rattle.lfs_file.proofs.Common.{drop-append-add, cases_eq, cases_lt, Contains-append_left, Contains-append_right, append-nil, take_all, drop_all, length-replicate, length-take, length-take-le, replicate-append-replicate, take_at, drop-drop, Blocks, HasBlockSizes, BlockStates, in_flight_count, written_contents, zero_padded, blocks_to_head, skip_list_block_count, list_bytes, GrowingList, DiskHasList, growing_bytes, blocks_data, lasting_blocks, unwritten_block, growing_size_with, KeepsTakenBytes, IsListOrEmpty, blocks_of_list, SharesFirstBlocks, IsFinishedList, stored_list_bytes, in_flight_limit, length_back, skip_list_block_count-more}
 use Rattle.lfs_model.specs.format.Blocks.{overwritten_at as in_block}
 use Rattle.lfs_model.proofs.Overwrites.{overwritten_next, overwritten_none}
 use Rattle.lfs_device.specs.declared.geometry.Geometry.{Geometry}
@@ -42,9 +42,9 @@ in_lent : (t : Bool) (bs : List ℕ) (b : ℕ) → t ≡ true → Contains bs b 
 unfolding lent
 in_lent t bs b is has = subst (λ (v : Bool). Contains (lent v bs) b) (sym is) has
 
-length-lent : (d : Blocks) (block_size : ℕ) (s : StoredList) (t : Bool) → length (lent t (blocks_of_list d block_size s.head s.size)) ≡ (if t then block_count_for block_size s.size else 0)
+length-lent : (d : Blocks) (block_size : ℕ) (s : StoredList) (t : Bool) → length (lent t (blocks_of_list d block_size s.head s.size)) ≡ (if t then skip_list_block_count block_size s.size else 0)
 unfolding lent
-length-lent d block_size s true = length_back d (block_count_for block_size s.size) s.head
+length-lent d block_size s true = length_back d (skip_list_block_count block_size s.size) s.head
 length-lent d block_size s false = refl
 
 pub stored_flying : (map : BlockStates) (d : Blocks) (block_size : ℕ) (s : StoredList) → IsFinishedList map d block_size s → in_flight_count map ≤ in_flight_limit block_size s
@@ -82,17 +82,17 @@ lent_count true n = omega arith
 lent_count false n = omega arith
 
 -- at most all of a base's blocks are in flight
-pub in_flight_limit-le : (block_size : ℕ) (s : StoredList) → in_flight_limit block_size s ≤ block_count_for block_size s.size
-in_flight_limit-le block_size s = lent_count s.in_flight (block_count_for block_size s.size)
+pub in_flight_limit-le : (block_size : ℕ) (s : StoredList) → in_flight_limit block_size s ≤ skip_list_block_count block_size s.size
+in_flight_limit-le block_size s = lent_count s.in_flight (skip_list_block_count block_size s.size)
 
 -- room for two lists is room for each that comes
-pub two_fit : (geometry now : Geometry) (s : StoredList) (used all most end size : ℕ) → now ≡ geometry → s.size ≡ size → size ≤ most → end ≤ most → used + 2 * block_count_for geometry.block_size most ≤ all
-    → used + block_count_for now.block_size end + in_flight_limit now.block_size s ≤ all
+pub two_fit : (geometry now : Geometry) (s : StoredList) (used all most end size : ℕ) → now ≡ geometry → s.size ≡ size → size ≤ most → end ≤ most → used + 2 * skip_list_block_count geometry.block_size most ≤ all
+    → used + skip_list_block_count now.block_size end + in_flight_limit now.block_size s ≤ all
 two_fit geometry now s used all most end size same is low high room =
-    let first = block_count_for-more now.block_size end most high in
-    let second = block_count_for-more now.block_size s.size most (omega arith) in
+    let first = skip_list_block_count-more now.block_size end most high in
+    let second = skip_list_block_count-more now.block_size s.size most (omega arith) in
     let few = in_flight_limit-le now.block_size s in
-    let e : block_count_for now.block_size most ≡ block_count_for geometry.block_size most = ap (λ (k : Geometry). block_count_for k.block_size most) same in
+    let e : skip_list_block_count now.block_size most ≡ skip_list_block_count geometry.block_size most = ap (λ (k : Geometry). skip_list_block_count k.block_size most) same in
     omega arith
 
 -- ---- writes one behind the other
@@ -132,11 +132,11 @@ in_hand d block_size count g base large shape growing =
     omega (arith, length-content d block_size count g large shape growing, length-append (growing_bytes d g) (drop (growing_size_with block_size g) (stored_list_bytes d block_size base)))
 
 -- room for all is room for a part
-pub part_fits : (geometry now : Geometry) (s t : StoredList) (used was all was_all size end : ℕ) → now ≡ geometry → s ≡ t → size ≤ end → used ≡ was → all ≡ was_all → was + block_count_for geometry.block_size end + in_flight_limit geometry.block_size t ≤ was_all
-    → used + block_count_for now.block_size size + in_flight_limit now.block_size s ≤ all
+pub part_fits : (geometry now : Geometry) (s t : StoredList) (used was all was_all size end : ℕ) → now ≡ geometry → s ≡ t → size ≤ end → used ≡ was → all ≡ was_all → was + skip_list_block_count geometry.block_size end + in_flight_limit geometry.block_size t ≤ was_all
+    → used + skip_list_block_count now.block_size size + in_flight_limit now.block_size s ≤ all
 part_fits geometry now s t used was all was_all size end same base le is count room =
-    let first = block_count_for-more now.block_size size end le in
-    let e : block_count_for now.block_size end ≡ block_count_for geometry.block_size end = ap (λ (k : Geometry). block_count_for k.block_size end) same in
+    let first = skip_list_block_count-more now.block_size size end le in
+    let e : skip_list_block_count now.block_size end ≡ skip_list_block_count geometry.block_size end = ap (λ (k : Geometry). skip_list_block_count k.block_size end) same in
     let f : in_flight_limit now.block_size s ≡ in_flight_limit geometry.block_size t = ap (λ (k : Geometry). in_flight_limit k.block_size s) same ∙ ap (in_flight_limit geometry.block_size) base in
     omega arith
 
@@ -195,8 +195,8 @@ wrote_gap old bytes len place begin is at = ⊎_elim
 
 -- there is room for one list more over the base as it is, or for two
 pub either_fits : (geometry now : Geometry) (s t : StoredList) (used was all was_all end begin len last size : ℕ) → now ≡ geometry → used ≡ was → all ≡ was_all → size ≤ last
-    → (end ≡ begin → s ≡ t) → (end ≢ begin → s.size ≡ len) → (end ≡ begin → was + block_count_for geometry.block_size last + in_flight_limit geometry.block_size t ≤ was_all)
-    → (end ≢ begin → was + 2 * block_count_for geometry.block_size (max len last) ≤ was_all) → used + block_count_for now.block_size size + in_flight_limit now.block_size s ≤ all
+    → (end ≡ begin → s ≡ t) → (end ≢ begin → s.size ≡ len) → (end ≡ begin → was + skip_list_block_count geometry.block_size last + in_flight_limit geometry.block_size t ≤ was_all)
+    → (end ≢ begin → was + 2 * skip_list_block_count geometry.block_size (max len last) ≤ was_all) → used + skip_list_block_count now.block_size size + in_flight_limit now.block_size s ≤ all
 either_fits geometry now s t used was all was_all end begin len last size same is count le stays grows on anew = ⊎_elim
     (λ e. part_fits geometry now s t used was all was_all size last same (stays e) le is count (on e))
     (λ ne. let room = anew ne in two_fit geometry now s used all (max len last) size len same (grows ne) (omega arith) (omega arith) (omega arith))

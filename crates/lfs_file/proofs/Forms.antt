@@ -1,10 +1,10 @@
 -- Each call of a writer leaves its contents in the form that is stated, and the blocks that it reserves are enough.
 use Rattle.std.proofs.Common.{ℕ, ◌≡◌, ◌≢◌, ◌+◌, ◌*◌, ◌-◌, ◌<◌, ◌≤◌, ⊎_elim, Bool, true, false, not, if◌then◌else◌, max, min, List, ◌∷◌, ◌++◌, length, take, drop, replicate, Option, Some, None, is_some, refl, sym, ap, ◌∙◌, subst, arith, length-append, length-drop}
 use Rattle.std.specs.Prelude.{nat_le, nat_lt, ◌==◌, ◌||◌}
-use Rattle.lfs_file.proofs.Common.{eqb-true, eqb-false, ltb-true, ne_eqb, eq-eqb, cases_eq, lt-leb, le-leb, length-take, length-replicate, inline_limit, block_count_for, FileWriter, reserved_for_writer, written_writer, truncated_writer, written_contents, write_position, zero_padded, ContentsForm, InMemory, Finished, InHand, form_size, form_written_within, shortened_form, written_form, truncated_form, IsWriterForm, block_count_for-more}
+use Rattle.lfs_file.proofs.Common.{eqb-true, eqb-false, ltb-true, ne_eqb, eq-eqb, cases_eq, lt-leb, le-leb, length-take, length-replicate, inline_limit, skip_list_block_count, FileWriter, reserved_for_writer, writer_after_write, truncated_writer, written_contents, write_position, zero_padded, ContentsForm, InMemory, Finished, InHand, form_size, form_written_within, shortened_form, written_form, truncated_form, IsWriterForm, skip_list_block_count-more}
 use Rattle.std.proofs.lemmas.Bool.{or_left, or_right, leb-true, leb-false, ltb-false}
 use Rattle.lfs_model.specs.declared.limits.Profile.{Profile}
-use Rattle.lfs_model.specs.session.Session.{list_block_count}
+use Rattle.lfs_model.specs.session.Session.{file_block_count}
 use Rattle.lfs_model.specs.session.Writers.{synced_writer, opened_writer, turns_writer}
 use Rattle.lfs_model.specs.session.Operations.{FlagsOfOpen}
 use Rattle.lfs_model.specs.tree.Tree.{Path}
@@ -113,12 +113,12 @@ turned_on : (turned : Bool) (last_end : Option ℕ) (begin end : ℕ) → last_e
 turned_on turned last_end begin end at ne = or_right turned (turns_writer last_end begin) (let e : turns_writer (Some end) begin ≡ true = ap not (ne_eqb begin end (λ e. ne (sym e))) in ap (λ l. turns_writer l begin) at ∙ e)
 
 pub kept_written : (profile : Profile) (block_size : ℕ) (form : ContentsForm) (w : FileWriter) (byte : ℕ) (bytes : List ℕ) → IsWriterForm profile block_size form w
-    → IsWriterForm profile block_size (written_form (inline_limit profile block_size) (write_position w) (length (byte ∷ bytes)) form) (written_writer w (byte ∷ bytes))
+    → IsWriterForm profile block_size (written_form (inline_limit profile block_size) (write_position w) (length (byte ∷ bytes)) form) (writer_after_write w (byte ∷ bytes))
 kept_written profile block_size form w byte bytes kept =
     let place : ℕ = write_position w in
     let size : ℕ = form_size form in
     let stop : ℕ = place + length (byte ∷ bytes) in
-    let v : FileWriter = written_writer w (byte ∷ bytes) in
+    let v : FileWriter = writer_after_write w (byte ∷ bytes) in
     let is : size ≡ length w.contents = kept.size in
     let long : length v.contents ≡ max (length w.contents) stop = length-written w.contents place (byte ∷ bytes) in
     either profile block_size (nat_le (max size stop) (inline_limit profile block_size)) (InMemory (max size stop)) (form_written_within (min place size) stop form) v
@@ -230,20 +230,20 @@ kept_opened_list profile block_size path flags bytes = record {
 
 -- ---- space
 
-held_dirty : (profile : Profile) (block_size : ℕ) (w : FileWriter) → w.dirty ≡ true → inline_limit profile block_size < length w.contents → reserved_for_writer profile block_size w ≡ 2 + (if w.turned then 2 else 1) * block_count_for block_size (length w.contents)
+held_dirty : (profile : Profile) (block_size : ℕ) (w : FileWriter) → w.dirty ≡ true → inline_limit profile block_size < length w.contents → reserved_for_writer profile block_size w ≡ 2 + (if w.turned then 2 else 1) * skip_list_block_count block_size (length w.contents)
 held_dirty profile block_size w dirty large =
     let n : ℕ = length w.contents in
-    let first : reserved_for_writer profile block_size w ≡ 2 + (if w.turned then 2 else 1) * list_block_count profile block_size n = ap (λ (t : Bool). if not t then 0 else 2 + (if w.turned then 2 else 1) * list_block_count profile block_size n) dirty in
+    let first : reserved_for_writer profile block_size w ≡ 2 + (if w.turned then 2 else 1) * file_block_count profile block_size n = ap (λ (t : Bool). if not t then 0 else 2 + (if w.turned then 2 else 1) * file_block_count profile block_size n) dirty in
     let outside : nat_le n (inline_limit profile block_size) ≡ false = lt-leb n (inline_limit profile block_size) large in
-    first ∙ ap (λ (t : Bool). 2 + (if w.turned then 2 else 1) * (if t then 0 else block_count_for block_size n)) outside
+    first ∙ ap (λ (t : Bool). 2 + (if w.turned then 2 else 1) * (if t then 0 else skip_list_block_count block_size n)) outside
 
-held_turned : (profile : Profile) (block_size : ℕ) (w : FileWriter) → w.dirty ≡ true → inline_limit profile block_size < length w.contents → w.turned ≡ true → reserved_for_writer profile block_size w ≡ 2 + 2 * block_count_for block_size (length w.contents)
-held_turned profile block_size w dirty large turned = held_dirty profile block_size w dirty large ∙ ap (λ (t : Bool). 2 + (if t then 2 else 1) * block_count_for block_size (length w.contents)) turned
+held_turned : (profile : Profile) (block_size : ℕ) (w : FileWriter) → w.dirty ≡ true → inline_limit profile block_size < length w.contents → w.turned ≡ true → reserved_for_writer profile block_size w ≡ 2 + 2 * skip_list_block_count block_size (length w.contents)
+held_turned profile block_size w dirty large turned = held_dirty profile block_size w dirty large ∙ ap (λ (t : Bool). 2 + (if t then 2 else 1) * skip_list_block_count block_size (length w.contents)) turned
 
-held_once : (profile : Profile) (block_size : ℕ) (w : FileWriter) → w.dirty ≡ true → inline_limit profile block_size < length w.contents → 2 + block_count_for block_size (length w.contents) ≤ reserved_for_writer profile block_size w
-held_once profile block_size w dirty large = turned_or w.turned (2 + block_count_for block_size (length w.contents) ≤ reserved_for_writer profile block_size w)
+held_once : (profile : Profile) (block_size : ℕ) (w : FileWriter) → w.dirty ≡ true → inline_limit profile block_size < length w.contents → 2 + skip_list_block_count block_size (length w.contents) ≤ reserved_for_writer profile block_size w
+held_once profile block_size w dirty large = turned_or w.turned (2 + skip_list_block_count block_size (length w.contents) ≤ reserved_for_writer profile block_size w)
     (λ t. let e = held_turned profile block_size w dirty large t in omega arith)
-    (λ t. let e : reserved_for_writer profile block_size w ≡ 2 + 1 * block_count_for block_size (length w.contents) = held_dirty profile block_size w dirty large ∙ ap (λ (t : Bool). 2 + (if t then 2 else 1) * block_count_for block_size (length w.contents)) t in omega arith)
+    (λ t. let e : reserved_for_writer profile block_size w ≡ 2 + 1 * skip_list_block_count block_size (length w.contents) = held_dirty profile block_size w dirty large ∙ ap (λ (t : Bool). 2 + (if t then 2 else 1) * skip_list_block_count block_size (length w.contents)) t in omega arith)
 
 -- The blocks in flight, and two more while the writer is dirty, are no more than it holds.
 pub held_covers : (profile : Profile) (block_size : ℕ) (form : ContentsForm) (w : FileWriter) → IsWriterForm profile block_size form w → form_in_flight block_size form ≤ reserved_for_writer profile block_size w - 2
@@ -251,27 +251,27 @@ held_covers profile block_size (InMemory size) w kept = omega arith
 held_covers profile block_size (Finished size true) w kept =
     let is : size ≡ length w.contents = kept.size in
     let large : inline_limit profile block_size < size = kept.fits.large refl in
-    let same : block_count_for block_size size ≡ block_count_for block_size (length w.contents) = ap (block_count_for block_size) is in
+    let same : skip_list_block_count block_size size ≡ skip_list_block_count block_size (length w.contents) = ap (skip_list_block_count block_size) is in
     let e = held_once profile block_size w (kept.fits.dirty refl) (omega arith) in
     omega arith
 held_covers profile block_size (Finished size false) w kept = omega arith
 held_covers profile block_size (InHand end base true) w kept =
     let is : max end base ≡ length w.contents = kept.size in
     let large : inline_limit profile block_size < max end base = kept.fits.large in
-    let one = block_count_for-more block_size end (length w.contents) (omega arith) in
-    let two = block_count_for-more block_size base (length w.contents) (omega arith) in
+    let one = skip_list_block_count-more block_size end (length w.contents) (omega arith) in
+    let two = skip_list_block_count-more block_size base (length w.contents) (omega arith) in
     let e = held_turned profile block_size w kept.fits.dirty (omega arith) (kept.fits.turned refl) in
     omega arith
 held_covers profile block_size (InHand end base false) w kept =
     let is : max end base ≡ length w.contents = kept.size in
     let large : inline_limit profile block_size < max end base = kept.fits.large in
-    let one = block_count_for-more block_size end (length w.contents) (omega arith) in
+    let one = skip_list_block_count-more block_size end (length w.contents) (omega arith) in
     let e = held_once profile block_size w kept.fits.dirty (omega arith) in
     omega arith
 
 -- room for what a writer holds is room for going on, or for a list over the base
 pub room_grown : (profile : Profile) (block_size end base : ℕ) (flying : Bool) (v : FileWriter) (used all : ℕ) → IsWriterForm profile block_size (InHand end base flying) v → used + reserved_for_writer profile block_size v ≤ all
-    → used + block_count_for block_size end + (if flying then block_count_for block_size base else 0) ≤ all
+    → used + skip_list_block_count block_size end + (if flying then skip_list_block_count block_size base else 0) ≤ all
 room_grown profile block_size end base flying v used all kept room =
     let covers = held_covers profile block_size (InHand end base flying) v kept in
     let is : max end base ≡ length v.contents = kept.size in
@@ -281,27 +281,27 @@ room_grown profile block_size end base flying v used all kept room =
 
 -- for a list that ends and another one over it
 pub room_turned : (profile : Profile) (block_size end base : ℕ) (v : FileWriter) (used all : ℕ) → IsWriterForm profile block_size (InHand end base true) v → used + reserved_for_writer profile block_size v ≤ all
-    → used + 2 * block_count_for block_size (max base end) ≤ all
+    → used + 2 * skip_list_block_count block_size (max base end) ≤ all
 room_turned profile block_size end base v used all kept room =
     let is : max end base ≡ length v.contents = kept.size in
     let large : inline_limit profile block_size < max end base = kept.fits.large in
     let e = held_turned profile block_size v kept.fits.dirty (omega arith) (kept.fits.turned refl) in
-    let same : block_count_for block_size (max base end) ≡ block_count_for block_size (length v.contents) = ap (block_count_for block_size) (let m : max base end ≡ length v.contents = omega arith in m) in
+    let same : skip_list_block_count block_size (max base end) ≡ skip_list_block_count block_size (length v.contents) = ap (skip_list_block_count block_size) (let m : max base end ≡ length v.contents = omega arith in m) in
     omega arith
 
 -- for ending a list as it is
 pub room_ended : (profile : Profile) (block_size end base : ℕ) (flying : Bool) (w : FileWriter) (used all : ℕ) → IsWriterForm profile block_size (InHand end base flying) w → used + reserved_for_writer profile block_size w ≤ all
-    → used + (if flying then block_count_for block_size base else 0) + block_count_for block_size base ≤ all
+    → used + (if flying then skip_list_block_count block_size base else 0) + skip_list_block_count block_size base ≤ all
 room_ended profile block_size end base true w used all kept room =
     let is : max end base ≡ length w.contents = kept.size in
     let large : inline_limit profile block_size < max end base = kept.fits.large in
-    let two = block_count_for-more block_size base (length w.contents) (omega arith) in
+    let two = skip_list_block_count-more block_size base (length w.contents) (omega arith) in
     let e = held_turned profile block_size w kept.fits.dirty (omega arith) (kept.fits.turned refl) in
     omega arith
 room_ended profile block_size end base false w used all kept room =
     let is : max end base ≡ length w.contents = kept.size in
     let large : inline_limit profile block_size < max end base = kept.fits.large in
-    let two = block_count_for-more block_size base (length w.contents) (omega arith) in
+    let two = skip_list_block_count-more block_size base (length w.contents) (omega arith) in
     let e = held_once profile block_size w kept.fits.dirty (omega arith) in
     omega arith
 

@@ -1,6 +1,6 @@
 -- A file's bytes, gathered from its blocks, the last part first.
 use Rattle.std.proofs.Common.{ℕ, suc, ◌≡◌, ◌+◌, ◌*◌, ◌-◌, ◌<◌, ◌≤◌, ◌^◌, min, List, ◌++◌, length, take, drop, slice_index, slice_range, sym, ap, subst, ◌∙◌, arith, append_assoc, length-drop}
-use Rattle.lfs_file.proofs.Common.{drop_at, drop-drop, length-take-le, drop-put_mid, take-add, Blocks, HasBlockSizes, block_bytes, word_at, pointer_count, bytes_before_block, blocks_to_head, block_count_for, IsSkipList, IsBytePlace, list_bytes, part_of_bytes}
+use Rattle.lfs_file.proofs.Common.{drop_at, drop-drop, length-take-le, drop-put_mid, take-add, Blocks, HasBlockSizes, block_bytes, word_at, pointer_count, bytes_before_block, blocks_to_head, skip_list_block_count, IsSkipList, IsByteInListBlock, list_bytes, part_of_bytes}
 use Rattle.lfs_file.proofs.Sizes.{placed, place_before, place-lt, pointer_count-le}
 use Rattle.lfs_file.proofs.Chains.{in_range_at}
 
@@ -23,12 +23,12 @@ drop-filled buf block start n off len room fits le =
 
 -- the part that holds the byte before `left`
 pub record IsPart (block_size pos left n i off : ℕ) : Type 0 where
-  pub place : IsBytePlace block_size (pos + left - 1) i off
+  pub place : IsByteInListBlock block_size (pos + left - 1) i off
   pub size : n ≡ min left (off + 1 - 4 * pointer_count i)
 
 module _ (d : Blocks) (block_size count head size : ℕ) (large : 1024 ≤ block_size) (shape : HasBlockSizes block_size count d) where
   abbrev bs : List ℕ
-  bs = blocks_to_head d (block_count_for block_size size) head
+  bs = blocks_to_head d (skip_list_block_count block_size size) head
 
   abbrev bytes : List ℕ
   bytes = list_bytes d block_size head size
@@ -43,7 +43,7 @@ module _ (d : Blocks) (block_size count head size : ℕ) (large : 1024 ≤ block
         let few = pointer_count-le i in
         (omega arith, omega arith, omega arith)
 
-    index_low : i < block_count_for block_size size
+    index_low : i < skip_list_block_count block_size size
     index_low = place-lt block_size size (pos + left - 1) i off large part.place (omega arith)
 
     pub bytes_more : IsSkipList d block_size head size → block ≡ slice_index bs i → (buf rest : List ℕ) → len ≤ length buf → drop left buf ≡ slice_range bytes (pos + left) (pos + len) ++ rest
@@ -69,7 +69,7 @@ module _ (d : Blocks) (block_size count head size : ℕ) (large : 1024 ≤ block
         ∙ ap (λ (l : List ℕ). l ++ rest) (slices_joined bytes from (pos + left) (pos + len) (omega arith) (omega arith))
 
     -- the block of the byte before the part
-    pub index_before : (j end : ℕ) → 1 ≤ left - n → IsBytePlace block_size (pos + (left - n) - 1) j end → i ≡ suc j
+    pub index_before : (j end : ℕ) → 1 ≤ left - n → IsByteInListBlock block_size (pos + (left - n) - 1) j end → i ≡ suc j
     index_before j end more there =
         let low = part.place.from in
         let at = part.place.at in
@@ -77,7 +77,7 @@ module _ (d : Blocks) (block_size count head size : ℕ) (large : 1024 ≤ block
         let few = pointer_count-le i in
         place_before block_size (pos + (left - n) - 1) i j end large there (omega arith)
 
-    pub block_before : IsSkipList d block_size head size → block ≡ slice_index bs i → 1 ≤ left - n → (j end : ℕ) → IsBytePlace block_size (pos + (left - n) - 1) j end
+    pub block_before : IsSkipList d block_size head size → block ≡ slice_index bs i → 1 ≤ left - n → (j end : ℕ) → IsByteInListBlock block_size (pos + (left - n) - 1) j end
         → word_at (block_bytes d block) 0 ≡ slice_index bs j
     block_before ok is more j end there =
         let next = index_before j end more there in
@@ -91,7 +91,7 @@ module _ (d : Blocks) (block_size count head size : ℕ) (large : 1024 ≤ block
         let next = index_before there.0 there.1.0 more there.1.1 in
         let low = index_low in
         let e = block_before ok is more there.0 there.1.0 there.1.1 in
-        let lt = in_range_at d (block_count_for block_size size) head there.0 ok.blocks (omega arith) in
+        let lt = in_range_at d (skip_list_block_count block_size size) head there.0 ok.blocks (omega arith) in
         omega (arith, e, lt, shape.count)
 
 -- a turn: a part comes to the front of what the buffer holds
@@ -110,7 +110,7 @@ module _ {d : Blocks} {block_size count size pos len left n i off block : ℕ} {
   pub turn_fits : (1 ≤ n) × (n ≤ off + 1) × (off + 1 ≤ block_size)
   turn_fits = part_fits d block_size count 0 size turn.large turn.shape pos len left n i off block turn.part turn.some turn.le turn.within
 
-  pub turn_bytes : (head : ℕ) (rest : List ℕ) → IsSkipList d block_size head size → block ≡ slice_index (blocks_to_head d (block_count_for block_size size) head) i
+  pub turn_bytes : (head : ℕ) (rest : List ℕ) → IsSkipList d block_size head size → block ≡ slice_index (blocks_to_head d (skip_list_block_count block_size size) head) i
       → drop left buf ≡ slice_range (list_bytes d block_size head size) (pos + left) (pos + len) ++ rest
       → drop (left - n) new ≡ slice_range (list_bytes d block_size head size) (pos + (left - n)) (pos + len) ++ rest
   turn_bytes head rest ok is so_far =
@@ -126,12 +126,12 @@ module _ {d : Blocks} {block_size count size pos len left n i off block : ℕ} {
       let room = turn.room in
       ap (drop len) turn.is ∙ drop-filled buf (block_bytes d block) (left - n) n (off + 1 - n) len (omega arith) (omega arith) (omega arith)
 
-  pub turn_before : (head : ℕ) → IsSkipList d block_size head size → block ≡ slice_index (blocks_to_head d (block_count_for block_size size) head) i → 1 ≤ left - n
-      → (j end : ℕ) → IsBytePlace block_size (pos + (left - n) - 1) j end → word_at (block_bytes d block) 0 ≡ slice_index (blocks_to_head d (block_count_for block_size size) head) j
+  pub turn_before : (head : ℕ) → IsSkipList d block_size head size → block ≡ slice_index (blocks_to_head d (skip_list_block_count block_size size) head) i → 1 ≤ left - n
+      → (j end : ℕ) → IsByteInListBlock block_size (pos + (left - n) - 1) j end → word_at (block_bytes d block) 0 ≡ slice_index (blocks_to_head d (skip_list_block_count block_size size) head) j
   turn_before head ok is more = block_before d block_size count head size turn.large turn.shape pos len left n i off block turn.part turn.some turn.le turn.within ok is more
 
-  pub turn_in_range : (head : ℕ) → IsSkipList d block_size head size → block ≡ slice_index (blocks_to_head d (block_count_for block_size size) head) i → 1 ≤ left - n → word_at (block_bytes d block) 0 < count
+  pub turn_in_range : (head : ℕ) → IsSkipList d block_size head size → block ≡ slice_index (blocks_to_head d (skip_list_block_count block_size size) head) i → 1 ≤ left - n → word_at (block_bytes d block) 0 < count
   turn_in_range head ok is more = before_in_range d block_size count head size turn.large turn.shape pos len left n i off block turn.part turn.some turn.le turn.within ok is more
 
-  pub turn_index : 1 ≤ left - n → (j end : ℕ) → IsBytePlace block_size (pos + (left - n) - 1) j end → i ≡ suc j
+  pub turn_index : 1 ≤ left - n → (j end : ℕ) → IsByteInListBlock block_size (pos + (left - n) - 1) j end → i ≡ suc j
   turn_index more j end there = index_before d block_size count 0 size turn.large turn.shape pos len left n i off block turn.part turn.some turn.le turn.within j end more there

@@ -2,7 +2,7 @@
 use Rattle.std.proofs.Common.{ℕ, false, ◌≡◌, ◌≢◌, ◌+◌, ◌≤◌, inl, inr, ⊎_elim, nat_eq, get_or, List, [], ◌++◌, length, take, drop, Some, refl, sym, ap, ◌∙◌, subst, arith, length-drop}
 use Rattle.std.specs.Prelude.{All, Contains}
 use Rattle.std.specs.List.{IsDistinct}
-use Rattle.lfs_file.proofs.Common.{eqb-false, take-take, take-append-le, drop-append-le, take-append-drop, length-take, length-take-le, get_or-take, get_or-drop, All-append, All-contains, All-take, Contains-append_left, Contains-append_cases, apart_from_distinct, Blocks, BlockStates, IsFree, Free, Used, block_count_for, GrowingList, DiskHasList, growing_blocks, rest_lacks_block, lasting_blocks, unwritten_block, growing_size_with, unwritten_rest_block, GrowsInFree, IsTakenNotPending, HasBlocksTaken, KeepsTakenBytes, blocks_of_list, SharesFirstBlocks, CanEndOver, IsFinishedList, ChangesOnlyFree, length_back}
+use Rattle.lfs_file.proofs.Common.{eqb-false, take-take, take-append-le, drop-append-le, take-append-drop, length-take, length-take-le, get_or-take, get_or-drop, All-append, All-contains, All-take, Contains-append_left, Contains-append_cases, apart_from_distinct, Blocks, BlockStates, IsFree, Free, Used, skip_list_block_count, GrowingList, DiskHasList, growing_blocks, rest_lacks_block, lasting_blocks, unwritten_block, growing_size_with, unwritten_rest_block, GrowsInFree, IsTakenNotPending, HasBlocksTaken, KeepsTakenBytes, blocks_of_list, SharesFirstBlocks, CanEndOver, IsFinishedList, ChangesOnlyFree, length_back}
 use Rattle.std.proofs.lemmas.Grind.{get_or_default_zero}
 use Rattle.lfs_file.specs.declared.rest.RestLocation.{RestLocation}
 use Rattle.lfs_file.specs.declared.rest.RestLocation.TheVariants.{Closed, Shared, Handed, Held}
@@ -36,7 +36,7 @@ distinct_parts n xs b distinct (i, lt, is) k x l same =
 -- ---- growth
 
 pub hand_grows : (map later : BlockStates) (d e : Blocks) (block_size : ℕ) (g h : GrowingList) (base : StoredList) (shared : ℕ) → SharesFirstBlocks map d block_size g base shared → KeepsTakenBytes map (unwritten_block g) d e → ChangesOnlyFree map later
-    → GrowsInFree map d g later e h → DiskHasList e h → HasBlocksTaken later e h → growing_blocks e h ≡ lasting_blocks e h → length (lasting_blocks e h) ≡ block_count_for block_size (growing_size_with block_size h) → rest_lacks_block h ≡ false → CanEndOver later e block_size h base shared
+    → GrowsInFree map d g later e h → DiskHasList e h → HasBlocksTaken later e h → growing_blocks e h ≡ lasting_blocks e h → length (lasting_blocks e h) ≡ skip_list_block_count block_size (growing_size_with block_size h) → rest_lacks_block h ≡ false → CanEndOver later e block_size h base shared
 hand_grows map later d e block_size g h base shared begun spared keeps grown growing marked own many listed =
     let bb : List ℕ = blocks_of_list d block_size base.head base.size in
     let stay : blocks_of_list e block_size base.head base.size ≡ bb = blocks_stay map (unwritten_block g) d e block_size base.head base.size spared begun.apart in
@@ -44,7 +44,7 @@ hand_grows map later d e block_size g h base shared begun spared keeps grown gro
     let y : List ℕ = lasting_blocks e h in
     let all : y ≡ x ++ drop (length x) y = split x y grown.front in
     let size : length (take shared x) ≡ length (take shared bb) = ap length begun.front in
-    let long = length_back d (block_count_for block_size base.size) base.head in
+    let long = length_back d (skip_list_block_count block_size base.size) base.head in
     let few : shared ≤ length x = (let p = length-take shared x in let q = length-take-le shared bb (let f = begun.few in omega arith) in omega arith) in
     record {
       begun = record {
@@ -80,7 +80,7 @@ pub begins : (map : BlockStates) (d : Blocks) (block_size : ℕ) (g : GrowingLis
     → lasting_blocks d g ≡ take full (blocks_of_list d block_size base.head base.size) → g.full ≡ full → SharesFirstBlocks map d block_size g base full
 begins map d block_size g base full stored growing none kept is =
     let bb : List ℕ = blocks_of_list d block_size base.head base.size in
-    let long = length_back d (block_count_for block_size base.size) base.head in
+    let long = length_back d (skip_list_block_count block_size base.size) base.head in
     let many = length-kept d g in
     let empty = ap length none in
     let part = length-take full bb in

@@ -3,7 +3,7 @@ use Rattle.std.proofs.Common.{ℕ, zero, suc, ◌≡◌, ◌≢◌, ◌≤◌, �
 use Rattle.lfs_file.proofs.Common.{cases_lt, get_or-replicate, pow-suc, one-le-pow, pow_mono, mul-le, bit_at-trailing_zeros, w32, trailing_zeros, pointer_count, ArePointersKnown, OnlyBelowKnown, ArePointedKnown, IsKnownIndex, index_row, AreKnownBlocks}
 use Rattle.std.specs.Int.Count.{trailing_of_zero}
 use Rattle.lfs_file.specs.Known.{no_known_blocks}
-use Rattle.lfs_file.specs.declared.known.KnownBlocks.{KnownBlocks}
+use Rattle.lfs_file.specs.declared.known.IndexCache.{IndexCache}
 use Rattle.lfs_file.proofs.Chains.{pointer_count-pos}
 use Rattle.lfs_file.proofs.TrailingZeros.{factor-pos, multiple_of_power, zeros32-back, zeros32-between}
 
@@ -22,10 +22,10 @@ pub none_below : (count : ℕ) → OnlyBelowKnown count no_known_blocks
 none_below count row lt small = (let none : slice_index (replicate 32 4294967295) row ≡ 4294967295 = get_or-replicate 32 row 4294967295 0 lt in absurd (omega (arith, none, small)))
 
 -- where no block is known, those that are known are below any index, and any list's
-pub none_below_more : (count : ℕ) (known : KnownBlocks) → OnlyBelowKnown 0 known → OnlyBelowKnown count known
+pub none_below_more : (count : ℕ) (known : IndexCache) → OnlyBelowKnown 0 known → OnlyBelowKnown count known
 none_below_more count known none row lt small = (let low = none row lt small in absurd (omega arith))
 
-pub none_of_list : (all : List ℕ) (known : KnownBlocks) → OnlyBelowKnown 0 known → AreKnownBlocks all known
+pub none_of_list : (all : List ℕ) (known : IndexCache) → OnlyBelowKnown 0 known → AreKnownBlocks all known
 none_of_list all known none row lt small within = (let low = none row lt small in absurd (omega arith))
 
 -- the row of a block to which a later one has a pointer is past all smaller numbers of zeros
@@ -64,11 +64,11 @@ pointers_apart n j k low less lt is =
     other_row n (n - 2 ^ j) k low (omega (arith, near.0, near.1.0)) lt (omega (arith, far.1.0, more)) (sym is)
 
 -- the pointers of the next block are among those that are known
-pub next_pointers : (n : ℕ) (known : KnownBlocks) → n < 2 ^ 32 → ArePointedKnown n known → ArePointersKnown n known
+pub next_pointers : (n : ℕ) (known : IndexCache) → n < 2 ^ 32 → ArePointedKnown n known → ArePointersKnown n known
 next_pointers n known low all k lt = (let far = pointer_reach n k low lt in all n k (omega arith) low lt (omega (arith, far.0, far.1.0)))
 
 -- with one more block that is known
-pub pointed_more : (count : ℕ) (known later : KnownBlocks) → IsKnownIndex later count → ((i : ℕ) → index_row i ≢ index_row count → IsKnownIndex known i → IsKnownIndex later i) → ArePointedKnown count known
+pub pointed_more : (count : ℕ) (known later : IndexCache) → IsKnownIndex later count → ((i : ℕ) → index_row i ≢ index_row count → IsKnownIndex known i → IsKnownIndex later i) → ArePointedKnown count known
     → ArePointedKnown (count + 1) later
 pointed_more count known later here others all n k le low lt less =
     ⊎_elim

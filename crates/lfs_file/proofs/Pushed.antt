@@ -1,7 +1,7 @@
 -- A list that is extended in blocks allocated for it.
 use Rattle.std.proofs.Common.{ℕ, ◌≡◌, ◌≢◌, ◌+◌, inl, inr, ⊎_elim, get_or, List, ◌++◌, length, take, drop, Some, refl, sym, ap, ◌∙◌, subst, arith, length-append}
 use Rattle.std.specs.Prelude.{All, Contains}
-use Rattle.lfs_file.proofs.Common.{take_at, drop-append-add, All-append, Contains-append_right, Blocks, SameExceptBlocks, BlockStates, IsFree, IsInFlight, in_flight_count, Free, InFlight, CallEvent, LossLeavesAtWorst, HoldsAtLosses, StayUnprogrammed, blocks_to_head, AllCallsSince-weaker, length_back, ChangesTheseBlocks, KeepsTakenBlocks, GrowingList, lasting_blocks, unwritten_block, GrowsInFree, IsTakenNotPending, HasBlocksTaken, KeepsTakenBytes, TakenStayUnprogrammed, TakesFreeBlocks}
+use Rattle.lfs_file.proofs.Common.{take_at, drop-append-add, All-append, Contains-append_right, Blocks, SameExceptBlocks, BlockStates, IsFree, IsInFlight, in_flight_count, Free, InFlight, CallEvent, LossLeavesAtWorst, HoldsAtLosses, OthersStayUnprogrammed, blocks_to_head, AllCallsSince-weaker, length_back, ChangesTheseBlocks, KeepsTakenBlocks, GrowingList, lasting_blocks, unwritten_block, GrowsInFree, IsTakenNotPending, HasBlocksTaken, KeepsTakenBytes, TakenStayUnprogrammed, TakesFreeBlocks}
 use Rattle.lfs_device.specs.declared.device.BlockDevice.{Ghosts}
 use Rattle.lfs_file.proofs.Growth.{cases_in_flight}
 use Rattle.lfs_file.proofs.Takings.{came, others_stay}
@@ -20,7 +20,7 @@ spares_by map later pending blocks d e takes same = record {
   same = λ b apart. same.others b (apart_these map later pending blocks takes b apart);
 }
 
-pub pages_by : (map later : BlockStates) (pending blocks : List ℕ) (a b : List CallEvent) → TakesFreeBlocks map later blocks → StayUnprogrammed (pending ++ blocks) a b → TakenStayUnprogrammed map pending a b
+pub pages_by : (map later : BlockStates) (pending blocks : List ℕ) (a b : List CallEvent) → TakesFreeBlocks map later blocks → OthersStayUnprogrammed (pending ++ blocks) a b → TakenStayUnprogrammed map pending a b
 pages_by map later pending blocks a b takes stay = record { stays = λ k i apart was. stay.stays k i (apart_these map later pending blocks takes k apart) was }
 
 pub stops_by : (map later : BlockStates) (pending blocks : List ℕ) (d : Blocks) (a b : List CallEvent) → TakesFreeBlocks map later blocks → HoldsAtLosses LossLeavesAtWorst a b (SameExceptBlocks (pending ++ blocks) d) → HoldsAtLosses LossLeavesAtWorst a b (KeepsTakenBytes map pending d)

@@ -2,18 +2,18 @@
 use Rattle.std.proofs.Common.{ℕ, false, suc, ◌≡◌, ◌≢◌, ◌+◌, ◌-◌, ◌<◌, ◌≤◌, ⊎_elim, nat_eq, get_or, List, [], ◌∷◌, ◌++◌, length, take, slice_index, refl, sym, ap, subst, ◌∙◌, arith, append_assoc, length-append}
 use Rattle.std.specs.Prelude.{All}
 use Rattle.std.specs.List.{IsDistinct}
-use Rattle.lfs_file.proofs.Common.{cases_lt, eqb-false, append-nil, get_or_append_left, get_or-take, length-take-le, take_more, get_or_default, All-cons, All-nil, apart_from_distinct, Blocks, CallEvent, StayUnprogrammed, StayUnprogrammed-trans, block_capacity, blocks_to_head, block_count_for, GrowingList, unwritten_rest_block, rest_block, rest_lacks_block, lacks_last_block, unwritten_block, lasting_blocks, growing_blocks, growing_size_with, block_for_push, IsRestAt, DiskHasList}
+use Rattle.lfs_file.proofs.Common.{cases_lt, eqb-false, append-nil, get_or_append_left, get_or-take, length-take-le, take_more, get_or_default, All-cons, All-nil, apart_from_distinct, Blocks, CallEvent, OthersStayUnprogrammed, OthersStayUnprogrammed-trans, block_capacity, blocks_to_head, skip_list_block_count, GrowingList, unwritten_rest_block, rest_block, rest_lacks_block, lacks_last_block, unwritten_block, lasting_blocks, growing_blocks, growing_size_with, block_for_push, IsRestAt, DiskHasList}
 use Rattle.std.proofs.lemmas.List.{get_or-append-add}
-use Rattle.lfs_model.proofs.Histories.{StayUnprogrammed-wider}
+use Rattle.lfs_model.proofs.Histories.{OthersStayUnprogrammed-wider}
 use Rattle.lfs_file.specs.declared.rest.RestLocation.{RestLocation}
 use Rattle.lfs_file.specs.declared.rest.RestLocation.TheVariants.{Closed, Shared, Handed, Held}
-use Rattle.lfs_file.proofs.Sizes.{block_count_for-above, block_count_for-within}
+use Rattle.lfs_file.proofs.Sizes.{skip_list_block_count-above, skip_list_block_count-within}
 use Rattle.lfs_file.proofs.Chains.{length_back}
 
 -- one of the blocks is written
-pub stays_one : (bs : List ℕ) (block : ℕ) (old mid new : List CallEvent) → ((other : ℕ) → All (λ b. b ≢ other) bs → block ≢ other) → StayUnprogrammed bs old mid → StayUnprogrammed (block ∷ []) mid new → StayUnprogrammed bs old new
+pub stays_one : (bs : List ℕ) (block : ℕ) (old mid new : List CallEvent) → ((other : ℕ) → All (λ b. b ≢ other) bs → block ≢ other) → OthersStayUnprogrammed bs old mid → OthersStayUnprogrammed (block ∷ []) mid new → OthersStayUnprogrammed bs old new
 stays_one bs block old mid new among first second =
-    StayUnprogrammed-trans first (StayUnprogrammed-wider bs (λ other apart. All-cons (λ b. b ≢ other) block [] (among other apart) (All-nil (λ b. b ≢ other))) second)
+    OthersStayUnprogrammed-trans first (OthersStayUnprogrammed-wider bs (λ other apart. All-cons (λ b. b ≢ other) block [] (among other apart) (All-nil (λ b. b ≢ other))) second)
 
 -- one of those handed in is among them
 pub among_handed : (pending blocks : List ℕ) (used : ℕ) → used < length blocks → (other : ℕ) → All (λ b. b ≢ other) (pending ++ blocks) → slice_index blocks used ≢ other
@@ -99,29 +99,29 @@ kept_count d e was now blocks used le is =
 
 -- while bytes are left and no block is pending there is one to take
 pub still_some : (d e : Blocks) (block_size : ℕ) (was now : GrowingList) (blocks : List ℕ) (used done total : ℕ) → 1024 ≤ block_size → used ≤ length blocks → lasting_blocks e now ≡ lasting_blocks d was ++ take used blocks
-    → length blocks ≡ block_count_for block_size (growing_size_with block_size was + total) - (was.full + length (unwritten_block was)) → growing_size_with block_size now ≡ growing_size_with block_size was + done → done < total → unwritten_block now ≡ [] → used < length blocks
+    → length blocks ≡ skip_list_block_count block_size (growing_size_with block_size was + total) - (was.full + length (unwritten_block was)) → growing_size_with block_size now ≡ growing_size_with block_size was + done → done < total → unwritten_block now ≡ [] → used < length blocks
 still_some d e block_size was now blocks used done total large le is count sum less none =
     let counted = kept_count d e was now blocks used le is in
-    let more = block_count_for-above block_size (growing_size_with block_size was + total) now.full large (omega arith) in
+    let more = skip_list_block_count-above block_size (growing_size_with block_size was + total) now.full large (omega arith) in
     omega (arith, counted, more, count, ap length none)
 
 -- at the end all are used
 size_fits : (d : Blocks) (block_size : ℕ) (g : GrowingList) → 1024 ≤ block_size → DiskHasList d g → length g.rest < block_capacity block_size g.full → growing_blocks d g ≡ lasting_blocks d g → rest_lacks_block g ≡ false
-    → block_count_for block_size (growing_size_with block_size g) ≤ g.full + length (unwritten_block g)
+    → skip_list_block_count block_size (growing_size_with block_size g) ≤ g.full + length (unwritten_block g)
 size_fits d block_size g large held short own listed = go g.stand held.stand listed own
   where
     go : (t : RestLocation) → IsRestAt d g.full g.head g.rest t → lacks_last_block t ≡ false → blocks_to_head d g.full g.head ++ rest_block t ≡ blocks_to_head d g.full g.head ++ unwritten_rest_block t
-        → block_count_for block_size (growing_size_with block_size g) ≤ g.full + length (unwritten_rest_block t)
-    go Closed none out e = let w = block_count_for-within block_size (growing_size_with block_size g) g.full large (omega (arith, ap length none)) in omega arith
+        → skip_list_block_count block_size (growing_size_with block_size g) ≤ g.full + length (unwritten_rest_block t)
+    go Closed none out e = let w = skip_list_block_count-within block_size (growing_size_with block_size g) g.full large (omega (arith, ap length none)) in omega arith
     go (Shared b) shared out e =
         absurd (omega (arith, ap length e, length-append (blocks_to_head d g.full g.head) (b ∷ []), length-append (blocks_to_head d g.full g.head) []))
-    go (Handed b) handed out e = let w = block_count_for-within block_size (growing_size_with block_size g) (suc g.full) large (omega arith) in omega arith
+    go (Handed b) handed out e = let w = skip_list_block_count-within block_size (growing_size_with block_size g) (suc g.full) large (omega arith) in omega arith
     go Held none out e = absurd (cc)
 
 pub all_used : (d e : Blocks) (block_size : ℕ) (was now : GrowingList) (blocks : List ℕ) (used total : ℕ) → 1024 ≤ block_size → used ≤ length blocks → lasting_blocks e now ≡ lasting_blocks d was ++ take used blocks
-    → length blocks ≡ block_count_for block_size (growing_size_with block_size was + total) - (was.full + length (unwritten_block was)) → growing_size_with block_size now ≡ growing_size_with block_size was + total → DiskHasList e now → length now.rest < block_capacity block_size now.full → growing_blocks e now ≡ lasting_blocks e now
+    → length blocks ≡ skip_list_block_count block_size (growing_size_with block_size was + total) - (was.full + length (unwritten_block was)) → growing_size_with block_size now ≡ growing_size_with block_size was + total → DiskHasList e now → length now.rest < block_capacity block_size now.full → growing_blocks e now ≡ lasting_blocks e now
     → rest_lacks_block now ≡ false → length blocks ≤ used
 all_used d e block_size was now blocks used total large le is count sum held short own listed =
     let counted = kept_count d e was now blocks used le is in
     let fits = size_fits e block_size now large held short own listed in
-    omega (arith, counted, fits, count, ap (block_count_for block_size) sum)
+    omega (arith, counted, fits, count, ap (skip_list_block_count block_size) sum)

@@ -2,8 +2,8 @@
 use Rattle.std.proofs.Common.{ℕ, zero, suc, ◌≡◌, ◌+◌, ◌*◌, ◌-◌, ◌<◌, ◌≤◌, ◌^◌, nat_eq, false, get_or, List, [], ◌∷◌, ◌++◌, length, take, drop, slice_index, refl, sym, ap, subst, ◌∙◌, arith, add-one, length-drop}
 use Rattle.std.specs.Prelude.{All}
 use Rattle.std.specs.List.{IsDistinct}
-use Rattle.lfs_file.proofs.Common.{one-le-pow, take-append-add, append-nil, take_at, take_more, drop_more, take-take, take-append-le, take-append-drop, get_or-take, length-take-le, IsDistinct-from_apart, apart_from_distinct, Blocks, HasBlockSizes, block_bytes, word_at, pointer_count, bytes_before_block, blocks_to_head, block_count_for, AreListBlocks, IsSkipList, IsBytePlace, block_data, list_bytes, ListHoldsBytes, blocks_data, IsRestShared, AllSized}
-use Rattle.lfs_file.proofs.Sizes.{pointer_count-le, block_count_for-place, place-lt}
+use Rattle.lfs_file.proofs.Common.{one-le-pow, take-append-add, append-nil, take_at, take_more, drop_more, take-take, take-append-le, take-append-drop, get_or-take, length-take-le, IsDistinct-from_apart, apart_from_distinct, Blocks, HasBlockSizes, block_bytes, word_at, pointer_count, bytes_before_block, blocks_to_head, skip_list_block_count, AreListBlocks, IsSkipList, IsByteInListBlock, block_data, list_bytes, ListHoldsBytes, blocks_data, IsRestShared, AllSized}
+use Rattle.lfs_file.proofs.Sizes.{pointer_count-le, skip_list_block_count-place, place-lt}
 use Rattle.lfs_file.proofs.Chains.{length_back, back-pointer0}
 use Rattle.lfs_file.proofs.Filling.{none_chain}
 use Rattle.lfs_file.proofs.Pointed.{pointed_some}
@@ -41,32 +41,32 @@ chain_prefix d n head m lt chain =
     chain_of d (m + 1) (slice_index bs m) (take (m + 1) bs) (back_prefix d n head m lt) parts
 
 module _ (d : Blocks) (block_size count head size keep i off block : ℕ) (large : 1024 ≤ block_size) (shape : HasBlockSizes block_size count d) (list : IsSkipList d block_size head size) (some : 1 ≤ keep) (within : keep ≤ size)
-    (place : IsBytePlace block_size (keep - 1) i off) (is : block ≡ slice_index (blocks_to_head d (block_count_for block_size size) head) i) where
+    (place : IsByteInListBlock block_size (keep - 1) i off) (is : block ≡ slice_index (blocks_to_head d (skip_list_block_count block_size size) head) i) where
   abbrev bs : List ℕ
-  bs = blocks_to_head d (block_count_for block_size size) head
+  bs = blocks_to_head d (skip_list_block_count block_size size) head
 
   abbrev p : ℕ
   p = 4 * pointer_count i
 
-  low : i < block_count_for block_size size
+  low : i < skip_list_block_count block_size size
   low = place-lt block_size size (keep - 1) i off large place (omega arith)
 
-  pub few_blocks : block_count_for block_size keep ≡ i + 1
-  few_blocks = block_count_for-place block_size keep i off large some place
+  pub few_blocks : skip_list_block_count block_size keep ≡ i + 1
+  few_blocks = skip_list_block_count-place block_size keep i off large some place
 
   sized : AllSized d block_size bs
   sized k x l = shape.sizes (get_or bs k x) (let lt = list.blocks.in_range k x l in omega (arith, lt, shape.count))
 
   -- the front's blocks
   pub front_back : blocks_to_head d (i + 1) block ≡ take (i + 1) bs
-  front_back = ap (blocks_to_head d (i + 1)) is ∙ back_prefix d (block_count_for block_size size) head i low
+  front_back = ap (blocks_to_head d (i + 1)) is ∙ back_prefix d (skip_list_block_count block_size size) head i low
 
   pub front_chain : AreListBlocks d (i + 1) block
-  front_chain = subst (AreListBlocks d (i + 1)) (sym is) (chain_prefix d (block_count_for block_size size) head i low list.blocks)
+  front_chain = subst (AreListBlocks d (i + 1)) (sym is) (chain_prefix d (skip_list_block_count block_size size) head i low list.blocks)
 
-  joined_split : (m : ℕ) → m ≤ block_count_for block_size size → (blocks_data d bs ≡ blocks_data d (take m bs) ++ joined_from d m (drop m bs)) × (length (blocks_data d (take m bs)) ≡ bytes_before_block block_size m)
+  joined_split : (m : ℕ) → m ≤ skip_list_block_count block_size size → (blocks_data d bs ≡ blocks_data d (take m bs) ++ joined_from d m (drop m bs)) × (length (blocks_data d (take m bs)) ≡ bytes_before_block block_size m)
   joined_split m le =
-      let len = length_back d (block_count_for block_size size) head in
+      let len = length_back d (skip_list_block_count block_size size) head in
       let front : length (take m bs) ≡ m = length-take-le m bs (omega arith) in
       let here : 0 + length (take m bs) ≡ m = omega arith in
       let all = length-joined d block_size 0 (take m bs) large (λ k x l. subst (λ b. length (block_bytes d b) ≡ block_size) (sym (get_or-take m bs k x (omega arith))) (sized k x (omega arith))) in (
@@ -75,12 +75,12 @@ module _ (d : Blocks) (block_size count head size keep i off block : ℕ) (large
       )
 
   -- it is a list
-  pub front_end : keep < 2 ^ 31 → ListHoldsBytes d block_size block keep (take keep (list_bytes d block_size head size)) (take (block_count_for block_size keep) bs)
+  pub front_end : keep < 2 ^ 31 → ListHoldsBytes d block_size block keep (take keep (list_bytes d block_size head size)) (take (skip_list_block_count block_size keep) bs)
   front_end few =
       let split = joined_split (i + 1) (let l = low in omega arith) in
-      let whole : AreListBlocks d (block_count_for block_size keep) block = subst (λ k. AreListBlocks d k block) (sym few_blocks) front_chain in
+      let whole : AreListBlocks d (skip_list_block_count block_size keep) block = subst (λ k. AreListBlocks d k block) (sym few_blocks) front_chain in
       let below = place.below in
-      let own : blocks_to_head d (block_count_for block_size keep) block ≡ take (i + 1) bs = ap (λ k. blocks_to_head d k block) few_blocks ∙ front_back in
+      let own : blocks_to_head d (skip_list_block_count block_size keep) block ≡ take (i + 1) bs = ap (λ k. blocks_to_head d k block) few_blocks ∙ front_back in
       record {
         list = record { size_low = some; size_high = few; blocks = whole };
         bytes = ap (λ (l : List ℕ). take keep (blocks_data d l)) own
@@ -106,7 +106,7 @@ module _ (d : Blocks) (block_size count head size keep i off block : ℕ) (large
         ∙ ap (blocks_data d) front_back
         ∙ sym (take-take keep size (blocks_data d bs) within ∙ ap (take keep) split.0 ∙ take_at (blocks_data d (take (i + 1) bs)) (joined_from d (i + 1) (drop (i + 1) bs)) keep (omega (arith, split.1, keep_full)))
 
-    pub full_blocks : blocks_to_head d (i + 1) block ++ [] ≡ take (block_count_for block_size keep) bs
+    pub full_blocks : blocks_to_head d (i + 1) block ++ [] ≡ take (skip_list_block_count block_size keep) bs
     full_blocks = append-nil (blocks_to_head d (i + 1) block) ∙ front_back ∙ ap (λ k. take k bs) (sym few_blocks)
 
   -- ---- or in one
@@ -118,10 +118,10 @@ module _ (d : Blocks) (block_size count head size keep i off block : ℕ) (large
     before_back (suc m) e =
         let l = low in
         let to : before ≡ slice_index bs m =
-        named (omega arith) ∙ ap (λ b. word_at (block_bytes d b) 0) (is ∙ ap (slice_index bs) e) ∙ back-pointer0 d (block_count_for block_size size) head m (omega arith) in
+        named (omega arith) ∙ ap (λ b. word_at (block_bytes d b) 0) (is ∙ ap (slice_index bs) e) ∙ back-pointer0 d (skip_list_block_count block_size size) head m (omega arith) in
         ap (λ k. blocks_to_head d k before) (e ∙ sym (add-one m))
         ∙ ap (blocks_to_head d (m + 1)) to
-        ∙ back_prefix d (block_count_for block_size size) head m (omega arith)
+        ∙ back_prefix d (skip_list_block_count block_size size) head m (omega arith)
         ∙ ap (λ k. take k bs) (add-one m ∙ sym e)
 
     before_chain_at : (m : ℕ) → i ≡ m → AreListBlocks d i before
@@ -129,8 +129,8 @@ module _ (d : Blocks) (block_size count head size keep i off block : ℕ) (large
     before_chain_at (suc m) e =
         let l = low in
         let to : before ≡ slice_index bs m =
-        named (omega arith) ∙ ap (λ b. word_at (block_bytes d b) 0) (is ∙ ap (slice_index bs) e) ∙ back-pointer0 d (block_count_for block_size size) head m (omega arith) in
-        subst (λ k. AreListBlocks d k before) (add-one m ∙ sym e) (subst (AreListBlocks d (m + 1)) (sym to) (chain_prefix d (block_count_for block_size size) head m (omega arith) list.blocks))
+        named (omega arith) ∙ ap (λ b. word_at (block_bytes d b) 0) (is ∙ ap (slice_index bs) e) ∙ back-pointer0 d (skip_list_block_count block_size size) head m (omega arith) in
+        subst (λ k. AreListBlocks d k before) (add-one m ∙ sym e) (subst (AreListBlocks d (m + 1)) (sym to) (chain_prefix d (skip_list_block_count block_size size) head m (omega arith) list.blocks))
 
     pub before_front : blocks_to_head d i before ≡ take i bs
     before_front = before_back i refl
@@ -150,16 +150,16 @@ module _ (d : Blocks) (block_size count head size keep i off block : ℕ) (large
 
     last_more : blocks_to_head d i before ++ block ∷ [] ≡ take (i + 1) bs
     last_more =
-        let len = length_back d (block_count_for block_size size) head in
+        let len = length_back d (skip_list_block_count block_size size) head in
         ap (λ (l : List ℕ). l ++ block ∷ []) (before_back i refl) ∙ ap (λ b. take i bs ++ b ∷ []) is ∙ sym (take_more bs i 0 (let l = low in omega arith))
 
-    pub open_blocks : blocks_to_head d i before ++ block ∷ [] ≡ take (block_count_for block_size keep) bs
+    pub open_blocks : blocks_to_head d i before ++ block ∷ [] ≡ take (skip_list_block_count block_size keep) bs
     open_blocks = last_more ∙ ap (λ k. take k bs) (sym few_blocks)
 
     -- the bytes in it that are kept
     module _ (rest : List ℕ) (rest_is : rest ≡ take (off + 1 - p) (drop p (block_bytes d block))) where
       block_long : length (block_bytes d block) ≡ block_size
-      block_long = shape.sizes block (let len = length_back d (block_count_for block_size size) head in let lt = list.blocks.in_range i 0 (let l = low in omega arith) in omega (arith, lt, is, shape.count))
+      block_long = shape.sizes block (let len = length_back d (skip_list_block_count block_size size) head in let lt = list.blocks.in_range i 0 (let l = low in omega arith) in omega (arith, lt, is, shape.count))
 
       pub rest_long : (length rest ≡ off + 1 - p) × (1 ≤ off + 1 - p) × (keep ≡ bytes_before_block block_size i + (off + 1 - p))
       rest_long =
@@ -179,7 +179,7 @@ module _ (d : Blocks) (block_size count head size keep i off block : ℕ) (large
 
       pub open_content : blocks_data d (blocks_to_head d i before) ++ rest ≡ take keep (list_bytes d block_size head size)
       open_content =
-          let len = length_back d (block_count_for block_size size) head in
+          let len = length_back d (skip_list_block_count block_size size) head in
           let split = joined_split i (let l = low in omega arith) in
           let r : ℕ = off + 1 - p in
           let sum : keep ≡ length (blocks_data d (take i bs)) + r = (let l = rest_long in omega (arith, split.1)) in

@@ -1,7 +1,7 @@
 -- The blocks that a writer reserves are enough for its next write, for a truncation, and for completing its draft.
 use Rattle.std.proofs.Common.{ℕ, ◌≡◌, ◌+◌, ◌*◌, ◌<◌, ◌≤◌, ⊎_elim, Bool, true, false, if◌then◌else◌, max, min, List, ◌∷◌, length, sym, ap, subst, arith}
 use Rattle.std.specs.Prelude.{◌==◌}
-use Rattle.lfs_file.proofs.Common.{cases_lt, inline_limit, block_count_for, FileWriter, reserved_for_writer, truncated_writer, written_writer, write_position, ContentsForm, InMemory, Finished, InHand, form_size, form_written_within, IsWriterForm, truncation_room, write_room}
+use Rattle.lfs_file.proofs.Common.{cases_lt, inline_limit, skip_list_block_count, FileWriter, reserved_for_writer, truncated_writer, writer_after_write, write_position, ContentsForm, InMemory, Finished, InHand, form_size, form_written_within, IsWriterForm, truncation_room, write_room}
 use Rattle.lfs_model.specs.declared.limits.Profile.{Profile}
 use Rattle.lfs_file.specs.Contents.{FormFitsLimit, NeedsTruncateRoom, finish_room}
 use Rattle.lfs_file.proofs.Forms.{kept_truncated, kept_written, room_ended, room_grown, room_turned, written_many}
@@ -24,7 +24,7 @@ kept_moved profile block_size place (InHand stop base flying) w kept = record {
 }
 
 either_room : (profile : Profile) (t : Bool) (block_size stop end base : ℕ) (flying : Bool) (v : FileWriter) (used all : ℕ) → IsWriterForm profile block_size (if t then InHand stop base flying else InHand stop (max end base) true) v → used + reserved_for_writer profile block_size v ≤ all
-    → used + (if t then block_count_for block_size stop + (if flying then block_count_for block_size base else 0) else 2 * block_count_for block_size (max (max end base) stop)) ≤ all
+    → used + (if t then skip_list_block_count block_size stop + (if flying then skip_list_block_count block_size base else 0) else 2 * skip_list_block_count block_size (max (max end base) stop)) ≤ all
 either_room profile true block_size stop end base flying v used all kept room = let e = room_grown profile block_size stop base flying v used all kept room in omega arith
 either_room profile false block_size stop end base flying v used all kept room = room_turned profile block_size stop (max end base) v used all kept room
 
@@ -33,11 +33,11 @@ grown_room profile block_size place count (InMemory size) v used all kept room =
 grown_room profile block_size place count (Finished size flying) v used all kept room = let e = room_grown profile block_size (place + count) size flying v used all kept room in omega arith
 grown_room profile block_size place count (InHand end base flying) v used all kept room = either_room profile (end == min place (max end base)) block_size (place + count) end base flying v used all kept room
 
-pub room_to_write : (profile : Profile) (block_size : ℕ) (form : ContentsForm) (w : FileWriter) (byte : ℕ) (bytes : List ℕ) (used all : ℕ) → IsWriterForm profile block_size form w → used + reserved_for_writer profile block_size (written_writer w (byte ∷ bytes)) ≤ all
+pub room_to_write : (profile : Profile) (block_size : ℕ) (form : ContentsForm) (w : FileWriter) (byte : ℕ) (bytes : List ℕ) (used all : ℕ) → IsWriterForm profile block_size form w → used + reserved_for_writer profile block_size (writer_after_write w (byte ∷ bytes)) ≤ all
     → inline_limit profile block_size < max (form_size form) (write_position w + length (byte ∷ bytes)) → used + write_room block_size (write_position w) (length (byte ∷ bytes)) form ≤ all
 room_to_write profile block_size form w byte bytes used all kept room many =
-    grown_room profile block_size (write_position w) (length (byte ∷ bytes)) form (written_writer w (byte ∷ bytes)) used all
-    (subst (λ (f : ContentsForm). IsWriterForm profile block_size f (written_writer w (byte ∷ bytes))) (written_many (inline_limit profile block_size) (write_position w) (length (byte ∷ bytes)) form many) (kept_written profile block_size form w byte bytes kept)) room
+    grown_room profile block_size (write_position w) (length (byte ∷ bytes)) form (writer_after_write w (byte ∷ bytes)) used all
+    (subst (λ (f : ContentsForm). IsWriterForm profile block_size f (writer_after_write w (byte ∷ bytes))) (written_many (inline_limit profile block_size) (write_position w) (length (byte ∷ bytes)) form many) (kept_written profile block_size form w byte bytes kept)) room
 
 pub room_to_end : (profile : Profile) (block_size : ℕ) (form : ContentsForm) (w : FileWriter) (used all : ℕ) → IsWriterForm profile block_size form w → used + reserved_for_writer profile block_size w ≤ all → used + finish_room block_size form ≤ all
 room_to_end profile block_size (InMemory size) w used all kept room = omega arith
@@ -45,11 +45,11 @@ room_to_end profile block_size (Finished size flying) w used all kept room = ome
 room_to_end profile block_size (InHand end base flying) w used all kept room = let e = room_ended profile block_size end base flying w used all kept room in omega arith
 
 longer_hand_room : (profile : Profile) (t : Bool) (block_size size end base : ℕ) (flying : Bool) (v : FileWriter) (used all : ℕ) → max end base < size → IsWriterForm profile block_size (if t then InHand size base flying else InHand size (max end base) true) v → used + reserved_for_writer profile block_size v ≤ all
-    → used + (if t then block_count_for block_size size + (if flying then block_count_for block_size base else 0) else 2 * block_count_for block_size size) ≤ all
+    → used + (if t then skip_list_block_count block_size size + (if flying then skip_list_block_count block_size base else 0) else 2 * skip_list_block_count block_size size) ≤ all
 longer_hand_room profile true block_size size end base flying v used all more kept room = let e = room_grown profile block_size size base flying v used all kept room in omega arith
 longer_hand_room profile false block_size size end base flying v used all more kept room =
     let e = room_turned profile block_size size (max end base) v used all kept room in
-    let same : block_count_for block_size (max (max end base) size) ≡ block_count_for block_size size = ap (block_count_for block_size) (let m : max (max end base) size ≡ size = omega arith in m) in
+    let same : skip_list_block_count block_size (max (max end base) size) ≡ skip_list_block_count block_size size = ap (skip_list_block_count block_size) (let m : max (max end base) size ≡ size = omega arith in m) in
     omega arith
 
 -- what a writer holds before and after is room for a truncation

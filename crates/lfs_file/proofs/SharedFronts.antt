@@ -1,7 +1,7 @@
 -- The blocks that two lists share.
 use Rattle.std.proofs.Common.{ℕ, zero, suc, ◌≡◌, ◌≢◌, ◌+◌, ◌-◌, ◌<◌, ◌≤◌, nat_eq, ⊎_elim, get_or, List, [], ◌∷◌, ◌++◌, take, drop, Some, slice_index, refl, sym, ap, ◌∙◌, subst, arith, length-drop}
 use Rattle.std.specs.Prelude.{All, Contains}
-use Rattle.lfs_file.proofs.Common.{slice_get, cases_lt, get_or-take, take-append-drop, take_more, All-contains, Contains-append_cases, Contains-append_left, Blocks, block_bytes, BlockStates, IsUsedBlock, Free, Used, AreListBlocks, blocks_to_head, word_at, number_occurrences-Contains, number_occurrences, length_back, SettlesList, SetsState, IsSharedCount}
+use Rattle.lfs_file.proofs.Common.{slice_get, cases_lt, get_or-take, take-append-drop, take_more, All-contains, Contains-append_cases, Contains-append_left, Blocks, block_bytes, BlockStates, IsUsedBlock, Free, Used, AreListBlocks, blocks_to_head, word_at, occurrence_count-Contains, occurrence_count, length_back, SettlesList, SetsState, IsSharedCount}
 use Rattle.std.specs.List.{IsDistinct}
 use Rattle.std.proofs.lemmas.List.Elements.{Contains-get_or}
 use Rattle.lfs_model.proofs.Counts.{count_append, once_from_distinct}
@@ -96,10 +96,10 @@ not_behind : (n : ℕ) (xs : List ℕ) (b : ℕ) → IsDistinct nat_eq xs → Co
 not_behind n xs b distinct front =
     ⊎_elim
     (λ behind.
-    let one = number_occurrences-Contains (take n xs) b front in
-    let two = number_occurrences-Contains (drop n xs) b behind in
+    let one = occurrence_count-Contains (take n xs) b front in
+    let two = occurrence_count-Contains (drop n xs) b behind in
     let sum = count_append b (take n xs) (drop n xs) in
-    let all = ap (number_occurrences b) (take-append-drop n xs) in
+    let all = ap (occurrence_count b) (take-append-drop n xs) in
     let once = once_from_distinct xs distinct b in
     absurd (omega arith))
     (λ away. away) (member (drop n xs) b)

@@ -1,14 +1,14 @@
 -- The number of bytes in a list's blocks, by the number of ones of an index.
 use Rattle.std.proofs.Common.{ℕ, zero, suc, ◌≡◌, ◌+◌, ◌*◌, ◌-◌, ◌/◌, ◌%◌, ◌<◌, ◌≤◌, ◌^◌, refl, sym, ap, ap₂, subst, ◌∙◌, arith}
 use Rattle.std.proofs.Common.{⊎_elim, add-one, if◌then◌else◌, ◌==◌, false}
-use Rattle.lfs_file.proofs.Common.{nat_tests, mul-le, cases_lt, pointer_count, block_capacity, bytes_before_block, IsBytePlace, block_count_for}
+use Rattle.lfs_file.proofs.Common.{nat_tests, mul-le, cases_lt, pointer_count, block_capacity, bytes_before_block, IsByteInListBlock, skip_list_block_count}
 use Rattle.std.proofs.Math.Nat.{mul-suc, div-add-mod}
 use Rattle.std.proofs.lemmas.Nat.{mod_below}
 use lib.Count.{ones, ones_step, ones-le, count_trailing_zeros, trailing_le}
 pub use Rattle.lfs_model.proofs.ListSizes.{block_capacity-pos, pointer_count-le}
 pub use Rattle.lfs_model.proofs.ListParts.{bytes_before_block-more, place-lt, place-mono}
 use Rattle.lfs_file.proofs.TrailingZeros.{zeros_even, zeros_odd}
-use Rattle.lfs_model.specs.format.SkipLists.{block_count_from}
+use Rattle.lfs_model.specs.format.SkipLists.{list_block_count_from}
 
 -- ---- the ones of a number and of the next one differ by its zeros behind
 
@@ -57,7 +57,7 @@ bytes_before_block-suc block_size (suc n) le h =
 
 module _ (block_size pos : ℕ) (large : 1024 ≤ block_size) where
   place_at : (i : ℕ) → i < 2 ^ 32 → bytes_before_block block_size i ≤ pos → pos < (block_size - 8) * i + block_size + 4 * ones i
-      → (4 * ones i ≤ pos - (block_size - 8) * i) × IsBytePlace block_size pos i (pos - (block_size - 8) * i - 4 * ones i)
+      → (4 * ones i ≤ pos - (block_size - 8) * i) × IsByteInListBlock block_size pos i (pos - (block_size - 8) * i - 4 * ones i)
   place_at zero h from below =
       let none = ones-le 0 0 (omega arith) in
       (omega arith, record { from = omega arith; below = omega arith; at = omega arith })
@@ -69,7 +69,7 @@ module _ (block_size pos : ℕ) (large : 1024 ≤ block_size) where
       (omega arith, record { from = omega arith; below = omega arith; at = omega arith })
 
   abbrev pub IsPlaceBy : ℕ → Type 0
-  IsPlaceBy i = (4 * ones i ≤ pos - (block_size - 8) * i) × IsBytePlace block_size pos i (pos - (block_size - 8) * i - 4 * ones i)
+  IsPlaceBy i = (4 * ones i ≤ pos - (block_size - 8) * i) × IsByteInListBlock block_size pos i (pos - (block_size - 8) * i - 4 * ones i)
 
   bytes_before_block-le : (g : ℕ) → suc g < 2 ^ 32 → (block_size - 8) * suc g ≤ pos → bytes_before_block block_size g ≤ pos
   bytes_before_block-le zero h le = omega arith
@@ -113,49 +113,49 @@ bytes_before_block-least block_size (suc i) large =
     let one = block_capacity-pos block_size i large in
     omega arith
 
-block_count_from-none : (steps block_size i : ℕ) → block_count_from steps block_size i 0 ≡ 0
-block_count_from-none zero block_size i = refl
-block_count_from-none (suc steps) block_size i = refl
+list_block_count_from-none : (steps block_size i : ℕ) → list_block_count_from steps block_size i 0 ≡ 0
+list_block_count_from-none zero block_size i = refl
+list_block_count_from-none (suc steps) block_size i = refl
 
-block_count_from-some : (steps block_size i size : ℕ) → 1 ≤ size → block_count_from (suc steps) block_size i size ≡ 1 + block_count_from steps block_size (i + 1) (size - block_capacity block_size i)
-block_count_from-some steps block_size i size some =
+list_block_count_from-some : (steps block_size i size : ℕ) → 1 ≤ size → list_block_count_from (suc steps) block_size i size ≡ 1 + list_block_count_from steps block_size (i + 1) (size - block_capacity block_size i)
+list_block_count_from-some steps block_size i size some =
     let no : (size == 0) ≡ false = grind (arith, nat_tests) in
-    ap (λ t. if t then 0 else 1 + block_count_from steps block_size (i + 1) (size - block_capacity block_size i)) no
+    ap (λ t. if t then 0 else 1 + list_block_count_from steps block_size (i + 1) (size - block_capacity block_size i)) no
 
 -- counted from block i on, up to the block n in which the last byte stands
-block_count_from-last : (block_size n total : ℕ) → 1024 ≤ block_size → bytes_before_block block_size n < total → total ≤ bytes_before_block block_size n + block_capacity block_size n
-    → (steps i rest : ℕ) → i ≤ n → rest ≤ steps → bytes_before_block block_size i + rest ≡ total → i + block_count_from steps block_size i rest ≡ suc n
-block_count_from-last block_size n total large above within steps i zero le enough is = let more = bytes_before_block-more block_size i n le in absurd (omega arith)
-block_count_from-last block_size n total large above within zero i (suc rest) le enough is = absurd (omega arith)
-block_count_from-last block_size n total large above within (suc steps) i (suc rest) le enough is =
+list_block_count_from-last : (block_size n total : ℕ) → 1024 ≤ block_size → bytes_before_block block_size n < total → total ≤ bytes_before_block block_size n + block_capacity block_size n
+    → (steps i rest : ℕ) → i ≤ n → rest ≤ steps → bytes_before_block block_size i + rest ≡ total → i + list_block_count_from steps block_size i rest ≡ suc n
+list_block_count_from-last block_size n total large above within steps i zero le enough is = let more = bytes_before_block-more block_size i n le in absurd (omega arith)
+list_block_count_from-last block_size n total large above within zero i (suc rest) le enough is = absurd (omega arith)
+list_block_count_from-last block_size n total large above within (suc steps) i (suc rest) le enough is =
     ⊎_elim
     (λ inside.
     let more = bytes_before_block-more block_size (suc i) n (omega arith) in
     let one = block_capacity-pos block_size i large in
-    let next : suc i + block_count_from steps block_size (suc i) (suc rest - block_capacity block_size i) ≡ suc n =
-    block_count_from-last block_size n total large above within steps (suc i) (suc rest - block_capacity block_size i) (omega arith) (omega arith) (omega arith) in
-    omega (arith, block_count_from-some steps block_size i (suc rest) (omega arith), ap (λ k. block_count_from steps block_size k (suc rest - block_capacity block_size i)) (add-one i)))
+    let next : suc i + list_block_count_from steps block_size (suc i) (suc rest - block_capacity block_size i) ≡ suc n =
+    list_block_count_from-last block_size n total large above within steps (suc i) (suc rest - block_capacity block_size i) (omega arith) (omega arith) (omega arith) in
+    omega (arith, list_block_count_from-some steps block_size i (suc rest) (omega arith), ap (λ k. list_block_count_from steps block_size k (suc rest - block_capacity block_size i)) (add-one i)))
     (λ last.
     let same : i ≡ n = omega arith in
     let here : suc rest ≤ block_capacity block_size i = subst (λ k. bytes_before_block block_size k + suc rest ≡ total → suc rest ≤ block_capacity block_size k) (sym same) (λ e. omega arith) is in
     let none : suc rest - block_capacity block_size i ≡ 0 = omega arith in
-    omega (arith, block_count_from-some steps block_size i (suc rest) (omega arith), ap (block_count_from steps block_size (i + 1)) none, block_count_from-none steps block_size (i + 1)))
+    omega (arith, list_block_count_from-some steps block_size i (suc rest) (omega arith), ap (list_block_count_from steps block_size (i + 1)) none, list_block_count_from-none steps block_size (i + 1)))
     (cases_lt i n)
 
 -- the byte before the end is in the last block
-pub block_count_for-place : (block_size size index offset : ℕ) → 1024 ≤ block_size → 1 ≤ size → IsBytePlace block_size (size - 1) index offset → block_count_for block_size size ≡ index + 1
-block_count_for-place block_size size index offset large some is =
-    let counted = block_count_from-last block_size index size large (omega arith) (omega arith) size 0 size (omega arith) (omega arith) (omega arith) in
+pub skip_list_block_count-place : (block_size size index offset : ℕ) → 1024 ≤ block_size → 1 ≤ size → IsByteInListBlock block_size (size - 1) index offset → skip_list_block_count block_size size ≡ index + 1
+skip_list_block_count-place block_size size index offset large some is =
+    let counted = list_block_count_from-last block_size index size large (omega arith) (omega arith) size 0 size (omega arith) (omega arith) (omega arith) in
     omega arith
 
 -- a list has fewer blocks than bytes
-pub place-le : (block_size pos index offset : ℕ) → 1024 ≤ block_size → IsBytePlace block_size pos index offset → 892 * index ≤ pos
+pub place-le : (block_size pos index offset : ℕ) → 1024 ≤ block_size → IsByteInListBlock block_size pos index offset → 892 * index ≤ pos
 place-le block_size pos index offset large is = let k = bytes_before_block-least block_size index large in omega arith
 
 -- ---- places in order
 
 -- each byte has a place
-pub placed : (block_size pos : ℕ) → 1024 ≤ block_size → (i : ℕ) × ((off : ℕ) × IsBytePlace block_size pos i off)
+pub placed : (block_size pos : ℕ) → 1024 ≤ block_size → (i : ℕ) × ((off : ℕ) × IsByteInListBlock block_size pos i off)
 placed block_size zero large = (0, (0, record { from = omega arith; below = omega arith; at = omega arith }))
 placed block_size (suc pos) large =
     let before = placed block_size pos large in
@@ -168,14 +168,14 @@ placed block_size (suc pos) large =
     (λ next. (suc i, (4 * pointer_count (suc i) + (suc pos - bytes_before_block block_size (suc i)), record { from = omega arith; below = omega arith; at = refl })))
     (cases_lt (suc pos) (bytes_before_block block_size i + block_capacity block_size i))
 
-pub place_unique : (block_size p i j off end : ℕ) → IsBytePlace block_size p i off → IsBytePlace block_size p j end → i ≡ j
+pub place_unique : (block_size p i j off end : ℕ) → IsByteInListBlock block_size p i off → IsByteInListBlock block_size p j end → i ≡ j
 place_unique block_size p i j off end is there =
     let a = place-mono block_size p p i j off end is there (omega arith) in
     let b = place-mono block_size p p j i end off there is (omega arith) in
     omega arith
 
 -- the last byte before a block is in the block before it
-pub place_before : (block_size p i j off : ℕ) → 1024 ≤ block_size → IsBytePlace block_size p j off → suc p ≡ bytes_before_block block_size i → i ≡ suc j
+pub place_before : (block_size p i j off : ℕ) → 1024 ≤ block_size → IsByteInListBlock block_size p j off → suc p ≡ bytes_before_block block_size i → i ≡ suc j
 place_before block_size p i j off large is e =
     let low = is.from in
     let high = is.below in
@@ -189,16 +189,16 @@ place_before block_size p i j off large is e =
 
 -- the last byte is in the last block
 pub blocks_for-last : (block_size size : ℕ) → 1024 ≤ block_size → 1 ≤ size
-    → (n : ℕ) × ((block_count_for block_size size ≡ suc n) × ((bytes_before_block block_size n < size) × (size ≤ bytes_before_block block_size n + block_capacity block_size n)))
+    → (n : ℕ) × ((skip_list_block_count block_size size ≡ suc n) × ((bytes_before_block block_size n < size) × (size ≤ bytes_before_block block_size n + block_capacity block_size n)))
 blocks_for-last block_size size large some =
     let last = placed block_size (size - 1) large in
     let low = last.1.1.from in
     let high = last.1.1.below in
-    (last.0, (block_count_for-place block_size size last.0 last.1.0 large some last.1.1 ∙ add-one last.0, (omega arith, omega arith)))
+    (last.0, (skip_list_block_count-place block_size size last.0 last.1.0 large some last.1.1 ∙ add-one last.0, (omega arith, omega arith)))
 
 -- more bytes than the blocks before one hold need that one
-pub block_count_for-above : (block_size total n : ℕ) → 1024 ≤ block_size → bytes_before_block block_size n < total → n < block_count_for block_size total
-block_count_for-above block_size total n large above =
+pub skip_list_block_count-above : (block_size total n : ℕ) → 1024 ≤ block_size → bytes_before_block block_size n < total → n < skip_list_block_count block_size total
+skip_list_block_count-above block_size total n large above =
     let last = blocks_for-last block_size total large (omega arith) in
     let count = last.1.0 in
     let within = last.1.1.1 in
@@ -208,9 +208,9 @@ block_count_for-above block_size total n large above =
     (cases_lt last.0 n)
 
 -- and those that it holds need no further one
-pub block_count_for-within : (block_size total n : ℕ) → 1024 ≤ block_size → total ≤ bytes_before_block block_size n → block_count_for block_size total ≤ n
-block_count_for-within block_size zero n large within = omega arith
-block_count_for-within block_size (suc total) n large within =
+pub skip_list_block_count-within : (block_size total n : ℕ) → 1024 ≤ block_size → total ≤ bytes_before_block block_size n → skip_list_block_count block_size total ≤ n
+skip_list_block_count-within block_size zero n large within = omega arith
+skip_list_block_count-within block_size (suc total) n large within =
     let last = blocks_for-last block_size (suc total) large (omega arith) in
     let count = last.1.0 in
     let above = last.1.1.0 in

@@ -1,6 +1,6 @@
 -- Used blocks aren't written by a draft.
 use Rattle.std.proofs.Common.{ℕ, ◌≡◌, List, Some, refl, sym, ◌∙◌, subst}
-use Rattle.lfs_file.proofs.Common.{Blocks, SameExceptBlocks, BlockStates, IsInFlight, IsUsedBlock, Free, InFlight, Used, CallEvent, LossLeavesAtWorst, HoldsAtLosses, StayUnprogrammed, AllCallsSince-weaker, goes_on_by, GrowingList, unwritten_block, IsTakenNotPending, HasBlocksTaken, KeepsTakenBytes, TakenStayUnprogrammed, KeepsUsedBlocks, KeepsUsedBytes, ReleasesInFlight, ChangesOnlyFree}
+use Rattle.lfs_file.proofs.Common.{Blocks, SameExceptBlocks, BlockStates, IsInFlight, IsUsedBlock, Free, InFlight, Used, CallEvent, LossLeavesAtWorst, HoldsAtLosses, OthersStayUnprogrammed, AllCallsSince-weaker, goes_on_by, GrowingList, unwritten_block, IsTakenNotPending, HasBlocksTaken, KeepsTakenBytes, TakenStayUnprogrammed, KeepsUsedBlocks, KeepsUsedBytes, ReleasesInFlight, ChangesOnlyFree}
 use Rattle.lfs_file.specs.Hand.{UsedStayUnprogrammed}
 
 module _ (map : BlockStates) (at : Blocks) (g : GrowingList) (marked : HasBlocksTaken map at g) where
@@ -24,7 +24,7 @@ module _ (map : BlockStates) (at : Blocks) (g : GrowingList) (marked : HasBlocks
 pub spares_end : (map : BlockStates) (pending : List ℕ) (e f : Blocks) → SameExceptBlocks pending e f → KeepsTakenBytes map pending e f
 spares_end map pending e f same = record { count = same.count; sizes = same.sizes; same = λ b apart. same.others b apart.1 }
 
-pub pages_end : (map : BlockStates) (pending : List ℕ) (a b : List CallEvent) → StayUnprogrammed pending a b → TakenStayUnprogrammed map pending a b
+pub pages_end : (map : BlockStates) (pending : List ℕ) (a b : List CallEvent) → OthersStayUnprogrammed pending a b → TakenStayUnprogrammed map pending a b
 pages_end map pending a b stay = record { stays = λ k i apart was. stay.stays k i apart.1 was }
 
 pub stops_end : (map : BlockStates) (pending : List ℕ) (e : Blocks) (a b : List CallEvent) → HoldsAtLosses LossLeavesAtWorst a b (SameExceptBlocks pending e) → HoldsAtLosses LossLeavesAtWorst a b (KeepsTakenBytes map pending e)

@@ -1,7 +1,7 @@
 -- The contents after a truncation, and their form.
 use Rattle.std.proofs.Common.{ℕ, ◌≡◌, ◌≢◌, ◌+◌, ◌*◌, ◌-◌, ◌<◌, ◌≤◌, ⊎_elim, Bool, true, false, if◌then◌else◌, max, min, List, [], length, take, replicate, sym, ap, ◌∙◌, arith}
 use Rattle.std.specs.Prelude.{nat_le, nat_lt, ◌==◌}
-use Rattle.lfs_file.proofs.Common.{cases_eq, cases_lt, eq-eqb, ne_eqb, le-leb, lt-leb, append-nil, length-replicate, length-take-le, take_all, block_count_for, written_contents, zero_padded, truncation_room, ContentsForm, InMemory, Finished, InHand, form_size, form_written_within, shortened_form, truncated_form}
+use Rattle.lfs_file.proofs.Common.{cases_eq, cases_lt, eq-eqb, ne_eqb, le-leb, lt-leb, append-nil, length-replicate, length-take-le, take_all, skip_list_block_count, written_contents, zero_padded, truncation_room, ContentsForm, InMemory, Finished, InHand, form_size, form_written_within, shortened_form, truncated_form}
 use Rattle.std.proofs.lemmas.Bool.{lt-ltb, le-ltb}
 use Rattle.std.proofs.Common.{length-append}
 use Rattle.lfs_file.proofs.Flights.{at_end, zeros_not}
@@ -92,22 +92,22 @@ lengthened_hand limit end base size flying now under waits more many is on anew 
 -- ---- room
 
 pub longer_room : (block_size size end base : ℕ) (flying : Bool) → max end base < size
-    → truncation_room block_size size (InHand end base flying) ≡ (if end == max end base then block_count_for block_size size + (if flying then block_count_for block_size base else 0) else 2 * block_count_for block_size size)
+    → truncation_room block_size size (InHand end base flying) ≡ (if end == max end base then skip_list_block_count block_size size + (if flying then skip_list_block_count block_size base else 0) else 2 * skip_list_block_count block_size size)
 longer_room block_size size end base flying more =
-    ap (λ (t : Bool). if t then (if end == max end base then block_count_for block_size size + (if flying then block_count_for block_size base else 0) else 2 * block_count_for block_size size)
-    else (if flying then block_count_for block_size base else 0) + block_count_for block_size base) (lt-ltb (max end base) size more)
+    ap (λ (t : Bool). if t then (if end == max end base then skip_list_block_count block_size size + (if flying then skip_list_block_count block_size base else 0) else 2 * skip_list_block_count block_size size)
+    else (if flying then skip_list_block_count block_size base else 0) + skip_list_block_count block_size base) (lt-ltb (max end base) size more)
 
-pub room_on : (block_size size end base : ℕ) (flying : Bool) → max end base < size → end ≡ max end base → truncation_room block_size size (InHand end base flying) ≡ block_count_for block_size size + (if flying then block_count_for block_size base else 0)
+pub room_on : (block_size size end base : ℕ) (flying : Bool) → max end base < size → end ≡ max end base → truncation_room block_size size (InHand end base flying) ≡ skip_list_block_count block_size size + (if flying then skip_list_block_count block_size base else 0)
 room_on block_size size end base flying more same =
     longer_room block_size size end base flying more
-    ∙ ap (λ (t : Bool). if t then block_count_for block_size size + (if flying then block_count_for block_size base else 0) else 2 * block_count_for block_size size) (eq-eqb end (max end base) same)
+    ∙ ap (λ (t : Bool). if t then skip_list_block_count block_size size + (if flying then skip_list_block_count block_size base else 0) else 2 * skip_list_block_count block_size size) (eq-eqb end (max end base) same)
 
-pub room_anew : (block_size size end base : ℕ) (flying : Bool) → max end base < size → end ≢ max end base → truncation_room block_size size (InHand end base flying) ≡ 2 * block_count_for block_size size
+pub room_anew : (block_size size end base : ℕ) (flying : Bool) → max end base < size → end ≢ max end base → truncation_room block_size size (InHand end base flying) ≡ 2 * skip_list_block_count block_size size
 room_anew block_size size end base flying more ne =
     longer_room block_size size end base flying more
-    ∙ ap (λ (t : Bool). if t then block_count_for block_size size + (if flying then block_count_for block_size base else 0) else 2 * block_count_for block_size size) (ne_eqb end (max end base) ne)
+    ∙ ap (λ (t : Bool). if t then skip_list_block_count block_size size + (if flying then skip_list_block_count block_size base else 0) else 2 * skip_list_block_count block_size size) (ne_eqb end (max end base) ne)
 
-pub room_shorter : (block_size size end base : ℕ) (flying : Bool) → size < max end base → truncation_room block_size size (InHand end base flying) ≡ (if flying then block_count_for block_size base else 0) + block_count_for block_size base
+pub room_shorter : (block_size size end base : ℕ) (flying : Bool) → size < max end base → truncation_room block_size size (InHand end base flying) ≡ (if flying then skip_list_block_count block_size base else 0) + skip_list_block_count block_size base
 room_shorter block_size size end base flying less =
-    ap (λ (t : Bool). if t then (if end == max end base then block_count_for block_size size + (if flying then block_count_for block_size base else 0) else 2 * block_count_for block_size size)
-    else (if flying then block_count_for block_size base else 0) + block_count_for block_size base) (le-ltb (max end base) size (omega arith))
+    ap (λ (t : Bool). if t then (if end == max end base then skip_list_block_count block_size size + (if flying then skip_list_block_count block_size base else 0) else 2 * skip_list_block_count block_size size)
+    else (if flying then skip_list_block_count block_size base else 0) + skip_list_block_count block_size base) (le-ltb (max end base) size (omega arith))

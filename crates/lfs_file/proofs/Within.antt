@@ -1,6 +1,6 @@
 -- Writes in memory, to the partial block.
 use Rattle.std.proofs.Common.{ℕ, suc, ◌≡◌, ◌+◌, ◌<◌, true, List, ◌++◌, length, drop, refl, sym, ap, ◌∙◌, subst, arith, length-append, append_assoc}
-use Rattle.lfs_file.proofs.Common.{and_parts, ltb-true, Blocks, HasBlockSizes, BlockStates, block_capacity, block_count_for, blocks_to_head, written_contents, block_count_for-more, IsRestAt, growing_bytes, blocks_data, growing_size, unwritten_rest_block, unwritten_block, AreUsedAmong, contents_blocks, HaveBytesInForm, contents_form, written_form, stored_list_bytes, CanEndUnfinished, unfinished_bytes, unfinished_length}
+use Rattle.lfs_file.proofs.Common.{and_parts, ltb-true, Blocks, HasBlockSizes, BlockStates, block_capacity, skip_list_block_count, blocks_to_head, written_contents, skip_list_block_count-more, IsRestAt, growing_bytes, blocks_data, growing_size, unwritten_rest_block, unwritten_block, AreUsedAmong, contents_blocks, HaveBytesInForm, contents_form, written_form, stored_list_bytes, CanEndUnfinished, unfinished_bytes, unfinished_length}
 use Rattle.lfs_device.specs.declared.geometry.Geometry.{Geometry}
 use Rattle.lfs_file.specs.Growing.{fits_unwritten_block}
 use Rattle.lfs_file.specs.declared.contents.WriterContents.TheVariants.{InHand}
@@ -10,7 +10,7 @@ use Rattle.lfs_file.specs.declared.writes.PendingList.{PendingList}
 use Rattle.lfs_file.proofs.Flights.{length-content, written_on}
 use Rattle.lfs_file.proofs.Forms.{written_hand}
 use Rattle.lfs_file.proofs.Pushed.{length-kept}
-use Rattle.lfs_file.proofs.Sizes.{block_count_for-within}
+use Rattle.lfs_file.proofs.Sizes.{skip_list_block_count-within}
 
 -- the block that waits is one, and more bytes can wait for it
 one_waits : (t : RestLocation) → 0 < length (unwritten_rest_block t) → length (unwritten_rest_block t) ≡ 1
@@ -40,15 +40,15 @@ module _ (map : BlockStates) (d : Blocks) (now : Geometry) (hand : PendingList) 
   size_longer = omega (arith, length-append hand.list.rest bytes)
 
   -- it takes no further block
-  many : hand.list.full + 1 ≡ block_count_for hand.list.geometry.block_size (growing_size (longer_hand hand bytes).list)
+  many : hand.list.full + 1 ≡ skip_list_block_count hand.list.geometry.block_size (growing_size (longer_hand hand bytes).list)
   many =
       let kept = length-kept d hand.list in
       let one = one_waits hand.list.stand waits in
       let all = going.list.many in
       let large = hand.list.geometry.valid.no_smaller in
       let sum = length-append hand.list.rest bytes in
-      let within = block_count_for-within hand.list.geometry.block_size (growing_size (longer_hand hand bytes).list) (suc hand.list.full) large (let lt = short in omega arith) in
-      let more = block_count_for-more hand.list.geometry.block_size (growing_size hand.list) (growing_size (longer_hand hand bytes).list) (omega arith) in
+      let within = skip_list_block_count-within hand.list.geometry.block_size (growing_size (longer_hand hand bytes).list) (suc hand.list.full) large (let lt = short in omega arith) in
+      let more = skip_list_block_count-more hand.list.geometry.block_size (growing_size hand.list) (growing_size (longer_hand hand bytes).list) (omega arith) in
       omega arith
 
   pub going_on : CanEndUnfinished map d now (longer_hand hand bytes)

@@ -3,7 +3,7 @@ use Rattle.std.specs.Prelude.{ℕ, ◌≡◌, ◌≤◌, ◌+◌, ◌-◌, List,
 use Rattle.lfs_device.specs.declared.geometry.Geometry.{Geometry}
 use Rattle.lfs_model.specs.format.Blocks.{Blocks, block_bytes}
 use Rattle.lfs_model.specs.layers.BlockSets.{BlockStates, in_flight_count, used_count}
-use Rattle.lfs_model.specs.format.SkipLists.{block_count_for}
+use Rattle.lfs_model.specs.format.SkipLists.{skip_list_block_count}
 use Rattle.lfs_file.specs.Bases.{IsBaseApart}
 use Rattle.lfs_file.specs.BlocksApart.{HasBlocksTaken}
 use Rattle.lfs_file.specs.Extensions.{CanEndAlone}
@@ -18,7 +18,7 @@ pub record CanAppendBase (map : BlockStates) (disk : Blocks) (now : Geometry) (l
   pub marked : HasBlocksTaken map disk list
   pub own : CanEndAlone disk list
   pub apart : IsBaseApart map (unwritten_block list) disk list.geometry.block_size base.head base.size
-  pub room : used_count map + in_flight_count map + block_count_for list.geometry.block_size base.size ≤ length map + length (lasting_blocks disk list)
+  pub room : used_count map + in_flight_count map + skip_list_block_count list.geometry.block_size base.size ≤ length map + length (lasting_blocks disk list)
 
 -- The buffer begins with `count` bytes of the block, at least one, from an offset on: all that follow, or `most`.
 pub record HasBlockBytes (disk : Blocks) (block_size block off most : ℕ) (buffer : List ℕ) (count : ℕ) : Type 0 where

@@ -3,10 +3,10 @@ use Rattle.std.specs.Prelude.{◌≡◌, ◌≤◌, ◌<◌, ◌+◌, ◌-◌, �
 use Rattle.lfs_device.specs.declared.error.Error.{Error}
 use Rattle.lfs_device.specs.declared.error.Error.TheVariants.{Corrupt}
 use Rattle.lfs_model.specs.format.Blocks.{Blocks, block_bytes}
-use Rattle.lfs_model.specs.format.SkipLists.{AreListBlocks, IsSkipList, block_count_for, blocks_to_head, pointer_count, word_at}
+use Rattle.lfs_model.specs.format.SkipLists.{AreListBlocks, IsSkipList, skip_list_block_count, blocks_to_head, pointer_count, word_at}
 use Rattle.lfs_model.specs.session.History.{CallEvent, read_count}
 use Rattle.lfs_file.specs.declared.block.FullBlocks.{FullBlocks}
-use Rattle.lfs_file.specs.declared.known.KnownBlocks.{KnownBlocks}
+use Rattle.lfs_file.specs.declared.known.IndexCache.{IndexCache}
 use Rattle.lfs_file.specs.Appended.{IsBlockAppended}
 use Rattle.lfs_file.specs.Counts.{WritesEachOnce}
 use Rattle.lfs_file.specs.Extended.{ListHasBytes}
@@ -48,12 +48,12 @@ pub record FinishCalls (list : GrowingList) (old new : Blocks) (before after : L
   pub few : OnOk result (WritesLastFew list before after)
 
 -- if the cached blocks are those of the list, the block at the index is found, and the cached blocks still are the list's
-pub record FindsKnownBlock (disk : Blocks) (last head n : ℕ) (old new : KnownBlocks) (result : Result ℕ Error) : Type 0 where
+pub record FindsKnownBlock (disk : Blocks) (last head n : ℕ) (old new : IndexCache) (result : Result ℕ Error) : Type 0 where
   pub found : AreListBlocks disk (last + 1) head → AreKnownBlocks (blocks_to_head disk (last + 1) head) old → IfOk result (λ b. b ≡ slice_index (blocks_to_head disk (last + 1) head) n)
   pub known : AreListBlocks disk (last + 1) head → AreKnownBlocks (blocks_to_head disk (last + 1) head) old → AreKnownBlocks (blocks_to_head disk (last + 1) head) new
 
 -- at most one read, and none for a cached block
-pub record ReadsUnlessKnown (old new : KnownBlocks) (n : ℕ) (before after : List CallEvent) : Type 0 where
+pub record ReadsUnlessKnown (old new : IndexCache) (n : ℕ) (before after : List CallEvent) : Type 0 where
   pub few : read_count after ≤ read_count before + 1
   pub known : IsKnownIndex old n → (new ≡ old) × (read_count after ≡ read_count before)
 
@@ -65,4 +65,4 @@ pub record ChecksBlock {X : Type 0} (count b last n : ℕ) (words : List ℕ) (r
 -- there is a list, read with fewer reads than it has blocks
 pub record IsListReadOnce (disk : Blocks) (block_size head size : ℕ) (before after : List CallEvent) : Type 0 where
   pub list : IsSkipList disk block_size head size
-  pub few : read_count after < read_count before + block_count_for block_size size
+  pub few : read_count after < read_count before + skip_list_block_count block_size size

@@ -3,7 +3,7 @@ use Rattle.std.specs.Prelude.{◌≡◌, ◌≤◌, ◌<◌, ◌+◌, ◌-◌, �
 use Rattle.lfs_device.specs.declared.device.BlockDevice.{Ghosts}
 use Rattle.lfs_device.specs.declared.geometry.Geometry.{Geometry}
 use Rattle.lfs_model.specs.format.Blocks.{Blocks}
-use Rattle.lfs_model.specs.format.SkipLists.{AreListBlocks, block_count_for, blocks_to_head, pointer_count}
+use Rattle.lfs_model.specs.format.SkipLists.{AreListBlocks, skip_list_block_count, blocks_to_head, pointer_count}
 use Rattle.lfs_model.specs.layers.BlockSets.{BlockStates, in_flight_count, used_count}
 use Rattle.lfs_file.specs.declared.block.FullBlocks.{FullBlocks}
 use Rattle.lfs_file.specs.declared.way.WalkedBlocks.{WalkedBlocks}
@@ -83,20 +83,20 @@ pub record CanExtendList (map : BlockStates) (disk : Blocks) (now : Geometry) (l
   pub some : 1 ≤ count
   pub small : growing_size list + count < 2 ^ 31
   pub marked : HasBlocksTaken map disk list
-  pub room : used_count map + in_flight_count map + block_count_for list.geometry.block_size (growing_size list + count) ≤ length map + length (lasting_blocks disk list)
+  pub room : used_count map + in_flight_count map + skip_list_block_count list.geometry.block_size (growing_size list + count) ≤ length map + length (lasting_blocks disk list)
 
 -- `count` zeros can be written at the end of a draft's new list
 pub record CanWriteZeros (map : BlockStates) (disk : Blocks) (now : Geometry) (hand : PendingList) (count : ℕ) : Type 0 where
   pub begun : IsUnfinishedList map disk now hand
   pub small : growing_size hand.list + count < 2 ^ 31
-  pub room : used_count map + block_count_for now.block_size (growing_size hand.list + count) + in_flight_limit now.block_size hand.base ≤ length map
+  pub room : used_count map + skip_list_block_count now.block_size (growing_size hand.list + count) + in_flight_limit now.block_size hand.base ≤ length map
 
 -- `count` bytes, at least one, can be written there
 pub record CanAppendToUnfinished (map : BlockStates) (disk : Blocks) (now : Geometry) (hand : PendingList) (count : ℕ) : Type 0 where
   pub begun : IsUnfinishedList map disk now hand
   pub some : 1 ≤ count
   pub small : growing_size hand.list + count < 2 ^ 31
-  pub room : used_count map + block_count_for now.block_size (growing_size hand.list + count) + in_flight_limit now.block_size hand.base ≤ length map
+  pub room : used_count map + skip_list_block_count now.block_size (growing_size hand.list + count) + in_flight_limit now.block_size hand.base ≤ length map
 
 -- `count` bytes, at least one, can be written at an offset, which is its end or is behind all contents
 pub record CanFillAndWrite (map : BlockStates) (disk : Blocks) (now : Geometry) (hand : PendingList) (place count : ℕ) : Type 0 where
@@ -104,4 +104,4 @@ pub record CanFillAndWrite (map : BlockStates) (disk : Blocks) (now : Geometry) 
   pub at : growing_size hand.list ≡ min place (unfinished_length hand)
   pub some : 1 ≤ count
   pub small : place + count < 2 ^ 31
-  pub room : used_count map + block_count_for now.block_size (place + count) + in_flight_limit now.block_size hand.base ≤ length map
+  pub room : used_count map + skip_list_block_count now.block_size (place + count) + in_flight_limit now.block_size hand.base ≤ length map

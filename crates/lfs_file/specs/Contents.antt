@@ -3,7 +3,7 @@ use Rattle.std.specs.Prelude.{ℕ, ◌≡◌, ◌≢◌, ◌≤◌, ◌<◌, ◌
 use Rattle.lfs_model.specs.format.Blocks.{Blocks}
 use Rattle.lfs_model.specs.format.Disk.{inline_limit}
 use Rattle.lfs_model.specs.layers.BlockSets.{BlockStates, IsInFlight, used_count}
-use Rattle.lfs_model.specs.format.SkipLists.{block_count_for}
+use Rattle.lfs_model.specs.format.SkipLists.{skip_list_block_count}
 use Rattle.lfs_device.specs.declared.geometry.Geometry.{Geometry}
 use Rattle.lfs_file.specs.Growing.{IsAllBuffered, GrowingList, growing_size}
 use Rattle.lfs_file.specs.Form as form
@@ -65,11 +65,11 @@ FormFitsLimit limit (form.InHand stop base flying) = limit < max stop base
 
 -- how many blocks may be in flight after a write past the limit
 abbrev pub write_room : ℕ → ℕ → ℕ → ContentsForm → ℕ
-write_room block_size place count (form.InMemory size) = block_count_for block_size (place + count)
-write_room block_size place count (form.Finished size flying) = block_count_for block_size (place + count) + (if flying then block_count_for block_size size else 0)
+write_room block_size place count (form.InMemory size) = skip_list_block_count block_size (place + count)
+write_room block_size place count (form.Finished size flying) = skip_list_block_count block_size (place + count) + (if flying then skip_list_block_count block_size size else 0)
 write_room block_size place count (form.InHand stop base flying) =
-    if stop == min place (max stop base) then block_count_for block_size (place + count) + (if flying then block_count_for block_size base else 0)
-    else 2 * block_count_for block_size (max (max stop base) (place + count))
+    if stop == min place (max stop base) then skip_list_block_count block_size (place + count) + (if flying then skip_list_block_count block_size base else 0)
+    else 2 * skip_list_block_count block_size (max (max stop base) (place + count))
 
 -- the form after a draft is completed, and how many blocks may be in flight then
 abbrev pub form_after_finish : ContentsForm → ContentsForm
@@ -80,16 +80,16 @@ form_after_finish (form.InHand stop base flying) = form.Finished (max stop base)
 abbrev pub finish_room : ℕ → ContentsForm → ℕ
 finish_room block_size (form.InMemory size) = 0
 finish_room block_size (form.Finished size flying) = 0
-finish_room block_size (form.InHand stop base flying) = (if flying then block_count_for block_size base else 0) + block_count_for block_size base
+finish_room block_size (form.InHand stop base flying) = (if flying then skip_list_block_count block_size base else 0) + skip_list_block_count block_size base
 
 -- and after a truncation to a size, which completes a draft that it cuts
 abbrev pub truncation_room : ℕ → ℕ → ContentsForm → ℕ
-truncation_room block_size size (form.InMemory old) = block_count_for block_size size
-truncation_room block_size size (form.Finished old flying) = block_count_for block_size size + (if flying then block_count_for block_size old else 0)
+truncation_room block_size size (form.InMemory old) = skip_list_block_count block_size size
+truncation_room block_size size (form.Finished old flying) = skip_list_block_count block_size size + (if flying then skip_list_block_count block_size old else 0)
 truncation_room block_size size (form.InHand stop base flying) =
     if nat_lt (max stop base) size
-    then (if stop == max stop base then block_count_for block_size size + (if flying then block_count_for block_size base else 0) else 2 * block_count_for block_size size)
-    else (if flying then block_count_for block_size base else 0) + block_count_for block_size base
+    then (if stop == max stop base then skip_list_block_count block_size size + (if flying then skip_list_block_count block_size base else 0) else 2 * skip_list_block_count block_size size)
+    else (if flying then skip_list_block_count block_size base else 0) + skip_list_block_count block_size base
 
 -- a truncation to a size needs blocks: it pads a list, or completes a draft
 abbrev pub NeedsTruncateRoom : ℕ → ℕ → ContentsForm → Type 0

@@ -4,7 +4,7 @@ use Rattle.std.specs.List.{IsDistinct}
 use Rattle.lfs_device.specs.declared.device.BlockDevice.{Ghosts}
 use Rattle.lfs_device.specs.declared.geometry.Geometry.{Geometry}
 use Rattle.lfs_model.specs.format.Blocks.{Blocks}
-use Rattle.lfs_model.specs.format.SkipLists.{AreListBlocks, IsSkipList, blocks_to_head, block_count_for, list_bytes}
+use Rattle.lfs_model.specs.format.SkipLists.{AreListBlocks, IsSkipList, blocks_to_head, skip_list_block_count, list_bytes}
 use Rattle.lfs_file.specs.Extended.{ListHasBytes}
 use Rattle.lfs_file.specs.Known.{ArePointersKnown, ArePointedKnown}
 use Rattle.lfs_file.specs.Growing.{GrowingList, DiskHasList, IsAllBuffered, HasUnwrittenAmong, growing_bytes, growing_size, rest_lacks_block, lasting_blocks, appended_count, unwritten_block}
@@ -25,8 +25,8 @@ pub record CanResumeList (disk : Blocks) (block_size head size keep : ℕ) : Typ
 -- blocks that its pointers name are cached.
 pub record IsResumedList (disk : Blocks) (divided : Geometry) (head size keep : ℕ) (list : GrowingList) : Type 0 where
   pub grown : ListHasBytes divided disk list (take keep (list_bytes disk divided.block_size head size)) keep
-      (take list.full (blocks_to_head disk (block_count_for divided.block_size size) head))
-      (take (block_count_for divided.block_size keep) (blocks_to_head disk (block_count_for divided.block_size size) head))
+      (take list.full (blocks_to_head disk (skip_list_block_count divided.block_size size) head))
+      (take (skip_list_block_count divided.block_size keep) (blocks_to_head disk (skip_list_block_count divided.block_size size) head))
   pub waits : HasUnwrittenAmong [] list
   pub known : 1 ≤ length list.rest → ArePointersKnown list.full list.known
 

@@ -1,7 +1,7 @@
 -- The number of reads that extending a list costs.
 use Rattle.std.specs.Prelude.{ℕ, zero, suc, ◌≡◌, ◌≤◌, ◌<◌, ◌+◌, ◌-◌, ◌*◌, ◌^◌, List}
 use Rattle.lfs_model.specs.session.History.{CallEvent, read_count}
-use Rattle.lfs_model.specs.format.SkipLists.{block_count_for, pointer_count}
+use Rattle.lfs_model.specs.format.SkipLists.{skip_list_block_count, pointer_count}
 use Rattle.lfs_file.specs.Growing.{GrowingList}
 use Rattle.lfs_file.specs.Known.{ArePointersKnown, ArePointedKnown}
 
@@ -13,8 +13,8 @@ further_pointers (suc n) = further_pointers n + (pointer_count n - 1)
 -- An extender resumed the first `keep` bytes of a list. The walk to their last block costs a read for each pointer: at most twice
 -- the logarithm of the list's number of blocks, and at most the number of blocks behind that one. The block costs one read.
 pub record ResumesFew (block_size size keep : ℕ) (before after : List CallEvent) : Type 0 where
-  pub few : (m : ℕ) → block_count_for block_size size ≤ 2 ^ m → read_count after ≤ read_count before + 2 * m + 1
-  pub near : read_count after ≤ read_count before + (block_count_for block_size size - block_count_for block_size keep) + 1
+  pub few : (m : ℕ) → skip_list_block_count block_size size ≤ 2 ^ m → read_count after ≤ read_count before + 2 * m + 1
+  pub near : read_count after ≤ read_count before + (skip_list_block_count block_size size - skip_list_block_count block_size keep) + 1
 
 -- Each pointer of the filled blocks, except the first of each, costs at most one read. If all blocks that later pointers name are
 -- cached, there is no read, and they are still cached afterwards.

@@ -2,7 +2,7 @@
 use Rattle.std.specs.Prelude.{ℕ, ◌≤◌, ◌<◌, ◌+◌, ◌^◌, length}
 use Rattle.lfs_model.specs.format.Blocks.{Blocks}
 use Rattle.lfs_model.specs.layers.BlockSets.{BlockStates, used_count}
-use Rattle.lfs_model.specs.format.SkipLists.{block_count_for}
+use Rattle.lfs_model.specs.format.SkipLists.{skip_list_block_count}
 use Rattle.lfs_file.specs.BaseRoom.{in_flight_limit}
 use Rattle.lfs_file.specs.Hand.{IsFinishedList}
 use Rattle.lfs_file.specs.declared.stored_list.StoredList.{StoredList}
@@ -13,4 +13,4 @@ pub record CanOverwriteFinished (map : BlockStates) (disk : Blocks) (block_size 
   pub stored : IsFinishedList map disk block_size list
   pub some : 1 ≤ count
   pub small : place + count < 2 ^ 31
-  pub room : used_count map + block_count_for block_size (place + count) + in_flight_limit block_size list ≤ length map
+  pub room : used_count map + skip_list_block_count block_size (place + count) + in_flight_limit block_size list ≤ length map

@@ -2,10 +2,10 @@
 use Rattle.std.specs.Prelude.{ℕ, Bool, true, false, ◌≡◌, ◌≢◌, ◌≤◌, ◌<◌, ◌+◌, ◌-◌, ◌*◌, List, [], ◌∷◌, ◌++◌, length, take, drop, slice_index, All, ◌&&◌, nat_lt}
 use Rattle.std.specs.List.{flat_map, enumerate_from}
 use Rattle.lfs_model.specs.format.Blocks.{Blocks, block_bytes}
-use Rattle.lfs_model.specs.format.SkipLists.{pointer_count, bytes_before_block, block_capacity, blocks_to_head, block_count_for, AreListBlocks, block_data}
+use Rattle.lfs_model.specs.format.SkipLists.{pointer_count, bytes_before_block, block_capacity, blocks_to_head, skip_list_block_count, AreListBlocks, block_data}
 use Rattle.lfs_device.specs.declared.geometry.Geometry.{Geometry}
 use Rattle.lfs_file.specs.Known.{AreKnownBlocks}
-use Rattle.lfs_file.specs.declared.known.KnownBlocks.{KnownBlocks}
+use Rattle.lfs_file.specs.declared.known.IndexCache.{IndexCache}
 use Rattle.lfs_file.specs.declared.rest.RestLocation.{RestLocation}
 use Rattle.lfs_file.specs.declared.rest.RestLocation.TheVariants.{Closed, Shared, Handed, Held}
 
@@ -15,7 +15,7 @@ pub record GrowingList : Type 0 where
   -- the number of full blocks on the disk, the last of them if there is one, and the index cache
   pub full : ℕ
   pub head : ℕ
-  pub known : KnownBlocks
+  pub known : IndexCache
   -- the bytes of the partial block, and where they are
   pub rest : List ℕ
   pub stand : RestLocation
@@ -75,7 +75,7 @@ IsRestShort block_size g = length g.rest < block_capacity block_size g.full
 
 -- how many more blocks the list needs for `n` more bytes
 abbrev pub appended_count : GrowingList → ℕ → ℕ
-appended_count g n = block_count_for g.geometry.block_size (growing_size g + n) - (g.full + length (unwritten_block g))
+appended_count g n = skip_list_block_count g.geometry.block_size (growing_size g + n) - (g.full + length (unwritten_block g))
 
 -- there is an unwritten block, and it isn't full with `n` more bytes
 abbrev pub fits_unwritten_block : GrowingList → ℕ → Bool

@@ -3,7 +3,7 @@ use Rattle.std.specs.Prelude.{ℕ, ◌≡◌, ◌≢◌, ◌≤◌, ◌++◌, �
 use Rattle.lfs_model.specs.format.Blocks.{Blocks, block_bytes}
 use Rattle.lfs_model.specs.layers.BlockSets.{BlockStates, IsFree, IsInFlight, IsUsedBlock, used_count}
 use Rattle.lfs_model.specs.session.History.{CallEvent, is_unprogrammed_byte}
-use Rattle.lfs_model.specs.format.SkipLists.{block_count_for, list_bytes}
+use Rattle.lfs_model.specs.format.SkipLists.{skip_list_block_count, list_bytes}
 use Rattle.lfs_file.specs.Growing.{GrowingList, DiskHasList, growing_blocks, growing_bytes, rest_lacks_block, lasting_blocks, unwritten_block, growing_size_with}
 use Rattle.lfs_file.specs.BlocksApart.{IsTakenNotPending, HasBlocksTaken}
 use Rattle.lfs_file.specs.Bases.{IsListOrEmpty, blocks_of_list}
@@ -23,7 +23,7 @@ pub record SharesFirstBlocks (map : BlockStates) (disk : Blocks) (block_size : �
   pub marked : HasBlocksTaken map disk g
   pub list : IsListOrEmpty disk block_size base.head base.size
   pub apart : All (IsTakenNotPending map (unwritten_block g)) (blocks_of_list disk block_size base.head base.size)
-  pub few : shared ≤ block_count_for block_size base.size
+  pub few : shared ≤ skip_list_block_count block_size base.size
   pub front : take shared (lasting_blocks disk g) ≡ take shared (blocks_of_list disk block_size base.head base.size)
   pub behind : All (λ b. All (λ c. c ≢ b) (blocks_of_list disk block_size base.head base.size)) (drop shared (lasting_blocks disk g))
   pub taken : (b : ℕ) → Contains (lasting_blocks disk g) b → IsUsedBlock map b → Contains (blocks_of_list disk block_size base.head base.size) b
@@ -33,7 +33,7 @@ pub record SharesFirstBlocks (map : BlockStates) (disk : Blocks) (block_size : �
 pub record CanEndOver (map : BlockStates) (disk : Blocks) (block_size : ℕ) (g : GrowingList) (base : StoredList) (shared : ℕ) : Type 0 where
   pub begun : SharesFirstBlocks map disk block_size g base shared
   pub own : growing_blocks disk g ≡ lasting_blocks disk g
-  pub many : length (lasting_blocks disk g) ≡ block_count_for block_size (growing_size_with block_size g)
+  pub many : length (lasting_blocks disk g) ≡ skip_list_block_count block_size (growing_size_with block_size g)
   pub listed : rest_lacks_block g ≡ false
 
 -- the contents of a stored list, and of a draft

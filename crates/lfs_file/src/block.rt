@@ -7,7 +7,7 @@ ghost use Rattle.lfs_model.specs.format.SkipLists.{blocks_to_head, pointer_count
 ghost use Rattle.lfs_file.specs.CallPremises.{CanWritePointers, CanWriteBlock};
 ghost use Rattle.lfs_file.specs.BlockCalls.{HasAppendedBlock, BuffersPointers, WritesBlockOnce};
 
-use crate::known::KnownBlocks;
+use crate::known::IndexCache;
 use crate::read::pointer_count_at;
 use byteorder::{ByteOrder, LittleEndian};
 use lfs_device::{BlockDevice, Error};
@@ -19,7 +19,7 @@ pub(crate) struct FullBlocks {
     /// The address of the last full block, if there is one.
     pub head: u32,
     /// An index cache of the blocks to which the pointers of later blocks refer.
-    pub known: KnownBlocks,
+    pub known: IndexCache,
 }
 
 impl FullBlocks {
@@ -32,7 +32,7 @@ impl FullBlocks {
         FullBlocks {
             count: 0,
             head: 0,
-            known: KnownBlocks::new(),
+            known: IndexCache::new(),
         }
     }
 

@@ -1,7 +1,7 @@
 // Copies bytes of an old list to the end of a new list.
 
 ghost use Rattle.std.specs.Prelude.{◌≡◌, ◌≤◌, ◌<◌, ◌+◌, ◌-◌, length, max, drop, IfOk, OnOk};
-ghost use Rattle.lfs_device.specs.DeviceCalls.{ReadsOrIo, ReadsOnly, ReportsIoNoMemory};
+ghost use Rattle.lfs_device.specs.DeviceCalls.{ReadsOnlyOrIo, ReadsOnly, ReportsIoOrNoMemory};
 ghost use Rattle.lfs_model.specs.session.History.{read_count};
 ghost use Rattle.lfs_model.specs.format.SkipLists.{AreListBlocks, blocks_to_head};
 ghost use Rattle.lfs_file.specs.BaseCopies.{CanAppendBase, HasBlockBytes};
@@ -24,7 +24,7 @@ use std::alloc::Global;
 ///
 /// Errors: `Io` if a device call fails. `NoMemory` if memory can't be allocated. After an error,
 /// `list` can only be dropped.
-pub(crate) fn append_base_rest<D: BlockDevice>(
+pub(crate) fn copy_stored_tail<D: BlockDevice>(
     alloc: Global,
     dev: &mut D,
     map: &mut BlockMap,
@@ -94,7 +94,7 @@ fn blocks_from_index<D: BlockDevice>(
     requires within { from ≤ count }
     ensures blocks { IfOk result (λ v. v.items ≡ drop from (blocks_to_head (D.blocks dev.old) count head)) }
     ensures device { ReadsOnly D.BlockDevice dev.old dev.new }
-    ensures reports { ReportsIoNoMemory D.BlockDevice dev.old dev.new result }
+    ensures reports { ReportsIoOrNoMemory D.BlockDevice dev.old dev.new result }
     // The list is walked once, with at most one read for each of the returned blocks.
     ensures few { OnOk result (read_count (D.history dev.new) ≤ read_count (D.history dev.old) + (count - from)) }
 {
@@ -122,7 +122,7 @@ fn read_from_block<D: BlockDevice>(
     requires some { 1 ≤ most }
     requires room { length buf.old ≡ (D.geometry dev.old).block_size }
     ensures read { IfOk result (HasBlockBytes (D.blocks dev.old) (D.geometry dev.old).block_size block off most buf.new) }
-    ensures reading { ReadsOrIo D.BlockDevice dev.old dev.new result }
+    ensures reading { ReadsOnlyOrIo D.BlockDevice dev.old dev.new result }
     ensures few { read_count (D.history dev.new) ≡ read_count (D.history dev.old) + 1 }
 {
     let count = (buf.len() - off as usize).min(most as usize);

@@ -2,14 +2,14 @@
 
 ghost use Rattle.std.specs.Prelude.{ℕ, IfOk};
 ghost use Rattle.lfs_model.specs.layers.BlockSets.{IsInFlight};
-ghost use Rattle.lfs_device.specs.DeviceCalls.{ReportsIoNoMemory};
+ghost use Rattle.lfs_device.specs.DeviceCalls.{ReportsIoOrNoMemory};
 ghost use Rattle.lfs_file.specs.ContentsCalls.{CallKeepsUsed};
 ghost use Rattle.lfs_file.specs.Contents.{CanFinishContents, HaveBytesInForm, contents_bytes, form_after_finish, contents_form};
 ghost use Rattle.lfs_file.specs.Hand.{KeepsUsedBlocks};
 ghost use Rattle.lfs_file.specs.BlockOwners.{AreUsedAmong, contents_blocks};
 
 use crate::contents::WriterContents;
-use crate::list_ends::end_unfinished_list;
+use crate::list_ends::complete_draft;
 use crate::releases::release_block;
 use lfs_blocks::BlockMap;
 use lfs_device::{BlockDevice, Error};
@@ -35,13 +35,13 @@ pub fn finish_contents<D: BlockDevice>(
     ensures owned { IfOk result (λ c. AreUsedAmong map.new (contents_blocks (D.blocks dev.old) (D.geometry dev.old).block_size contents) (contents_blocks (D.blocks dev.new) (D.geometry dev.old).block_size c)) }
     ensures map { KeepsUsedBlocks map.old map.new }
     ensures device { CallKeepsUsed D.BlockDevice map.old dev.old dev.new }
-    ensures reports { ReportsIoNoMemory D.BlockDevice dev.old dev.new result }
+    ensures reports { ReportsIoOrNoMemory D.BlockDevice dev.old dev.new result }
 {
     match contents {
         WriterContents::InMemory(list) => Ok(WriterContents::InMemory(list)),
         WriterContents::Finished(stored) => Ok(WriterContents::Finished(stored)),
         WriterContents::InHand(hand) => {
-            let stored = end_unfinished_list(alloc, dev, map, hand)?;
+            let stored = complete_draft(alloc, dev, map, hand)?;
             Ok(WriterContents::Finished(stored))
         }
     }

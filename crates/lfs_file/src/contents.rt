@@ -4,7 +4,7 @@ ghost use Rattle.std.specs.Prelude.{◌≡◌, ◌<◌, ◌+◌, length, IfOk, I
 ghost use Rattle.lfs_model.specs.format.Blocks.{Blocks};
 ghost use Rattle.lfs_model.specs.layers.BlockSets.{BlockStates};
 ghost use Rattle.lfs_model.specs.session.Writers.{written_contents};
-ghost use Rattle.lfs_device.specs.DeviceCalls.{ReportsIoNoMemory};
+ghost use Rattle.lfs_device.specs.DeviceCalls.{ReportsIoOrNoMemory};
 ghost use Rattle.lfs_file.specs.ContentsCalls.{CallKeepsUsed};
 ghost use Rattle.lfs_file.specs.Contents.{CanWriteContents, HaveBytesInForm, NoneInFlight, contents_bytes, contents_form, buffered_bytes, memory_limit};
 ghost use Rattle.lfs_file.specs.FinishedWrites.{CanOverwriteFinished};
@@ -15,9 +15,9 @@ ghost use Rattle.lfs_file.specs.HandWrites.{EndsAtPlace, unfinished_bytes};
 ghost use Rattle.lfs_file.specs.BlockOwners.{AreUsedAmong, KeepsStoredBlocks, contents_blocks};
 
 use crate::Extender;
-use crate::list_starts::begin_over_finished;
+use crate::list_starts::start_draft;
 use crate::memory::{begin_from_memory, load_first_bytes};
-use crate::other_places::write_at_position;
+use crate::reposition::write_at_position;
 use crate::stored_list::StoredList;
 use crate::writes::{PendingList, buffer_within_block, fill_and_write};
 use lfs_blocks::BlockMap;
@@ -72,7 +72,7 @@ fn write_in_memory<D: BlockDevice>(
     ensures owned { IfOk result (λ c. AreUsedAmong map.new (contents_blocks (D.blocks dev.old) (D.geometry dev.old).block_size (WriterContents.InMemory list)) (contents_blocks (D.blocks dev.new) (D.geometry dev.old).block_size c)) }
     ensures map { KeepsUsedBlocks map.old map.new }
     ensures device { CallKeepsUsed D.BlockDevice map.old dev.old dev.new }
-    ensures reports { ReportsIoNoMemory D.BlockDevice dev.old dev.new result }
+    ensures reports { ReportsIoOrNoMemory D.BlockDevice dev.old dev.new result }
 {
     let size = list.size().max(place + bytes.len() as u32);
     if size <= dev.geometry().inline_limit() {
@@ -99,9 +99,9 @@ fn begin_with_bytes<D: BlockDevice>(
     ensures base { IfOk result (λ h. KeepsStoredBlocks (D.geometry dev.old).block_size (D.blocks dev.old) stored (D.blocks dev.new) h.base) }
     ensures map { KeepsUsedBlocks map.old map.new }
     ensures device { CallKeepsUsed D.BlockDevice map.old dev.old dev.new }
-    ensures reports { ReportsIoNoMemory D.BlockDevice dev.old dev.new result }
+    ensures reports { ReportsIoOrNoMemory D.BlockDevice dev.old dev.new result }
 {
-    let begun = begin_over_finished(alloc, dev, stored, place.min(stored.size))?;
+    let begun = start_draft(alloc, dev, stored, place.min(stored.size))?;
     let mut hand = begun;
     fill_and_write(alloc, dev, map, &mut hand, place, bytes)?;
     Ok(hand)
@@ -123,7 +123,7 @@ fn write_over_finished<D: BlockDevice>(
     ensures owned { IfOk result (λ c. AreUsedAmong map.new (contents_blocks (D.blocks dev.old) (D.geometry dev.old).block_size (WriterContents.Finished stored)) (contents_blocks (D.blocks dev.new) (D.geometry dev.old).block_size c)) }
     ensures map { KeepsUsedBlocks map.old map.new }
     ensures device { CallKeepsUsed D.BlockDevice map.old dev.old dev.new }
-    ensures reports { ReportsIoNoMemory D.BlockDevice dev.old dev.new result }
+    ensures reports { ReportsIoOrNoMemory D.BlockDevice dev.old dev.new result }
 {
     let size = stored.size.max(place + bytes.len() as u32);
     if size <= dev.geometry().inline_limit() {
@@ -150,7 +150,7 @@ fn write_to_unfinished<D: BlockDevice>(
     ensures owned { IfOk result (λ c. AreUsedAmong map.new (contents_blocks (D.blocks dev.old) (D.geometry dev.old).block_size (WriterContents.InHand hand)) (contents_blocks (D.blocks dev.new) (D.geometry dev.old).block_size c)) }
     ensures map { KeepsUsedBlocks map.old map.new }
     ensures device { CallKeepsUsed D.BlockDevice map.old dev.old dev.new }
-    ensures reports { ReportsIoNoMemory D.BlockDevice dev.old dev.new result }
+    ensures reports { ReportsIoOrNoMemory D.BlockDevice dev.old dev.new result }
 {
     let mut hand = hand;
     if buffer_within_block(&mut hand, place, bytes) {
@@ -183,7 +183,7 @@ pub fn write_contents<D: BlockDevice>(
     ensures owned { IfOk result (λ c. AreUsedAmong map.new (contents_blocks (D.blocks dev.old) (D.geometry dev.old).block_size contents) (contents_blocks (D.blocks dev.new) (D.geometry dev.old).block_size c)) }
     ensures map { KeepsUsedBlocks map.old map.new }
     ensures device { CallKeepsUsed D.BlockDevice map.old dev.old dev.new }
-    ensures reports { ReportsIoNoMemory D.BlockDevice dev.old dev.new result }
+    ensures reports { ReportsIoOrNoMemory D.BlockDevice dev.old dev.new result }
 {
     match contents {
         WriterContents::InMemory(list) => write_in_memory(alloc, dev, map, list, place, bytes),

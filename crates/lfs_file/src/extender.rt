@@ -1,6 +1,6 @@
 ghost use Rattle.std.specs.Prelude.{◌≡◌, ◌≤◌, ◌<◌, ◌+◌, ◌-◌, ◌*◌, ◌^◌, ◌++◌, ◌∷◌, [], length, take, replicate, OnOk, IfOk, IfErr};
 ghost use Rattle.std.specs.Bool.{OnFalse, OnTrue};
-ghost use Rattle.lfs_device.specs.DeviceCalls.{ChangesTheseBlocks, ChangesOneBlock, ReadsOnly, ReportsIoNoMemory, ReportsOnlyIo};
+ghost use Rattle.lfs_device.specs.DeviceCalls.{ChangesTheseBlocks, ChangesOneBlock, ReadsOnly, ReportsIoOrNoMemory, ReportsOnlyIo};
 ghost use Rattle.lfs_file.specs.Counts.{WritesEachOnce};
 ghost use Rattle.lfs_file.specs.Extending.{CanFinishList, CanPushBytes, CanResumeList, HasBufferedBytes, HasPushedBytes, IsResumedList, IsEmptyList};
 ghost use Rattle.lfs_file.specs.FewReads.{FillsFew, ResumesFew, WritesLastFew};
@@ -9,7 +9,7 @@ ghost use Rattle.lfs_file.specs.Finished.{ListHoldsBytes};
 ghost use Rattle.lfs_file.specs.Growing.{IsAllBuffered, HasUnwrittenAmong, growing_blocks, fits_unwritten_block, growing_bytes, growing_size, appended_count, block_for_push, unwritten_block};
 ghost use Rattle.lfs_model.specs.format.Blocks.{overwritten_at};
 ghost use Rattle.lfs_model.specs.session.Writers.{written_contents as with_bytes};
-ghost use Rattle.lfs_model.specs.format.SkipLists.{block_count_for};
+ghost use Rattle.lfs_model.specs.format.SkipLists.{skip_list_block_count};
 ghost use Rattle.lfs_file.specs.CallPremises.{CanFillBlock, CanWriteLastBlock};
 ghost use Rattle.lfs_file.specs.BlockCalls.{FillsOneBlock, FinishCalls, HasFilledBlock, HasAppendedBlock};
 
@@ -123,7 +123,7 @@ impl Extender {
         ensures resumed { IfOk result (IsResumedList (D.blocks dev.old) (D.geometry dev.old) head size keep) }
         ensures device { ReadsOnly D.BlockDevice dev.old dev.new }
         ensures few { OnOk result (ResumesFew (D.geometry dev.old).block_size size keep (D.history dev.old) (D.history dev.new)) }
-        ensures reports { ReportsIoNoMemory D.BlockDevice dev.old dev.new result }
+        ensures reports { ReportsIoOrNoMemory D.BlockDevice dev.old dev.new result }
     {
         let geometry = dev.geometry();
         let block_size = geometry.block_size;
@@ -223,7 +223,7 @@ impl Extender {
         requires some { 1 ≤ n }
         requires room { growing_size self.now + n < 2 ^ 31 }
         ensures count { result ≡ appended_count self.now n }
-        ensures within { self.now.full + length (unwritten_block self.now) ≤ block_count_for self.now.geometry.block_size (growing_size self.now + n) }
+        ensures within { self.now.full + length (unwritten_block self.now) ≤ skip_list_block_count self.now.geometry.block_size (growing_size self.now + n) }
     {
         let state = &*self.state;
         let begun = match state.stand {

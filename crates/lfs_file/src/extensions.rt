@@ -1,7 +1,7 @@
 // Extends a list with free blocks of the map.
 
 ghost use Rattle.std.specs.Prelude.{◌<◌, ◌+◌, ◌++◌, length, OnOk};
-ghost use Rattle.lfs_device.specs.DeviceCalls.{ReportsIoNoMemory};
+ghost use Rattle.lfs_device.specs.DeviceCalls.{ReportsIoOrNoMemory};
 ghost use Rattle.lfs_file.specs.Growing.{unwritten_block, growing_bytes, growing_size};
 ghost use Rattle.lfs_file.specs.ContentsCalls.{KeepsTakenBlocks};
 ghost use Rattle.lfs_file.specs.Extensions.{IsExtended};
@@ -34,7 +34,7 @@ pub(crate) fn extend_list<D: BlockDevice>(
     // No block that was used or in flight changes, except the list's partial block.
     ensures map { ChangesOnlyFree map.old map.new }
     ensures device { KeepsTakenBlocks D.BlockDevice map.old (unwritten_block list.old) dev.old dev.new }
-    ensures reports { ReportsIoNoMemory D.BlockDevice dev.old dev.new result }
+    ensures reports { ReportsIoOrNoMemory D.BlockDevice dev.old dev.new result }
 {
     let count = list.needed(bytes.len() as u32);
     let blocks = take_blocks(alloc, map, count)?;

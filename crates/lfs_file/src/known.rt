@@ -3,7 +3,7 @@
 ghost use Rattle.std.specs.Prelude.{◌≡◌, ◌≢◌, ◌≤◌, ◌<◌, ◌+◌, ◌-◌, ◌*◌, ℕ, List, length, min, take, drop, OnOk, IfOk, IfSome, IsErrOf, slice_index, slice_range};
 ghost use Rattle.lfs_model.specs.format.Blocks.{block_bytes};
 ghost use Rattle.lfs_model.specs.session.History.{CallEvent, read_count};
-ghost use Rattle.lfs_model.specs.format.SkipLists.{AreListBlocks, IsSkipList, blocks_to_head, block_count_for, list_bytes, word_at};
+ghost use Rattle.lfs_model.specs.format.SkipLists.{AreListBlocks, IsSkipList, blocks_to_head, skip_list_block_count, list_bytes, word_at};
 ghost use Rattle.lfs_file.specs.FileCalls.{ReadsOrCorrupt};
 ghost use Rattle.lfs_file.specs.Known.{OnlyBelowKnown, AreKnownBlocks, FindsFew, IsKnownIndex, ReadsKnownList, no_known_blocks, index_row as row_seen};
 ghost use Rattle.lfs_file.specs.CallPremises.{HasBlockBefore, PointerInRange};
@@ -24,7 +24,7 @@ use lfs_device::{BlockDevice, Error};
 /// The block at an index is in the row whose number is the number of trailing zeros of the index. A
 /// row without a block has the index 2^32 - 1.
 #[derive(Clone, Copy)]
-pub struct KnownBlocks {
+pub struct IndexCache {
     pub indices: [u32; 32],
     pub blocks: [u32; 32],
     /// The position at which the last read ended, in bytes from the start of the file. The position
@@ -39,13 +39,13 @@ fn index_row(index: u32) -> usize
     index.trailing_zeros().min(31) as usize
 }
 
-impl KnownBlocks {
+impl IndexCache {
     /// Makes an empty cache.
-    pub fn new() -> KnownBlocks
+    pub fn new() -> IndexCache
         ensures empty { result ≡ no_known_blocks }
         ensures blocks { (all : List ℕ) → AreKnownBlocks all result }
     {
-        KnownBlocks {
+        IndexCache {
             indices: [u32::MAX; 32],
             blocks: [0; 32],
             end: u32::MAX,
@@ -173,7 +173,7 @@ impl KnownBlocks {
     /// range is as long as `room` and the file's `size` allow. Returns None if there are no bytes
     /// to read, if the bytes aren't all in one block, or if their block isn't cached. The cache
     /// must belong to the file's list. Doesn't call the device.
-    pub fn find_known_part<D: BlockDevice>(
+    pub fn find_cached_part<D: BlockDevice>(
         &self,
         dev: &D,
         size: u32,
@@ -182,7 +182,7 @@ impl KnownBlocks {
     ) -> Option<BlockPart>
         ensures inside { IfSome result (λ p. (p.block < (D.geometry dev.now).block_count) × (p.offset + p.len ≤ (D.geometry dev.now).block_size)) }
         ensures len { IfSome result (λ p. p.len ≡ min room (size - pos)) }
-        ensures bytes { (head : ℕ) → IsSkipList (D.blocks dev.now) (D.geometry dev.now).block_size head size → AreKnownBlocks (blocks_to_head (D.blocks dev.now) (block_count_for (D.geometry dev.now).block_size size) head) self.now
+        ensures bytes { (head : ℕ) → IsSkipList (D.blocks dev.now) (D.geometry dev.now).block_size head size → AreKnownBlocks (blocks_to_head (D.blocks dev.now) (skip_list_block_count (D.geometry dev.now).block_size size) head) self.now
             → IfSome result (λ p. slice_range (block_bytes (D.blocks dev.now) p.block) p.offset (p.offset + p.len) ≡ slice_range (list_bytes (D.blocks dev.now) (D.geometry dev.now).block_size head size) pos (pos + p.len)) }
         ensures few { (old new : List CallEvent) → read_count new ≤ read_count old + 1 → IfSome result (λ p. ReadsKnownList (D.geometry dev.now).block_size size pos room self.now self.now old new) }
     {
@@ -221,11 +221,11 @@ impl KnownBlocks {
         buf: &mut [u8],
     ) -> Result<usize, Error>
         ensures count { IfOk result (λ n. (n ≡ min (length buf.old) (size - pos)) × (drop n buf.new ≡ drop n buf.old)) }
-        ensures bytes { IsSkipList (D.blocks dev.old) (D.geometry dev.old).block_size head size → AreKnownBlocks (blocks_to_head (D.blocks dev.old) (block_count_for (D.geometry dev.old).block_size size) head) self.old
+        ensures bytes { IsSkipList (D.blocks dev.old) (D.geometry dev.old).block_size head size → AreKnownBlocks (blocks_to_head (D.blocks dev.old) (skip_list_block_count (D.geometry dev.old).block_size size) head) self.old
             → IfOk result (λ n. take n buf.new ≡ slice_range (list_bytes (D.blocks dev.old) (D.geometry dev.old).block_size head size) pos (pos + n)) }
-        ensures corrupt { IsErrOf result Error.Corrupt → IsSkipList (D.blocks dev.old) (D.geometry dev.old).block_size head size → ¬ AreKnownBlocks (blocks_to_head (D.blocks dev.old) (block_count_for (D.geometry dev.old).block_size size) head) self.old }
-        ensures known { IsSkipList (D.blocks dev.old) (D.geometry dev.old).block_size head size → AreKnownBlocks (blocks_to_head (D.blocks dev.old) (block_count_for (D.geometry dev.old).block_size size) head) self.old
-            → AreKnownBlocks (blocks_to_head (D.blocks dev.old) (block_count_for (D.geometry dev.old).block_size size) head) self.new }
+        ensures corrupt { IsErrOf result Error.Corrupt → IsSkipList (D.blocks dev.old) (D.geometry dev.old).block_size head size → ¬ AreKnownBlocks (blocks_to_head (D.blocks dev.old) (skip_list_block_count (D.geometry dev.old).block_size size) head) self.old }
+        ensures known { IsSkipList (D.blocks dev.old) (D.geometry dev.old).block_size head size → AreKnownBlocks (blocks_to_head (D.blocks dev.old) (skip_list_block_count (D.geometry dev.old).block_size size) head) self.old
+            → AreKnownBlocks (blocks_to_head (D.blocks dev.old) (skip_list_block_count (D.geometry dev.old).block_size size) head) self.new }
         ensures reading { ReadsOrCorrupt D.BlockDevice dev.old dev.new result }
         ensures few { OnOk result (ReadsKnownList (D.geometry dev.old).block_size size pos (length buf.old) self.old self.new (D.history dev.old) (D.history dev.new)) }
     {

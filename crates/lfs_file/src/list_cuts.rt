@@ -1,14 +1,14 @@
 // Truncates stored lists.
 
 ghost use Rattle.std.specs.Prelude.{◌≤◌, take, IfOk};
-ghost use Rattle.lfs_device.specs.DeviceCalls.{ReadsOrIo};
+ghost use Rattle.lfs_device.specs.DeviceCalls.{ReadsOnlyOrIo};
 ghost use Rattle.lfs_file.specs.Hand.{IsFinishedList, KeepsUsedBlocks, stored_list_bytes};
 ghost use Rattle.lfs_file.specs.HandWrites.{IsFinishedOf};
 ghost use Rattle.lfs_file.specs.BlockOwners.{HasOnlyBlocksOf};
 
 use crate::list_ends::release_base_from;
 use crate::stored_list::StoredList;
-use crate::{blocks_for, head_of_front};
+use crate::{blocks_for, truncated_head};
 use lfs_blocks::BlockMap;
 use lfs_device::{BlockDevice, Error};
 
@@ -28,9 +28,9 @@ pub(crate) fn shorten_stored_list<D: BlockDevice>(
     ensures cut { IfOk result (λ s. IsFinishedOf map.new (D.blocks dev.new) (D.geometry dev.old) s keep (take keep (stored_list_bytes (D.blocks dev.old) (D.geometry dev.old).block_size stored))) }
     ensures front { IfOk result (HasOnlyBlocksOf (D.geometry dev.old).block_size (D.blocks dev.old) stored (D.blocks dev.new)) }
     ensures map { KeepsUsedBlocks map.old map.new }
-    ensures reading { ReadsOrIo D.BlockDevice dev.old dev.new result }
+    ensures reading { ReadsOnlyOrIo D.BlockDevice dev.old dev.new result }
 {
-    let head = head_of_front(dev, stored.head, stored.size, keep)?;
+    let head = truncated_head(dev, stored.head, stored.size, keep)?;
     let count = blocks_for(dev.geometry().block_size, keep);
     release_base_from(dev, map, stored, count)?;
     Ok(StoredList {

@@ -1,7 +1,7 @@
 // Starts drafts over stored lists.
 
 ghost use Rattle.std.specs.Prelude.{◌≡◌, ◌≤◌, IfOk};
-ghost use Rattle.lfs_device.specs.DeviceCalls.{ReadsOnly, ReportsIoNoMemory};
+ghost use Rattle.lfs_device.specs.DeviceCalls.{ReadsOnly, ReportsIoOrNoMemory};
 ghost use Rattle.lfs_model.specs.layers.BlockSets.{BlockStates};
 ghost use Rattle.lfs_file.specs.Bases.{IsListOrEmpty};
 ghost use Rattle.lfs_file.specs.Hand.{IsFinishedList, stored_list_bytes};
@@ -19,7 +19,7 @@ use std::alloc::Global;
 /// Requires that the stored list has at least `keep` bytes.
 ///
 /// Errors: `NoMemory` if memory for a block can't be allocated. `Io` if a device call fails.
-pub(crate) fn begin_over_finished<D: BlockDevice>(
+pub(crate) fn start_draft<D: BlockDevice>(
     alloc: Global,
     dev: &mut D,
     base: StoredList,
@@ -31,7 +31,7 @@ pub(crate) fn begin_over_finished<D: BlockDevice>(
         → IsUnfinishedTo map (D.blocks dev.old) (D.geometry dev.old) h keep (stored_list_bytes (D.blocks dev.old) (D.geometry dev.old).block_size base)) }
     ensures base { IfOk result (λ h. h.base ≡ base) }
     ensures device { ReadsOnly D.BlockDevice dev.old dev.new }
-    ensures reports { ReportsIoNoMemory D.BlockDevice dev.old dev.new result }
+    ensures reports { ReportsIoOrNoMemory D.BlockDevice dev.old dev.new result }
 {
     if keep == 0 {
         let list = Extender::start_empty(alloc, dev.geometry())?;

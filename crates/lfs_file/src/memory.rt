@@ -6,7 +6,7 @@ ghost use Rattle.lfs_model.specs.layers.BlockSets.{BlockStates};
 ghost use Rattle.lfs_model.specs.session.Writers.{written_contents};
 ghost use Rattle.lfs_device.specs.declared.geometry.Geometry.{Geometry};
 ghost use Rattle.lfs_file.specs.BaseRoom.{HasGrowthRoom};
-ghost use Rattle.lfs_device.specs.DeviceCalls.{ReadsOrNoMemory};
+ghost use Rattle.lfs_device.specs.DeviceCalls.{ReadsOnlyOrNoMemory};
 ghost use Rattle.lfs_file.specs.Outcomes.{WritesUnusedBlocks};
 ghost use Rattle.lfs_file.specs.Bases.{IsListOrEmpty};
 ghost use Rattle.lfs_file.specs.Contents.{IsInMemory, IsBuffered, buffered_bytes};
@@ -36,7 +36,7 @@ pub fn load_first_bytes<D: BlockDevice>(
     requires short { keep < (D.geometry dev.old).block_size }
     ensures resting { IfOk result (IsBuffered (D.geometry dev.old)) }
     ensures bytes { IfOk result (λ list. buffered_bytes list ≡ take keep (stored_list_bytes (D.blocks dev.old) (D.geometry dev.old).block_size stored)) }
-    ensures reading { ReadsOrNoMemory D.BlockDevice dev.old dev.new result }
+    ensures reading { ReadsOnlyOrNoMemory D.BlockDevice dev.old dev.new result }
 {
     let mut list = Extender::start_empty(alloc, dev.geometry())?;
     list.replace_buffered(&[]);

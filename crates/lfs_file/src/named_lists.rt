@@ -5,7 +5,7 @@ ghost use Rattle.lfs_model.specs.layers.BlockSets.{Used};
 ghost use Rattle.lfs_model.specs.session.History.{read_count};
 ghost use Rattle.lfs_model.specs.format.SkipLists.{AreListBlocks, blocks_to_head};
 ghost use Rattle.lfs_file.specs.BlockOwners.{stored_blocks};
-ghost use Rattle.lfs_device.specs.DeviceCalls.{ReadsOrIo};
+ghost use Rattle.lfs_device.specs.DeviceCalls.{ReadsOnlyOrIo};
 ghost use Rattle.lfs_file.specs.Outcomes.{ReadsAtMost};
 ghost use Rattle.lfs_file.specs.SettledMaps.{CanSettleList, SettlesList, KeepsOtherStates, SetsState, used_or_free};
 ghost use Rattle.lfs_file.specs.SharedBlocks.{IsSharedCount, unshared_count};
@@ -85,7 +85,7 @@ pub fn settle_list<D: BlockDevice>(
     requires { CanSettleList map.old (D.blocks dev.old) (D.geometry dev.old).block_size before stored }
     ensures settled { OnOk result (SettlesList map.old map.new (stored_blocks (D.blocks dev.old) (D.geometry dev.old).block_size before) (stored_blocks (D.blocks dev.old) (D.geometry dev.old).block_size stored)) }
     ensures others { KeepsOtherStates map.old map.new (stored_blocks (D.blocks dev.old) (D.geometry dev.old).block_size before ++ stored_blocks (D.blocks dev.old) (D.geometry dev.old).block_size stored) }
-    ensures reading { ReadsOrIo D.BlockDevice dev.old dev.new result }
+    ensures reading { ReadsOnlyOrIo D.BlockDevice dev.old dev.new result }
     ensures few { (n : ℕ) → IsSharedCount (stored_blocks (D.blocks dev.old) (D.geometry dev.old).block_size before) (stored_blocks (D.blocks dev.old) (D.geometry dev.old).block_size stored) n → OnOk result (read_count (D.history dev.new) ≤ read_count (D.history dev.old)
         + 2 * unshared_count (stored_blocks (D.blocks dev.old) (D.geometry dev.old).block_size before) (stored_blocks (D.blocks dev.old) (D.geometry dev.old).block_size stored) n) }
 {

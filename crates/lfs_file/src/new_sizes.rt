@@ -3,7 +3,7 @@
 ghost use Rattle.std.specs.Prelude.{◌≡◌, ◌≤◌, ◌<◌, ◌+◌, ◌^◌, length, take, true, false, IfOk};
 ghost use Rattle.lfs_model.specs.layers.BlockSets.{used_count};
 ghost use Rattle.lfs_model.specs.session.Writers.{zero_padded};
-ghost use Rattle.lfs_device.specs.DeviceCalls.{ReadsOrNoMemory, ReportsIoNoMemory};
+ghost use Rattle.lfs_device.specs.DeviceCalls.{ReadsOnlyOrNoMemory, ReportsIoOrNoMemory};
 ghost use Rattle.lfs_file.specs.Outcomes.{WritesUnusedBlocks};
 ghost use Rattle.lfs_file.specs.ContentsCalls.{CallKeepsUsed};
 ghost use Rattle.lfs_file.specs.Contents.{CanTruncateContents, HaveBytesInForm, IsInMemory, contents_bytes, contents_form, buffered_bytes, memory_limit, truncation_room};
@@ -18,10 +18,10 @@ use crate::Extender;
 use crate::completion::release_in_flight;
 use crate::contents::WriterContents;
 use crate::list_cuts::shorten_stored_list;
-use crate::list_ends::end_unfinished_list;
-use crate::list_starts::begin_over_finished;
+use crate::list_ends::complete_draft;
+use crate::list_starts::start_draft;
 use crate::memory::{list_without_base, load_first_bytes};
-use crate::other_places::restart_list_at;
+use crate::reposition::reposition_draft;
 use crate::stored_list::StoredList;
 use crate::writes::PendingList;
 use crate::zeros::write_zeros;
@@ -87,7 +87,7 @@ fn shorten_to_memory<D: BlockDevice>(
     ensures quiet { IfOk result (IsInMemory map.new (D.blocks dev.new) (D.geometry dev.old)) }
     ensures bytes { IfOk result (λ list. buffered_bytes list ≡ take size (zero_padded size (stored_list_bytes (D.blocks dev.old) (D.geometry dev.old).block_size stored))) }
     ensures map { KeepsUsedBlocks map.old map.new }
-    ensures reading { ReadsOrNoMemory D.BlockDevice dev.old dev.new result }
+    ensures reading { ReadsOnlyOrNoMemory D.BlockDevice dev.old dev.new result }
 {
     let mut list = load_first_bytes(alloc, dev, stored, stored.size.min(size))?;
     list.write_buffered_at(size, &[]);
@@ -110,7 +110,7 @@ fn fill_finished_list<D: BlockDevice>(
     ensures base { IfOk result (λ h. KeepsStoredBlocks (D.geometry dev.old).block_size (D.blocks dev.old) stored (D.blocks dev.new) h.base) }
     ensures writing { WritesUnusedBlocks D.BlockDevice map.old map.new dev.old dev.new result }
 {
-    let begun = begin_over_finished(alloc, dev, stored, stored.size)?;
+    let begun = start_draft(alloc, dev, stored, stored.size)?;
     let mut hand = begun;
     write_zeros(alloc, dev, map, &mut hand, size - stored.size)?;
     Ok(hand)
@@ -162,7 +162,7 @@ fn lengthen_unfinished_list<D: BlockDevice>(
     ensures writing { WritesUnusedBlocks D.BlockDevice map.old map.new dev.old dev.new result }
 {
     let length = hand.list.size().max(hand.base.size);
-    let turned = restart_list_at(alloc, dev, map, hand, length)?;
+    let turned = reposition_draft(alloc, dev, map, hand, length)?;
     let mut hand = turned;
     write_zeros(alloc, dev, map, &mut hand, size - length)?;
     Ok(hand)
@@ -183,7 +183,7 @@ fn shorten_unfinished_list<D: BlockDevice>(
     ensures owned { IfOk result (λ c. AreUsedAmong map.new (contents_blocks (D.blocks dev.old) (D.geometry dev.old).block_size (WriterContents.InHand hand)) (contents_blocks (D.blocks dev.new) (D.geometry dev.old).block_size c)) }
     ensures writing { WritesUnusedBlocks D.BlockDevice map.old map.new dev.old dev.new result }
 {
-    let stored = end_unfinished_list(alloc, dev, map, hand)?;
+    let stored = complete_draft(alloc, dev, map, hand)?;
     let cut = truncate_finished_list(alloc, dev, map, stored, size)?;
     Ok(cut)
 }
@@ -235,7 +235,7 @@ pub fn truncate_contents<D: BlockDevice>(
     ensures owned { IfOk result (λ c. AreUsedAmong map.new (contents_blocks (D.blocks dev.old) (D.geometry dev.old).block_size contents) (contents_blocks (D.blocks dev.new) (D.geometry dev.old).block_size c)) }
     ensures map { KeepsUsedBlocks map.old map.new }
     ensures device { CallKeepsUsed D.BlockDevice map.old dev.old dev.new }
-    ensures reports { ReportsIoNoMemory D.BlockDevice dev.old dev.new result }
+    ensures reports { ReportsIoOrNoMemory D.BlockDevice dev.old dev.new result }
 {
     match contents {
         WriterContents::InMemory(list) => truncate_in_memory(alloc, dev, map, list, size),

@@ -1,12 +1,12 @@
 ghost use Rattle.std.specs.Prelude.{◌≡◌, ◌≤◌, ◌<◌, ◌+◌, ◌*◌, ◌^◌, ℕ, ◌-◌, ◌++◌, min, length, take, drop, OnOk, IfOk, IsErrOf, slice_index, slice_range};
 ghost use Rattle.lfs_model.specs.format.Blocks.{block_bytes};
-ghost use Rattle.lfs_device.specs.DeviceCalls.{ReadsOrIo};
+ghost use Rattle.lfs_device.specs.DeviceCalls.{ReadsOnlyOrIo};
 ghost use Rattle.lfs_model.specs.session.History.{read_count};
 ghost use Rattle.lfs_file.specs.FileCalls.{ReadsOrCorrupt};
 ghost use Rattle.lfs_file.specs.Known.{WalksFew};
-ghost use Rattle.lfs_model.specs.format.SkipLists.{AreListBlocks, IsSkipList, IsBytePlace, blocks_to_head, block_count_for, list_bytes, pointer_count, word_at};
+ghost use Rattle.lfs_model.specs.format.SkipLists.{AreListBlocks, IsSkipList, IsByteInListBlock, blocks_to_head, skip_list_block_count, list_bytes, pointer_count, word_at};
 
-use crate::known::KnownBlocks;
+use crate::known::IndexCache;
 use byteorder::{ByteOrder, LittleEndian};
 use lfs_device::{BlockDevice, Error};
 
@@ -45,7 +45,7 @@ pub(crate) fn find_block_at<D: BlockDevice>(
     ensures reading { ReadsOrCorrupt D.BlockDevice dev.old dev.new result }
     ensures few { OnOk result (WalksFew last index (D.history dev.old) (D.history dev.new)) }
 {
-    KnownBlocks::new().find_block(dev, head, last, index)
+    IndexCache::new().find_block(dev, head, last, index)
 }
 
 // Returns the block to which pointer 0 of a block refers, or `Corrupt` if the device has no such
@@ -109,7 +109,7 @@ pub(crate) fn read_into_range<D: BlockDevice>(
     requires in_block { off + len ≤ (D.geometry dev.old).block_size }
     requires in_buffer { start + len ≤ length buf.old }
     ensures bytes { OnOk result (buf.new ≡ take start buf.old ++ (take len (drop off (block_bytes (D.blocks dev.old) block)) ++ drop (start + len) buf.old)) }
-    ensures reading { ReadsOrIo D.BlockDevice dev.old dev.new result }
+    ensures reading { ReadsOnlyOrIo D.BlockDevice dev.old dev.new result }
     ensures few { read_count (D.history dev.new) ≡ read_count (D.history dev.old) + 1 }
 {
     dev.read(block, off, &mut buf[start..start + len as usize])?;
@@ -141,10 +141,10 @@ pub fn read_at<D: BlockDevice>(
     ensures reading { ReadsOrCorrupt D.BlockDevice dev.old dev.new result }
     // The walk costs at most twice as many reads as the binary logarithm of the list's number of
     // blocks, rounded up. After the walk, each block costs at most two reads.
-    ensures few { (m first last off end : ℕ) → block_count_for (D.geometry dev.old).block_size size ≤ 2 ^ m
-        → IsBytePlace (D.geometry dev.old).block_size pos first off
-        → IsBytePlace (D.geometry dev.old).block_size (pos + min (length buf.old) (size - pos) - 1) last end
+    ensures few { (m first last off end : ℕ) → skip_list_block_count (D.geometry dev.old).block_size size ≤ 2 ^ m
+        → IsByteInListBlock (D.geometry dev.old).block_size pos first off
+        → IsByteInListBlock (D.geometry dev.old).block_size (pos + min (length buf.old) (size - pos) - 1) last end
         → OnOk result (read_count (D.history dev.new) ≤ read_count (D.history dev.old) + 2 * m + 2 * (last - first) + 1) }
 {
-    KnownBlocks::new().read_at(dev, head, size, pos, buf)
+    IndexCache::new().read_at(dev, head, size, pos, buf)
 }

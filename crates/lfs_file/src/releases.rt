@@ -2,7 +2,7 @@
 
 ghost use Rattle.std.specs.Prelude.{◌≡◌, ◌≤◌, ◌<◌, ◌∷◌, [], length, drop, OnOk};
 ghost use Rattle.lfs_model.specs.format.SkipLists.{AreListBlocks, blocks_to_head};
-ghost use Rattle.lfs_device.specs.DeviceCalls.{ReadsOrIo};
+ghost use Rattle.lfs_device.specs.DeviceCalls.{ReadsOnlyOrIo};
 ghost use Rattle.lfs_file.specs.Hand.{KeepsUsedBlocks};
 ghost use Rattle.lfs_file.specs.Releases.{ReleasesInFlight};
 
@@ -36,7 +36,7 @@ pub(crate) fn release_list_from<D: BlockDevice>(
     requires within { from ≤ count }
     ensures released { OnOk result (ReleasesInFlight map.old map.new (drop from (blocks_to_head (D.blocks dev.old) count head))) }
     ensures map { KeepsUsedBlocks map.old map.new }
-    ensures reading { ReadsOrIo D.BlockDevice dev.old dev.new result }
+    ensures reading { ReadsOnlyOrIo D.BlockDevice dev.old dev.new result }
 {
     let mut block = head;
     let mut index = count;

@@ -3,7 +3,7 @@
 ghost use Rattle.std.specs.Prelude.{◌≡◌, ◌≤◌, ◌<◌, ◌+◌, ◌-◌, min, slice_index, IfOk};
 ghost use Rattle.lfs_model.specs.session.History.{read_count};
 ghost use Rattle.lfs_model.specs.format.SkipLists.{AreListBlocks, blocks_to_head};
-ghost use Rattle.lfs_device.specs.DeviceCalls.{ReadsOrIo};
+ghost use Rattle.lfs_device.specs.DeviceCalls.{ReadsOnlyOrIo};
 ghost use Rattle.lfs_file.specs.Outcomes.{ReadsAtMost};
 ghost use Rattle.lfs_file.specs.SharedBlocks.{IsSharedCount, unshared_count};
 
@@ -48,7 +48,7 @@ pub(crate) fn shared_block_count<D: BlockDevice>(
     requires chain { AreListBlocks (D.blocks dev.old) count head }
     requires other { AreListBlocks (D.blocks dev.old) other_count other }
     ensures shared { IfOk result (IsSharedCount (blocks_to_head (D.blocks dev.old) count head) (blocks_to_head (D.blocks dev.old) other_count other)) }
-    ensures reading { ReadsOrIo D.BlockDevice dev.old dev.new result }
+    ensures reading { ReadsOnlyOrIo D.BlockDevice dev.old dev.new result }
     ensures few { IfOk result (λ n. read_count (D.history dev.new) ≤ read_count (D.history dev.old)
         + unshared_count (blocks_to_head (D.blocks dev.old) count head) (blocks_to_head (D.blocks dev.old) other_count other) n) }
     ensures none { min count other_count ≡ 0 → read_count (D.history dev.new) ≡ read_count (D.history dev.old) }

@@ -1,11 +1,11 @@
 ghost use Rattle.std.specs.Prelude.{◌≡◌, ◌≤◌};
-ghost use Rattle.lfs_model.specs.format.SkipLists.{IsBytePlace, block_count_for};
+ghost use Rattle.lfs_model.specs.format.SkipLists.{IsByteInListBlock, skip_list_block_count};
 
 /// Returns the number of blocks in a list of `size` bytes, which is 0 if `size` is 0. Requires a
 /// block size of at least 1,024 bytes.
 pub fn blocks_for(block_size: u32, size: u32) -> u32
     requires { 1024 ≤ block_size }
-    ensures { result ≡ block_count_for block_size size }
+    ensures { result ≡ skip_list_block_count block_size size }
 {
     if size == 0 {
         return 0;
@@ -21,7 +21,7 @@ pub fn blocks_for(block_size: u32, size: u32) -> u32
 #[inline(never)]
 pub fn place(block_size: u32, pos: u32) -> (u32, u32)
     requires { 1024 ≤ block_size }
-    ensures { IsBytePlace block_size pos result.0 result.1 }
+    ensures { IsByteInListBlock block_size pos result.0 result.1 }
 {
     // A block has two pointers on average.
     let mean = block_size - 8;

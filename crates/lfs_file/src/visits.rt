@@ -1,7 +1,7 @@
 ghost use Rattle.std.specs.Prelude.{◌≡◌, ◌≤◌, ◌<◌, ◌+◌, ◌*◌, true, false, length, OnOk, IfOk, IsErrOf, reverse};
 ghost use Rattle.std.specs.List.{FoldsTo};
 ghost use Rattle.lfs_model.specs.format.Blocks.{block_bytes};
-ghost use Rattle.lfs_model.specs.format.SkipLists.{IsSkipList, blocks_to_head, block_count_for, word_at};
+ghost use Rattle.lfs_model.specs.format.SkipLists.{IsSkipList, blocks_to_head, skip_list_block_count, word_at};
 ghost use Rattle.lfs_file.specs.FileCalls.{ReadsOrCorrupt};
 ghost use Rattle.lfs_file.specs.Right.{LaterPointersName, ArePointersCopied};
 ghost use Rattle.lfs_file.specs.Way.{ReadsUnlessNoted};
@@ -13,7 +13,7 @@ use crate::way::{WalkedBlocks, copy_pointers, find_first_block, word_of_slice};
 use lfs_device::{BlockDevice, Error};
 
 // Returns whether all pointers of later blocks to this index refer to `block`.
-fn named_by_later(words: &[u8], block: u32, index: u32, last: u32) -> bool
+fn pointers_agree(words: &[u8], block: u32, index: u32, last: u32) -> bool
     requires order { index ≤ last }
     requires room { length words.now ≡ 128 }
     ensures yes { result ≡ true → LaterPointersName words.now block index last }
@@ -49,7 +49,7 @@ fn check_block<D: BlockDevice>(
     ensures reading { ReadsOrCorrupt D.BlockDevice dev.old dev.new result }
     ensures reads { ReadsUnlessNoted way.now last index block (D.history dev.old) (D.history dev.new) }
 {
-    if block >= dev.geometry().block_count || !named_by_later(words, block, index, last) {
+    if block >= dev.geometry().block_count || !pointers_agree(words, block, index, last) {
         return Err(Error::Corrupt);
     }
     copy_pointers(dev, block, index, last, way, words)?;
@@ -78,7 +78,7 @@ pub fn walk<D: BlockDevice, F: FnMut(u32)>(
     ensures listed { OnOk result (IsListReadOnce (D.blocks dev.old) (D.geometry dev.old).block_size head size (D.history dev.old) (D.history dev.new)) }
     ensures corrupt { IsErrOf result Error.Corrupt → ¬ IsSkipList (D.blocks dev.old) (D.geometry dev.old).block_size head size }
     ensures visited { OnOk result (FoldsTo (λ p x q. F.step p x tt q) visit.old
-        (reverse (blocks_to_head (D.blocks dev.old) (block_count_for (D.geometry dev.old).block_size size) head)) visit.new) }
+        (reverse (blocks_to_head (D.blocks dev.old) (skip_list_block_count (D.geometry dev.old).block_size size) head)) visit.new) }
     ensures callable { F.IsAlwaysCallable visit.new }
     ensures reading { ReadsOrCorrupt D.BlockDevice dev.old dev.new result }
 {
@@ -109,7 +109,7 @@ pub fn walk<D: BlockDevice, F: FnMut(u32)>(
     if block != first {
         return Err(Error::Corrupt);
     }
-    if !named_by_later(&words, block, 0, last) {
+    if !pointers_agree(&words, block, 0, last) {
         return Err(Error::Corrupt);
     }
     visit(block);

@@ -3,7 +3,7 @@
 ghost use Rattle.std.specs.Prelude.{◌≡◌, ◌<◌, ◌+◌, ◌++◌, ◌^◌, ◌&&◌, ◌==◌, length, OnOk};
 ghost use Rattle.std.specs.Bool.{OnFalse, OnTrue};
 ghost use Rattle.lfs_model.specs.session.Writers.{written_contents};
-ghost use Rattle.lfs_device.specs.DeviceCalls.{ReportsIoNoMemory};
+ghost use Rattle.lfs_device.specs.DeviceCalls.{ReportsIoOrNoMemory};
 ghost use Rattle.lfs_file.specs.Growing.{fits_unwritten_block, growing_size};
 ghost use Rattle.lfs_file.specs.ContentsCalls.{CallKeepsUsed};
 ghost use Rattle.lfs_file.specs.Hand.{KeepsUsedBlocks};
@@ -48,7 +48,7 @@ pub(crate) fn buffer_within_block(hand: &mut PendingList, place: u32, bytes: &[u
 ///
 /// Errors: `Io` if a device call fails. `NoMemory` if memory can't be allocated. After an error,
 /// the draft can only be dropped.
-pub(crate) fn append_to_unfinished<D: BlockDevice>(
+pub(crate) fn append_to_draft<D: BlockDevice>(
     alloc: Global,
     dev: &mut D,
     map: &mut BlockMap,
@@ -61,7 +61,7 @@ pub(crate) fn append_to_unfinished<D: BlockDevice>(
     ensures base { KeepsStoredBlocks (D.geometry dev.old).block_size (D.blocks dev.old) hand.old.base (D.blocks dev.new) hand.new.base }
     ensures map { KeepsUsedBlocks map.old map.new }
     ensures device { CallKeepsUsed D.BlockDevice map.old dev.old dev.new }
-    ensures reports { ReportsIoNoMemory D.BlockDevice dev.old dev.new result }
+    ensures reports { ReportsIoOrNoMemory D.BlockDevice dev.old dev.new result }
 {
     extend_list(alloc, dev, map, &mut hand.list, bytes)?;
     Ok(())
@@ -88,10 +88,10 @@ pub(crate) fn fill_and_write<D: BlockDevice>(
     ensures base { KeepsStoredBlocks (D.geometry dev.old).block_size (D.blocks dev.old) hand.old.base (D.blocks dev.new) hand.new.base }
     ensures map { KeepsUsedBlocks map.old map.new }
     ensures device { CallKeepsUsed D.BlockDevice map.old dev.old dev.new }
-    ensures reports { ReportsIoNoMemory D.BlockDevice dev.old dev.new result }
+    ensures reports { ReportsIoOrNoMemory D.BlockDevice dev.old dev.new result }
 {
     let gap = place - hand.list.size();
     write_zeros(alloc, dev, map, hand, gap)?;
-    append_to_unfinished(alloc, dev, map, hand, bytes)?;
+    append_to_draft(alloc, dev, map, hand, bytes)?;
     Ok(())
 }

@@ -2,7 +2,7 @@
 
 ghost use Rattle.std.specs.Prelude.{◌<◌, ◌+◌, replicate, OnOk};
 ghost use Rattle.lfs_model.specs.session.Writers.{written_contents};
-ghost use Rattle.lfs_device.specs.DeviceCalls.{ReportsIoNoMemory};
+ghost use Rattle.lfs_device.specs.DeviceCalls.{ReportsIoOrNoMemory};
 ghost use Rattle.lfs_file.specs.Growing.{growing_size};
 ghost use Rattle.lfs_file.specs.ContentsCalls.{CallKeepsUsed};
 ghost use Rattle.lfs_file.specs.Hand.{KeepsUsedBlocks};
@@ -10,7 +10,7 @@ ghost use Rattle.lfs_file.specs.HandWrites.{AreZerosWritten, unfinished_bytes};
 ghost use Rattle.lfs_file.specs.BlockOwners.{KeepsStoredBlocks};
 ghost use Rattle.lfs_file.specs.CallPremises.{CanWriteZeros};
 
-use crate::writes::{PendingList, append_to_unfinished};
+use crate::writes::{PendingList, append_to_draft};
 use lfs_blocks::BlockMap;
 use lfs_device::{BlockDevice, Error};
 use std::alloc::Global;
@@ -34,13 +34,13 @@ pub(crate) fn write_zeros<D: BlockDevice>(
     ensures base { KeepsStoredBlocks (D.geometry dev.old).block_size (D.blocks dev.old) hand.old.base (D.blocks dev.new) hand.new.base }
     ensures map { KeepsUsedBlocks map.old map.new }
     ensures device { CallKeepsUsed D.BlockDevice map.old dev.old dev.new }
-    ensures reports { ReportsIoNoMemory D.BlockDevice dev.old dev.new result }
+    ensures reports { ReportsIoOrNoMemory D.BlockDevice dev.old dev.new result }
 {
     let mut done = 0;
     'zeroing: while done < count {
         let zeros = [0; 512];
         let part = (count - done).min(512);
-        append_to_unfinished(alloc, dev, map, hand, &zeros[..part as usize])?;
+        append_to_draft(alloc, dev, map, hand, &zeros[..part as usize])?;
         done += part;
     }
     Ok(())

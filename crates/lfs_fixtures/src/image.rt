@@ -66,7 +66,7 @@ fn superblock_block(alloc: Global, revision: u32) -> Result<(Vec<u8>, u32), Allo
 }
 
 /// Returns a block with the superblock in its first commit, followed by the given commits.
-pub fn commits_beginning(
+pub fn block_with_commits(
     alloc: Global,
     revision: u32,
     commits: &[FixtureEntries<'_>],
@@ -101,12 +101,12 @@ fn one_commit_block(alloc: Global, entries: FixtureEntries<'_>) -> Result<Vec<u8
 
 /// The contents of a block, either one commit or plain bytes.
 #[derive(Clone, Copy)]
-pub enum BlockFilling<'a> {
+pub enum BlockContents<'a> {
     Commit(FixtureEntries<'a>),
     Bytes(&'a [u8]),
 }
 
-fn put_in_block(image: &mut [u8], block: usize, bytes: &[u8]) {
+fn copy_to_block(image: &mut [u8], block: usize, bytes: &[u8]) {
     let start = block.saturating_mul(4096);
     let end = start.saturating_add(bytes.len());
     if let Some(place) = image.get_mut(start..end) {
@@ -118,15 +118,15 @@ fn put_block_content(
     alloc: Global,
     image: &mut [u8],
     block: usize,
-    held: BlockFilling<'_>,
+    held: BlockContents<'_>,
 ) -> Result<(), AllocError> {
     match held {
-        BlockFilling::Commit(entries) => put_in_block(
+        BlockContents::Commit(entries) => copy_to_block(
             image,
             block,
             one_commit_block(alloc, entries)?.as_slice(),
         ),
-        BlockFilling::Bytes(bytes) => put_in_block(image, block, bytes),
+        BlockContents::Bytes(bytes) => copy_to_block(image, block, bytes),
     }
     Ok(())
 }
@@ -136,7 +136,7 @@ fn put_block_content(
 pub fn image_with_commit(
     alloc: Global,
     entries: FixtureEntries<'_>,
-    others: &[(usize, BlockFilling<'_>)],
+    others: &[(usize, BlockContents<'_>)],
 ) -> Result<Vec<u8>, AllocError> {
     let first = block_with_entries(alloc, 1, entries)?;
     let mut image = image_with_pair(alloc, first.as_slice(), &[])?;

@@ -9,6 +9,6 @@ mod image;
 pub use bytes::lemma_device_bytes;
 pub use copy::copy_block;
 pub use image::{
-    BlockFilling, FixtureEntries, block_with_entries, commits_beginning, image_with_commit,
+    BlockContents, FixtureEntries, block_with_commits, block_with_entries, image_with_commit,
     image_with_pair,
 };

@@ -1,6 +1,6 @@
 -- From an operation's checks, and what the tree does, to its turn.
 use Rattle.std.proofs.Common.{◌∷◌, length, Option, inl, inr, ℕ, ◌≡◌, ◌≢◌, Bool, true, false, cond, List, [], ◌++◌, Some, None, Result, Ok, Err, refl, sym, ap, ap₂, subst, ◌∙◌, append_assoc, arith, ◌<◌, nat_le}
-use Rattle.lfs_fs.proofs.Common.{nat_tests, same_Some, CachedBlocks, CallEvent, Operation, Reply, Refusal, FlagsOfOpen, Failed, OpenFilesByNumber, Session, DiskSummary, Reading, Writing, free_number_of, files_with_file, opened_writer, path_or_root, operation_refusal, operation_effect, Healthy, is_remount, IsStep, is_read_only, opens_there, writes_or_truncates, needs_no_device, renames_itself, spread_step, FileNode, file_bytes, is_file, is_query, not_remount, is_refusal, error_refusal, reply_from, TreeState, shown_tree, tree_summary, IsSoundState, OnlyReadsTree, IsFailedTree, HasErrorCause, IsApplied, IsInFlight, few_flying, in_flight-freed, RuntimeFiles, unsaved_or_tree, files_view, has_unsaved, reader_view, readers_among, writer_view, writers_among, writers_paths, vacates_path, StayReady, KeepFiles, KeepsWriters, ConcernsNoFile, zero_gstate, pairs_gstate, Path, AllByRecursion, list_any, SessionView, IsReady, AreUnsavedIfAny, IsWriterReady, session_view, view_with_files, viewed_session, system_state, refusal_by_checks, FailsChecks, IsChecksResult, SessionFails, StepsOrFails}
+use Rattle.lfs_fs.proofs.Common.{nat_tests, same_Some, CachedBlocks, CallEvent, Operation, Reply, Refusal, FlagsOfOpen, Failed, OpenFilesByNumber, Session, DiskSummary, Reading, Writing, free_number_of, files_with_file, opened_writer, path_or_root, operation_refusal, operation_effect, Healthy, is_remount, IsStep, is_read_only, opens_existing_file, writes_or_truncates, needs_no_device, renames_itself, spread_step, FileNode, file_bytes, is_file, is_query, not_remount, is_refusal, error_refusal, reply_from, TreeState, visible_tree, tree_summary, IsSoundState, OnlyReadsTree, IsFailedTree, HasErrorCause, IsOperationApplied, IsInFlight, few_flying, in_flight-freed, RuntimeFiles, draft_or_stored_bytes, files_view, has_unsaved, reader_view, readers_among, writer_view, writers_among, writers_paths, vacates_path, OpenFilesStayReady, UnrelatedOperationKeepsFiles, KeepsWriterFiles, AffectsNoOpenFile, zero_gstate, pairs_gstate, Path, AllByRecursion, list_any, SessionView, IsReady, AreSoundIfUnsaved, IsWriterReady, session_view, view_with_files, viewed_session, system_state, refusal_by_checks, FailsChecks, IsChecksResult, SessionFails, StepsOrFails}
 use Rattle.lfs_model.specs.session.Operations as ops
 use Rattle.lfs_model.specs.session.Recovery.{recovers_first}
 use Rattle.lfs_model.specs.session.Run.{edits_slots}
@@ -26,7 +26,7 @@ asked_later : (old new : TreeState) (asked : OnlyReadsTree old new) → new ≡ 
 unfolding later
 asked_later old new asked = asked.same ∙ ap (λ history. record old { history = history; cache = new.cache }) asked.reads.extends
 
-pub is_over : (t : TreeState) (files : OpenFilesByNumber) → IsSoundState t → IsOver t.disk t.pairs (record { tree = shown_tree t; files = files }) (tree_summary t)
+pub is_over : (t : TreeState) (files : OpenFilesByNumber) → IsSoundState t → IsOver t.disk t.pairs (record { tree = visible_tree t; files = files }) (tree_summary t)
 is_over t files sound = record {
   accepted = sound.accepted;
   surrounds = record { profile = refl; block_size = refl; page = refl; block_count = refl; used = refl; gstate = refl; writable = (sound.fits, sound.is_kept) };
@@ -68,7 +68,7 @@ not_refused h op e = sym (ap (λ b. cond b (Some Failed) (operation_refusal (tre
 
 -- by reads alone, where there is nothing to do
 pub idle_answer : (old : SessionView) (op : Operation) (tree : TreeState) (files : OpenFilesByNumber) → (old.tree.failed ≡ false → IsSoundState old.tree) → (asked : OnlyReadsTree old.tree tree) → refusal_by_checks old op ≡ None →
-    is_remount op ≡ false → (operation_effect (tree_summary old.tree) (viewed_session old) op).1 ≡ record { tree = shown_tree old.tree; files = files } →
+    is_remount op ≡ false → (operation_effect (tree_summary old.tree) (viewed_session old) op).1 ≡ record { tree = visible_tree old.tree; files = files } →
     recovers_first op ≡ false → edits_slots (viewed_session old) op ≡ false → (needs_no_device (viewed_session old) op ≡ true → asked.reads.events ≡ []) →
     IsStep (system_state old) op (operation_effect (tree_summary old.tree) (viewed_session old) op).0 (system_state (view_with_files tree files))
 unfolding later
@@ -85,7 +85,7 @@ idle_answer old op tree files sound asked e other same none still silent =
 
 -- by reads alone
 pub asked_answer : (old : SessionView) (op : Operation) (tree : TreeState) (files : OpenFilesByNumber) → (old.tree.failed ≡ false → IsSoundState old.tree) → (asked : OnlyReadsTree old.tree tree) → refusal_by_checks old op ≡ None →
-    is_remount op ≡ false → is_read_only (viewed_session old) op ≡ true → (operation_effect (tree_summary old.tree) (viewed_session old) op).1 ≡ record { tree = shown_tree old.tree; files = files } →
+    is_remount op ≡ false → is_read_only (viewed_session old) op ≡ true → (operation_effect (tree_summary old.tree) (viewed_session old) op).1 ≡ record { tree = visible_tree old.tree; files = files } →
     recovers_first op ≡ false → edits_slots (viewed_session old) op ≡ false → (needs_no_device (viewed_session old) op ≡ true → asked.reads.events ≡ []) →
     IsStep (system_state old) op (operation_effect (tree_summary old.tree) (viewed_session old) op).0 (system_state (view_with_files tree files))
 unfolding later
@@ -102,15 +102,15 @@ asked_answer old op tree files sound asked e other asks same none still silent =
 
 -- the tree carries it out
 pub carried_answer : (old : SessionView) (op : Operation) (mid new : TreeState) (files : OpenFilesByNumber) → (old.tree.failed ≡ false → IsSoundState old.tree) → (old.tree.failed ≡ false → old.tree.history ≢ []) → OnlyReadsTree old.tree mid → refusal_by_checks old op ≡ None →
-    IsApplied mid op new → is_remount op ≡ false → is_read_only (viewed_session old) op ≡ false → writes_or_truncates op ≡ false → opens_there (viewed_session old) op ≡ false → needs_no_device (viewed_session old) op ≡ false →
+    IsOperationApplied mid op new → is_remount op ≡ false → is_read_only (viewed_session old) op ≡ false → writes_or_truncates op ≡ false → opens_existing_file (viewed_session old) op ≡ false → needs_no_device (viewed_session old) op ≡ false →
     (operation_effect (tree_summary old.tree) (viewed_session old) op).1.files ≡ files →
     IsStep (system_state old) op (operation_effect (tree_summary old.tree) (viewed_session old) op).0 (system_state (view_with_files new files))
 unfolding later
 carried_answer old op mid new files sound called asked e carried other asks fill creates silent opened =
     let works = not_failed old op e in
     let events = asked.reads.events in
-    let c = subst (λ t. IsApplied t op new) (asked_later old.tree mid asked) carried in
-    let is : record { tree = shown_tree new; files = files } ≡ (operation_effect (tree_summary old.tree) (viewed_session old) op).1 = ap₂ (λ t f. record { tree = t; files = f }) (c.shows (tree_summary old.tree) old.files) (sym opened) in
+    let c = subst (λ t. IsOperationApplied t op new) (asked_later old.tree mid asked) carried in
+    let is : record { tree = visible_tree new; files = files } ≡ (operation_effect (tree_summary old.tree) (viewed_session old) op).1 = ap₂ (λ t f. record { tree = t; files = f }) (c.shows (tree_summary old.tree) old.files) (sym opened) in
     let to = healthy_system (view_with_files new files) c.works
     ∙ ap₂ (λ (calls : List CallEvent) (s : Session). record { disk = new.disk; calls = calls; state = Healthy s }) (c.called ∙ sym (append_assoc c.calls events old.tree.history)) is in
     let writes = reads_write_nothing old.tree.disk.blocks events asked.reads.each in
@@ -207,7 +207,7 @@ sound_later old new h asked =
     again : IsSoundState old → IsSoundState (record old { history = new.history; cache = new.cache })
     again h = record { accepted = h.accepted; fits = h.fits; is_kept = h.is_kept; used = h.used; size = h.size }
 
-unsaved_later : (t : TreeState) (history : List CallEvent) (cache : CachedBlocks) (w : Writer) (u : Option UnsavedContents) → AreUnsavedIfAny t w u → AreUnsavedIfAny (record t { history = history; cache = cache }) w u
+unsaved_later : (t : TreeState) (history : List CallEvent) (cache : CachedBlocks) (w : Writer) (u : Option UnsavedContents) → AreSoundIfUnsaved t w u → AreSoundIfUnsaved (record t { history = history; cache = cache }) w u
 unsaved_later t history cache w None h = tt
 unsaved_later t history cache w (Some u) h = record {
   over = record {
@@ -224,7 +224,7 @@ written_later : (t : TreeState) (history : List CallEvent) (cache : CachedBlocks
 written_later t history cache [] h = h
 written_later t history cache (w ∷ ws) h = (record { writable = h.0.writable; settled = h.0.settled; there = h.0.there; size = same w.unsaved (h.0.size); changed = unsaved_later t history cache w w.unsaved h.0.changed }, written_later t history cache ws h.1)
   where
-    same : (u : Option UnsavedContents) → length (unsaved_or_tree t w.path u) ≡ w.size → length (unsaved_or_tree (record t { history = history; cache = cache }) w.path u) ≡ w.size
+    same : (u : Option UnsavedContents) → length (draft_or_stored_bytes t w.path u) ≡ w.size → length (draft_or_stored_bytes (record t { history = history; cache = cache }) w.path u) ≡ w.size
     same None e = e
     same (Some u) e = e
 
@@ -298,9 +298,9 @@ error_answers old op e new reply is fails = subst (λ b. StepsOrFails old op (co
 
 -- an operation that the tree carries out once no check refuses it
 pub done_answers : (K : Type 0) (old now : SessionView) (op : Operation) (mid new : TreeState) (r : Result (Unit {0}) Error) → old ≡ now → (old.tree.failed ≡ false → IsSoundState old.tree) → (old.tree.failed ≡ false → old.tree.history ≢ []) → OnlyReadsTree old.tree mid → refusal_by_checks old op ≡ None →
-    is_remount op ≡ false → is_read_only (viewed_session old) op ≡ false → writes_or_truncates op ≡ false → opens_there (viewed_session old) op ≡ false → needs_no_device (viewed_session old) op ≡ false →
+    is_remount op ≡ false → is_read_only (viewed_session old) op ≡ false → writes_or_truncates op ≡ false → opens_existing_file (viewed_session old) op ≡ false → needs_no_device (viewed_session old) op ≡ false →
     (operation_effect (tree_summary old.tree) (viewed_session old) op).0 ≡ ops.Done → (operation_effect (tree_summary old.tree) (viewed_session old) op).1.files ≡ old.files → renames_itself op ≡ false → old.tree.writable ≡ true →
-    OnOk r K → (K → IsApplied mid op new) → OnErr r (IsFailedTree mid new) → IfErr r (HasErrorCause mid new) → StepsOrFails now op (reply_from (λ u. ops.Done) r) (view_with_files new old.files)
+    OnOk r K → (K → IsOperationApplied mid op new) → OnErr r (IsFailedTree mid new) → IfErr r (HasErrorCause mid new) → StepsOrFails now op (reply_from (λ u. ops.Done) r) (view_with_files new old.files)
 done_answers K old now op mid new r is sound called asked e other asks fill creates silent done files itself writable carried from broken errors =
     subst (λ h. StepsOrFails h op (reply_from (λ u. ops.Done) r) (view_with_files new old.files)) is (go r carried broken errors)
   where
@@ -320,7 +320,7 @@ question_call old now op reply P checked tree same sound asks silent answer h =
 -- an operation by reads alone that changes the open files
 pub files_answers : (old now : SessionView) (op : Operation) (tree : TreeState) (files : OpenFilesByNumber) (reply : Reply) → old ≡ now → (old.tree.failed ≡ false → IsSoundState old.tree) → OnlyReadsTree old.tree tree → refusal_by_checks old op ≡ None →
     is_remount op ≡ false → is_read_only (viewed_session old) op ≡ true → recovers_first op ≡ false → edits_slots (viewed_session old) op ≡ false → needs_no_device (viewed_session old) op ≡ false →
-    operation_effect (tree_summary old.tree) (viewed_session old) op ≡ (reply, record { tree = shown_tree old.tree; files = files }) → StepsOrFails now op (Ok reply) (view_with_files tree files)
+    operation_effect (tree_summary old.tree) (viewed_session old) op ≡ (reply, record { tree = visible_tree old.tree; files = files }) → StepsOrFails now op (Ok reply) (view_with_files tree files)
 files_answers old now op tree files reply same sound asked e other asks none still silent is =
     subst (λ z. StepsOrFails z op (Ok reply) (view_with_files tree files)) same
     (subst (λ r. IsStep (system_state old) op r (system_state (view_with_files tree files))) (ap (λ (z : Reply × Session). z.0) is)
@@ -340,12 +340,12 @@ ended_kept old now op reply e r same sound other h is =
 -- an operation without a call that changes the open files
 pub files_kept : (old now : SessionView) (op : Operation) (files : OpenFilesByNumber) (reply : Reply) → old ≡ now → (old.tree.failed ≡ false → IsSoundState old.tree) → refusal_by_checks old op ≡ None →
     is_remount op ≡ false → is_read_only (viewed_session old) op ≡ true → recovers_first op ≡ false → edits_slots (viewed_session old) op ≡ false → needs_no_device (viewed_session old) op ≡ false →
-    operation_effect (tree_summary old.tree) (viewed_session old) op ≡ (reply, record { tree = shown_tree old.tree; files = files }) → StepsOrFails now op (Ok reply) (view_with_files old.tree files)
+    operation_effect (tree_summary old.tree) (viewed_session old) op ≡ (reply, record { tree = visible_tree old.tree; files = files }) → StepsOrFails now op (Ok reply) (view_with_files old.tree files)
 files_kept old now op files reply same sound e = files_answers old now op old.tree files reply same sound (nothing_asked old.tree) e
 
 -- a file opened for reading
 pub reader_answers : (old now : SessionView) (bytes : List ℕ) (flags : FlagsOfOpen) (tree : TreeState) (files : OpenFilesByNumber) (r : Result ℕ Error) → old ≡ now → (old.tree.failed ≡ false → IsSoundState old.tree) → flags.write ≡ false →
-    OnlyReadsTree old.tree tree → refusal_by_checks old (ops.Open bytes flags) ≡ None → is_none (shown_tree old.tree (path_or_root bytes)) ≡ false →
+    OnlyReadsTree old.tree tree → refusal_by_checks old (ops.Open bytes flags) ≡ None → is_none (visible_tree old.tree (path_or_root bytes)) ≡ false →
     false ≡ is_err r → IfOk r (λ fd. fd ≡ free_number_of old.files) → OnOk r (files ≡ files_with_file old.files (free_number_of old.files) (Some (Reading (record { path = path_or_root bytes; position = 0 })))) →
     StepsOrFails now (ops.Open bytes flags) (reply_from ops.Opened r) (view_with_files tree files)
 reader_answers old now bytes flags tree files (Err e) same sound write asked e' there ok number added = absurd (cc)
@@ -353,12 +353,12 @@ reader_answers old now bytes flags tree files (Ok fd) same sound write asked e t
     files_answers old now (ops.Open bytes flags) tree files (ops.Opened fd) same sound asked e refl (ap not write) write write refl
     (ap₂ (λ n s. (ops.Opened n, s)) (sym number) (ap₂ (λ t f. record { tree = t; files = f }) kept (sym brought)))
   where
-    kept : (if is_none (shown_tree old.tree (path_or_root bytes)) then add_file (path_or_root bytes) (FileNode [] []) (shown_tree old.tree) else shown_tree old.tree) ≡ shown_tree old.tree
-    kept = ap (λ b. if b then add_file (path_or_root bytes) (FileNode [] []) (shown_tree old.tree) else shown_tree old.tree) there
+    kept : (if is_none (visible_tree old.tree (path_or_root bytes)) then add_file (path_or_root bytes) (FileNode [] []) (visible_tree old.tree) else visible_tree old.tree) ≡ visible_tree old.tree
+    kept = ap (λ b. if b then add_file (path_or_root bytes) (FileNode [] []) (visible_tree old.tree) else visible_tree old.tree) there
 
-    brought : files ≡ files_with_file old.files (free_number_of old.files) (Some (if flags.write then Writing (opened_writer (path_or_root bytes) flags (file_bytes (shown_tree old.tree (path_or_root bytes)))) else Reading (record { path = path_or_root bytes; position = 0 })))
+    brought : files ≡ files_with_file old.files (free_number_of old.files) (Some (if flags.write then Writing (opened_writer (path_or_root bytes) flags (file_bytes (visible_tree old.tree (path_or_root bytes)))) else Reading (record { path = path_or_root bytes; position = 0 })))
     brought = added
-        ∙ ap (λ b. files_with_file old.files (free_number_of old.files) (Some (if b then Writing (opened_writer (path_or_root bytes) flags (file_bytes (shown_tree old.tree (path_or_root bytes)))) else Reading (record { path = path_or_root bytes; position = 0 })))) (sym write)
+        ∙ ap (λ b. files_with_file old.files (free_number_of old.files) (Some (if b then Writing (opened_writer (path_or_root bytes) flags (file_bytes (visible_tree old.tree (path_or_root bytes)))) else Reading (record { path = path_or_root bytes; position = 0 })))) (sym write)
 
 -- no memory is found for it
 pub reader_fails : (old now : SessionView) (bytes : List ℕ) (flags : FlagsOfOpen) (tree left : TreeState) (files : OpenFilesByNumber) (r : Result ℕ Error) → old ≡ now → OnlyReadsTree old.tree tree → refusal_by_checks old (ops.Open bytes flags) ≡ None →
@@ -376,7 +376,7 @@ few_readers n e = grind (arith, nat_tests)
 -- an operation that makes no call and leaves the tree
 pub kept_answer : (old now : SessionView) (op : Operation) (files : OpenFilesByNumber) (reply : Reply) → old ≡ now → (old.tree.failed ≡ false → IsSoundState old.tree) → refusal_by_checks old op ≡ None →
     is_remount op ≡ false → recovers_first op ≡ false → edits_slots (viewed_session old) op ≡ false →
-    operation_effect (tree_summary old.tree) (viewed_session old) op ≡ (reply, record { tree = shown_tree old.tree; files = files }) → StepsOrFails now op (Ok reply) (view_with_files old.tree files)
+    operation_effect (tree_summary old.tree) (viewed_session old) op ≡ (reply, record { tree = visible_tree old.tree; files = files }) → StepsOrFails now op (Ok reply) (view_with_files old.tree files)
 kept_answer old now op files reply same sound e other none still is =
     let works = not_failed old op e in
     let to = healthy_system (view_with_files old.tree files) works
@@ -392,17 +392,17 @@ kept_answer old now op files reply same sound e other none still is =
 
 -- every file is
 abbrev pub KeepsFiles : TreeState → TreeState → Type 0
-KeepsFiles t s = (p : Path) → is_file (shown_tree t p) ≡ true → (is_file (shown_tree s p) ≡ true) × (file_bytes (shown_tree s p) ≡ file_bytes (shown_tree t p))
+KeepsFiles t s = (p : Path) → is_file (visible_tree t p) ≡ true → (is_file (visible_tree s p) ≡ true) × (file_bytes (visible_tree s p) ≡ file_bytes (visible_tree t p))
 
 unsaved_none : (u : Option UnsavedContents) (b : Bool) → (is_some u || b) ≡ false → (u ≡ None) × (b ≡ false)
 unsaved_none None b e = (refl, e)
 unsaved_none (Some u) b e = absurd (cc)
 
-pub keeps_writers : (t s : TreeState) (ws : List Writer) → KeepsFiles t s → AllByRecursion (IsWriterReady t) ws → KeepsWriters t s ws
+pub keeps_writers : (t s : TreeState) (ws : List Writer) → KeepsFiles t s → AllByRecursion (IsWriterReady t) ws → KeepsWriterFiles t s ws
 keeps_writers t s [] keeps h = tt
 keeps_writers t s (w ∷ ws) keeps h = (keeps w.path h.0.there, keeps_writers t s ws keeps h.1)
 
-pub kept_files : (t s : TreeState) (files : RuntimeFiles) → has_unsaved files ≡ false → KeepsWriters t s (writers_among files) → files_view t files ≡ files_view s files
+pub kept_files : (t s : TreeState) (files : RuntimeFiles) → has_unsaved files ≡ false → KeepsWriterFiles t s (writers_among files) → files_view t files ≡ files_view s files
 kept_files t s [] e k = refl
 kept_files t s (None ∷ fs) e k = ap (λ z. None ∷ z) (kept_files t s fs e k)
 kept_files t s (Some (file.Reading r) ∷ fs) e k = ap (λ z. Some (Reading (reader_view r)) ∷ z) (kept_files t s fs e k)
@@ -413,18 +413,18 @@ kept_files t s (Some (file.Writing w) ∷ fs) e k =
     one : (u : Option UnsavedContents) → w.unsaved ≡ None → writer_view t w ≡ writer_view s w
     one u n = rw n (ap (λ (bytes : List ℕ). record { path = w.path; contents = bytes; position = w.position; append = w.appends; dirty = false; turned = false; last_end = None }) (sym k.0.1))
 
-written_still : (t s : TreeState) (ws : List Writer) → list_any (λ w. is_some w.unsaved) ws ≡ false → s.writable ≡ true → pairs_gstate s.pairs ≡ zero_gstate → KeepsWriters t s ws →
+written_still : (t s : TreeState) (ws : List Writer) → list_any (λ w. is_some w.unsaved) ws ≡ false → s.writable ≡ true → pairs_gstate s.pairs ≡ zero_gstate → KeepsWriterFiles t s ws →
     AllByRecursion (IsWriterReady t) ws → AllByRecursion (IsWriterReady s) ws
 written_still t s [] e writable settled k h = tt
 written_still t s (w ∷ ws) e writable settled k h =
     let u = unsaved_none w.unsaved (list_any (λ w. is_some w.unsaved) ws) e in
-    (record { writable = writable; settled = settled; there = k.0.0; size = same u.0; changed = subst (AreUnsavedIfAny s w) (sym u.0) tt }, written_still t s ws u.1 writable settled k.1 h.1)
+    (record { writable = writable; settled = settled; there = k.0.0; size = same u.0; changed = subst (AreSoundIfUnsaved s w) (sym u.0) tt }, written_still t s ws u.1 writable settled k.1 h.1)
   where
-    same : w.unsaved ≡ None → length (unsaved_or_tree s w.path w.unsaved) ≡ w.size
-    same n = ap (λ z. length (unsaved_or_tree s w.path z)) n ∙ ap (λ bs. length bs) k.0.1 ∙ sym (ap (λ z. length (unsaved_or_tree t w.path z)) n) ∙ h.0.size
+    same : w.unsaved ≡ None → length (draft_or_stored_bytes s w.path w.unsaved) ≡ w.size
+    same n = ap (λ z. length (draft_or_stored_bytes s w.path z)) n ∙ ap (λ bs. length bs) k.0.1 ∙ sym (ap (λ z. length (draft_or_stored_bytes t w.path z)) n) ∙ h.0.size
 
 -- an operation leaves a session ready without a changed writer
-pub carried_ready : (old new : TreeState) (files : RuntimeFiles) (op : Operation) → ((p : Path) → vacates_path op p ≡ false) → IsReady old files → has_unsaved files ≡ false → KeepsWriters old new (writers_among files) → IsApplied old op new → IsReady new files
+pub carried_ready : (old new : TreeState) (files : RuntimeFiles) (op : Operation) → ((p : Path) → vacates_path op p ≡ false) → IsReady old files → has_unsaved files ≡ false → KeepsWriterFiles old new (writers_among files) → IsOperationApplied old op new → IsReady new files
 carried_ready old new files op off ready e keeps carried = record {
   sound = carried.sound;
   called = still_called old.history new.history carried.calls carried.called ready.called;
@@ -439,16 +439,16 @@ carried_ready old new files op off ready e keeps carried = record {
     never b h = let k = in_flight-freed old.map b h in let none = ready.idle e in absurd (omega (arith, k, none))
 
 -- what an operation spares, it does later
-spares_later : (old new : TreeState) (op : Operation) (files : RuntimeFiles) → OnlyReadsTree old new → ConcernsNoFile old op files → ConcernsNoFile new op files
+spares_later : (old new : TreeState) (op : Operation) (files : RuntimeFiles) → OnlyReadsTree old new → AffectsNoOpenFile old op files → AffectsNoOpenFile new op files
 spares_later old new op files asked h =
-    subst (λ t. ConcernsNoFile t op files) (sym asked.same) (again h)
+    subst (λ t. AffectsNoOpenFile t op files) (sym asked.same) (again h)
   where
-    again : ConcernsNoFile old op files → ConcernsNoFile (record old { history = new.history; cache = new.cache }) op files
+    again : AffectsNoOpenFile old op files → AffectsNoOpenFile (record old { history = new.history; cache = new.cache }) op files
     again h = record { apart = h.apart; unread = h.unread; room = h.room }
 
 -- what an operation leaves once no check refuses it
-pub done_left : (K : Type 0) (old mid new : TreeState) (files : RuntimeFiles) (op : Operation) (r : Result (Unit {0}) Error) → KeepFiles → (old.failed ≡ false → IsReady old files) → OnlyReadsTree old mid → refusal_by_checks (session_view old files) op ≡ None →
-    (IsReady old files → ConcernsNoFile old op files) → (IsReady mid files → IsApplied mid op new → KeepsWriters mid new (writers_among files)) → OnOk r K → (K → IsApplied mid op new) → OnErr r (IsFailedTree mid new) → new.failed ≡ false → StayReady old new files
+pub done_left : (K : Type 0) (old mid new : TreeState) (files : RuntimeFiles) (op : Operation) (r : Result (Unit {0}) Error) → UnrelatedOperationKeepsFiles → (old.failed ≡ false → IsReady old files) → OnlyReadsTree old mid → refusal_by_checks (session_view old files) op ≡ None →
+    (IsReady old files → AffectsNoOpenFile old op files) → (IsReady mid files → IsOperationApplied mid op new → KeepsWriterFiles mid new (writers_among files)) → OnOk r K → (K → IsOperationApplied mid op new) → OnErr r (IsFailedTree mid new) → new.failed ≡ false → OpenFilesStayReady old new files
 done_left K old mid new files op (Ok u) stay ready asked e spares keeps k carried broken works =
     let was = ready (not_failed (session_view old files) op e) in
     let now = ready_later old mid files was asked in

@@ -1,7 +1,7 @@
 -- From the result of a look-up to an operation's checks.
 use Rattle.std.proofs.Common.{ℕ, ◌≡◌, ◌+◌, ◌≤◌, Bool, true, false, not, List, [], ◌∷◌, Option, Some, None, Result, Ok, Err, length, nat_lt, nat_le, ◌&&◌, ◌||◌, unwrap_or, is_some, is_none, refl, sym, ap, ap₂, subst, ◌∙◌, arith}
 use Rattle.std.specs.Prelude.{if◌then◌else◌}
-use Rattle.lfs_fs.proofs.Common.{list_any, option_or, nat_tests, block_count, profile_name_max, Path, is_file, last_name, same_path, Operation, Refusal, FlagsOfOpen, parse_path, DiskSummary, flags_allowed, has_long_name, parents_refusal, all_readers, all_writers, first_refusal, refuse_if, exceeds_charge, lacks_room, reserved_for_writers, path_or_root, operation_refusal, node_file_size, refusal_error, error_refusal, result_unless_refused, TreeState, shown_tree, tree_summary, OnlyReadsTree, FailedByReading, HasErrorCause, CanMakeDirectory, in_flight_count, IsStorageAt, IsFoundNode, is_absent, is_directory_node, is_file_node, node_size_if_file, SessionView, viewed_session, IsReadableFile, refusal_by_checks, PassesEarlyChecks, FailsChecks, IsChecksResult}
+use Rattle.lfs_fs.proofs.Common.{list_any, option_or, nat_tests, block_count, profile_name_max, Path, is_file, last_name, same_path, Operation, Refusal, FlagsOfOpen, parse_path, DiskSummary, flags_allowed, has_long_name, parents_refusal, all_readers, all_writers, first_refusal, refuse_if, exceeds_half_pair, lacks_room, reserved_for_writers, path_or_root, operation_refusal, node_file_size, refusal_error, error_refusal, result_unless_refused, TreeState, visible_tree, tree_summary, OnlyReadsTree, FailedByReading, HasErrorCause, CanMakeDirectory, in_flight_count, IsStorageAt, IsFoundNode, is_absent, is_directory_node, is_file_node, node_size_if_file, SessionView, viewed_session, IsReadableFile, refusal_by_checks, PassesReadlessChecks, FailsChecks, IsChecksResult}
 use Rattle.lfs_model.specs.session.Operations as ops
 use Rattle.lfs_device.specs.declared.error.Error.{Error}
 use Rattle.lfs_lookup.specs.declared.file_contents.FileContents.{FileContents}
@@ -14,13 +14,13 @@ use Rattle.lfs_fs.proofs.Late.{mkdir_late, reader_late, stat_late}
 
 -- a call failed on the way
 pub lookup_failed : {A : Type 0} (h : SessionView) (op : Operation) (P : A → Type 0) (e : Error) (tree : TreeState) (r : Result A Error) → false ≡ h.tree.failed → FailedByReading h.tree tree → HasErrorCause h.tree tree e →
-    PassesEarlyChecks h op → r ≡ Err e → IsChecksResult h op P r tree
+    PassesReadlessChecks h op → r ≡ Err e → IsChecksResult h op P r tree
 lookup_failed h op P e tree r works broken error late is =
     subst (λ z. IsChecksResult h op P z tree) (sym is)
     (subst (λ b. FailsChecks b h op e tree) (sym (no_refusal_io e error.errors)) (broken, sym works, error, late))
 
 -- the last checks decide
-pub decided : {A : Type 0} (h : SessionView) (op : Operation) (P : A → Type 0) (x : A) (first : Option Refusal) (tree : TreeState) (r : Result A Error) → OnlyReadsTree h.tree tree → PassesEarlyChecks h op → refusal_by_checks h op ≡ first → (first ≡ None → P x) →
+pub decided : {A : Type 0} (h : SessionView) (op : Operation) (P : A → Type 0) (x : A) (first : Option Refusal) (tree : TreeState) (r : Result A Error) → OnlyReadsTree h.tree tree → PassesReadlessChecks h op → refusal_by_checks h op ≡ first → (first ≡ None → P x) →
     r ≡ result_unless_refused first x → IsChecksResult h op P r tree
 decided h op P x None tree r asked late e p is = subst (λ z. IsChecksResult h op P z tree) (sym is) (asked, e, p refl)
 decided h op P x (Some refusal) tree r asked late e p is =
@@ -40,32 +40,32 @@ pub there : {A : Type 0} → (o : Option A) → is_some o ≡ not (is_none o)
 there None = refl
 there (Some x) = refl
 
-stat_refused : (h : SessionView) (bytes : List ℕ) (p : Path) (found : FoundNode) → h.tree.failed ≡ false → parse_path bytes ≡ Some p → IsFoundNode (shown_tree h.tree) p found →
+stat_refused : (h : SessionView) (bytes : List ℕ) (p : Path) (found : FoundNode) → h.tree.failed ≡ false → parse_path bytes ≡ Some p → IsFoundNode (visible_tree h.tree) p found →
     refusal_by_checks h (ops.Stat bytes) ≡ first_refusal (found.fault ∷ refuse_if (is_absent found.node) ops.NoEnt ∷ [])
 stat_refused h bytes p found works is f = rw (works, is, f.parents, f.nothing) refl
 
-size_found : (h : SessionView) (bytes : List ℕ) (p : Path) (found : FoundNode) → parse_path bytes ≡ Some p → IsFoundNode (shown_tree h.tree) p found → node_file_size (shown_tree h.tree (path_or_root bytes)) ≡ node_size_if_file found.node
-size_found h bytes p found is f = ap (λ z. node_file_size (shown_tree h.tree (unwrap_or z []))) is ∙ f.sizes
+size_found : (h : SessionView) (bytes : List ℕ) (p : Path) (found : FoundNode) → parse_path bytes ≡ Some p → IsFoundNode (visible_tree h.tree) p found → node_file_size (visible_tree h.tree (path_or_root bytes)) ≡ node_size_if_file found.node
+size_found h bytes p found is f = ap (λ z. node_file_size (visible_tree h.tree (unwrap_or z []))) is ∙ f.sizes
 
 pub stat_checked : {A : Type 0} (view : A → Option ℕ) (h : SessionView) (bytes : List ℕ) (p : Path) (found : FoundNode) (tree : TreeState) (absent : Bool) (a : Option Refusal) (x : A) (r : Result A Error) →
-    false ≡ h.tree.failed → Some p ≡ parse_path bytes → OnlyReadsTree h.tree tree → IsFoundNode (shown_tree h.tree) p found →
+    false ≡ h.tree.failed → Some p ≡ parse_path bytes → OnlyReadsTree h.tree tree → IsFoundNode (visible_tree h.tree) p found →
     absent ≡ is_absent found.node → a ≡ refuse_if absent ops.NoEnt → view x ≡ node_size_if_file found.node → r ≡ result_unless_refused (first_refusal (found.fault ∷ a ∷ [])) x →
-    IsChecksResult h (ops.Stat bytes) (λ z. node_file_size (shown_tree h.tree (path_or_root bytes)) ≡ view z) r tree
+    IsChecksResult h (ops.Stat bytes) (λ z. node_file_size (visible_tree h.tree (path_or_root bytes)) ≡ view z) r tree
 stat_checked view h bytes p found tree absent a x r works is asked f absent_is a_is size_is r_is =
-    decided h (ops.Stat bytes) (λ z. node_file_size (shown_tree h.tree (path_or_root bytes)) ≡ view z) x _ tree r asked (stat_late h bytes p works is)
+    decided h (ops.Stat bytes) (λ z. node_file_size (visible_tree h.tree (path_or_root bytes)) ≡ view z) x _ tree r asked (stat_late h bytes p works is)
     (stat_refused h bytes p found (sym works) (sym is) f ∙ ap (λ z. first_refusal (found.fault ∷ z ∷ [])) (sym (a_is ∙ ap (λ b. refuse_if b ops.NoEnt) absent_is)))
     (λ none. size_found h bytes p found (sym is) f ∙ sym size_is) r_is
 
-mkdir_refused : (h : SessionView) (bytes : List ℕ) (p : Path) (found : FoundNode) → h.tree.failed ≡ false → h.tree.writable ≡ true → parse_path bytes ≡ Some p → IsFoundNode (shown_tree h.tree) p found →
+mkdir_refused : (h : SessionView) (bytes : List ℕ) (p : Path) (found : FoundNode) → h.tree.failed ≡ false → h.tree.writable ≡ true → parse_path bytes ≡ Some p → IsFoundNode (visible_tree h.tree) p found →
     refusal_by_checks h (ops.Mkdir bytes) ≡ first_refusal (found.fault ∷ refuse_if (has_long_name (tree_summary h.tree) p) ops.NameTooLong ∷ refuse_if (not (is_absent found.node)) ops.Exist
-    ∷ refuse_if (exceeds_charge (tree_summary h.tree) (last_name p) []) ops.EntryFull ∷ refuse_if (lacks_room (tree_summary h.tree) h.files 4) ops.NoSpace ∷ [])
-mkdir_refused h bytes p found works writable is f = rw (works, writable, is, f.parents, there (shown_tree h.tree p), f.nothing) refl
+    ∷ refuse_if (exceeds_half_pair (tree_summary h.tree) (last_name p) []) ops.EntryFull ∷ refuse_if (lacks_room (tree_summary h.tree) h.files 4) ops.NoSpace ∷ [])
+mkdir_refused h bytes p found works writable is f = rw (works, writable, is, f.parents, there (visible_tree h.tree p), f.nothing) refl
 
 pub mkdir_checked : (h : SessionView) (bytes : List ℕ) (p : Path) (found : FoundNode) (tree : TreeState) (len other : ℕ) (long absent over lack : Bool) (a b d e : Option Refusal) (r : Result Path Error) →
-    false ≡ h.tree.failed → true ≡ h.tree.writable → Some p ≡ parse_path bytes → OnlyReadsTree h.tree tree → IsFoundNode (shown_tree h.tree) p found →
+    false ≡ h.tree.failed → true ≡ h.tree.writable → Some p ≡ parse_path bytes → OnlyReadsTree h.tree tree → IsFoundNode (visible_tree h.tree) p found →
     len ≡ length (last_name p) → long ≡ nat_lt (profile_name_max tree.disk.profile) len → a ≡ refuse_if long ops.NameTooLong →
     absent ≡ is_absent found.node → b ≡ refuse_if (not absent) ops.Exist →
-    other ≡ length (last_name p) → ((name : List ℕ) → length name ≡ other → over ≡ exceeds_charge (tree_summary tree) name []) → d ≡ refuse_if over ops.EntryFull →
+    other ≡ length (last_name p) → ((name : List ℕ) → length name ≡ other → over ≡ exceeds_half_pair (tree_summary tree) name []) → d ≡ refuse_if over ops.EntryFull →
     lack ≡ lacks_room (tree_summary tree) h.files 4 → e ≡ refuse_if lack ops.NoSpace →
     r ≡ result_unless_refused (first_refusal (found.fault ∷ a ∷ b ∷ d ∷ e ∷ [])) p → IsChecksResult h (ops.Mkdir bytes) (λ path. path ≡ path_or_root bytes) r tree
 mkdir_checked h bytes p found tree len other long absent over lack a b d e r works writable is asked f len_is long_is a_is absent_is b_is other_is over_is d_is lack_is e_is r_is =
@@ -77,9 +77,9 @@ mkdir_checked h bytes p found tree len other long absent over lack a b d e r wor
     same = ap tree_summary asked.same
 
     lists : (found.fault ∷ a ∷ b ∷ d ∷ e ∷ []) ≡ (found.fault ∷ refuse_if (has_long_name (tree_summary h.tree) p) ops.NameTooLong ∷ refuse_if (not (is_absent found.node)) ops.Exist
-        ∷ refuse_if (exceeds_charge (tree_summary h.tree) (last_name p) []) ops.EntryFull ∷ refuse_if (lacks_room (tree_summary h.tree) h.files 4) ops.NoSpace ∷ [])
+        ∷ refuse_if (exceeds_half_pair (tree_summary h.tree) (last_name p) []) ops.EntryFull ∷ refuse_if (lacks_room (tree_summary h.tree) h.files 4) ops.NoSpace ∷ [])
     lists = both refl (both (when ops.NameTooLong a_is (long_is ∙ ap₂ (λ (around : DiskSummary) n. nat_lt (profile_name_max around.profile) n) same len_is)) (both (when ops.Exist b_is (ap not absent_is))
-        (both (when ops.EntryFull d_is (over_is (last_name p) (sym other_is) ∙ ap (λ around. exceeds_charge around (last_name p) []) same))
+        (both (when ops.EntryFull d_is (over_is (last_name p) (sym other_is) ∙ ap (λ around. exceeds_half_pair around (last_name p) []) same))
         (both (when ops.NoSpace e_is (lack_is ∙ ap (λ around. lacks_room around h.files 4) same)) refl))))
 
 -- ---- what no check refuses
@@ -108,10 +108,10 @@ pub mkdir_space : (h : SessionView) (bytes : List ℕ) → refusal_by_checks h (
 mkdir_space h bytes e =
     let a = neither (refuse_if (not h.tree.writable) ops.ReadOnly) _ (not_refused h (ops.Mkdir bytes) e) in
     let b = neither (refuse_if (is_none (parse_path bytes)) ops.Invalid) _ a.1 in
-    let c = neither (parents_refusal (shown_tree h.tree) [] (path_or_root bytes)) _ b.1 in
+    let c = neither (parents_refusal (visible_tree h.tree) [] (path_or_root bytes)) _ b.1 in
     let d = neither (refuse_if (has_long_name (tree_summary h.tree) (path_or_root bytes)) ops.NameTooLong) _ c.1 in
-    let i = neither (refuse_if (is_some (shown_tree h.tree (path_or_root bytes))) ops.Exist) _ d.1 in
-    let j = neither (refuse_if (exceeds_charge (tree_summary h.tree) (last_name (path_or_root bytes)) []) ops.EntryFull) _ i.1 in
+    let i = neither (refuse_if (is_some (visible_tree h.tree (path_or_root bytes))) ops.Exist) _ d.1 in
+    let j = neither (refuse_if (exceeds_half_pair (tree_summary h.tree) (last_name (path_or_root bytes)) []) ops.EntryFull) _ i.1 in
     let k = neither (refuse_if (lacks_room (tree_summary h.tree) h.files 4) ops.NoSpace) None j.1 in
     unrefused (lacks_room (tree_summary h.tree) h.files 4) ops.NoSpace k.0
 
@@ -157,20 +157,20 @@ no_writing f = go f.unknown f.write f.read f.create f.exclusive f.truncate f.app
 abbrev is_busy : SessionView → Path → Bool
 is_busy h p = list_any (λ w. same_path p w.path) (all_writers h.files) || nat_le 16 (length (all_readers h.files))
 
-open_refused : (h : SessionView) (bytes : List ℕ) (p : Path) (flags : FlagsOfOpen) (found : FoundNode) → h.tree.failed ≡ false → parse_path bytes ≡ Some p → flags.write ≡ false → flags_allowed flags ≡ true → IsFoundNode (shown_tree h.tree) p found →
+open_refused : (h : SessionView) (bytes : List ℕ) (p : Path) (flags : FlagsOfOpen) (found : FoundNode) → h.tree.failed ≡ false → parse_path bytes ≡ Some p → flags.write ≡ false → flags_allowed flags ≡ true → IsFoundNode (visible_tree h.tree) p found →
     refusal_by_checks h (ops.Open bytes flags) ≡ first_refusal (found.fault ∷ refuse_if (is_absent found.node) ops.NoEnt ∷ refuse_if (is_directory_node found.node) ops.IsDir ∷ refuse_if (is_busy h p) ops.Busy ∷ [])
-open_refused h bytes p flags found works is write allowed f = go (is_none (shown_tree h.tree p)) refl
+open_refused h bytes p flags found works is write allowed f = go (is_none (visible_tree h.tree p)) refl
   where
     plain : (flags.create ≡ false) × (flags.exclusive ≡ false) × (flags.truncate ≡ false)
     plain = no_writing flags write allowed
 
-    go : (b : Bool) → is_none (shown_tree h.tree p) ≡ b →
+    go : (b : Bool) → is_none (visible_tree h.tree p) ≡ b →
         refusal_by_checks h (ops.Open bytes flags) ≡ first_refusal (found.fault ∷ refuse_if (is_absent found.node) ops.NoEnt ∷ refuse_if (is_directory_node found.node) ops.IsDir ∷ refuse_if (is_busy h p) ops.Busy ∷ [])
     go true e = rw (works, allowed, write, is, f.parents, e, sym f.nothing ∙ e, plain.0) refl
-    go false e = rw (works, allowed, write, is, f.parents, e, sym f.nothing ∙ e, there (shown_tree h.tree p) ∙ ap not e, plain.1, plain.2, f.directories) refl
+    go false e = rw (works, allowed, write, is, f.parents, e, sym f.nothing ∙ e, there (visible_tree h.tree p) ∙ ap not e, plain.1, plain.2, f.directories) refl
 
 pub open_checked : (h : SessionView) (bytes : List ℕ) (p : Path) (flags : FlagsOfOpen) (found : FoundNode) (tree : TreeState) (absent directory busy : Bool) (a b d : Option Refusal) (x : FileContents) (r : Result FileContents Error) →
-    (is_file (shown_tree h.tree p) ≡ true → IsStorageAt h.tree.pairs p x) → false ≡ h.tree.failed → Some p ≡ parse_path bytes → flags.write ≡ false → true ≡ flags_allowed flags → OnlyReadsTree h.tree tree → IsFoundNode (shown_tree h.tree) p found →
+    (is_file (visible_tree h.tree p) ≡ true → IsStorageAt h.tree.pairs p x) → false ≡ h.tree.failed → Some p ≡ parse_path bytes → flags.write ≡ false → true ≡ flags_allowed flags → OnlyReadsTree h.tree tree → IsFoundNode (visible_tree h.tree) p found →
     absent ≡ is_absent found.node → a ≡ refuse_if absent ops.NoEnt → directory ≡ is_directory_node found.node → b ≡ refuse_if directory ops.IsDir → busy ≡ is_busy h p → d ≡ refuse_if busy ops.Busy →
     r ≡ result_unless_refused (first_refusal (found.fault ∷ a ∷ b ∷ d ∷ [])) x →
     IsChecksResult h (ops.Open bytes flags) (IsReadableFile h.tree h.files bytes) r tree
@@ -208,7 +208,7 @@ open_checked h bytes p flags found tree absent directory busy a b d x r has work
         record {
           readable = record {
             given = ap is_some (sym is);
-            there = ap (λ q. is_none (shown_tree h.tree q)) (sym path) ∙ f.nothing ∙ there;
+            there = ap (λ q. is_none (visible_tree h.tree q)) (sym path) ∙ f.nothing ∙ there;
             few = second (list_any (λ w. same_path p w.path) (all_writers h.files)) (nat_le 16 (length (all_readers h.files))) free;
             apart = ap (λ q. list_any (λ w. same_path q w.path) (all_writers h.files)) (sym path) ∙ first (list_any (λ w. same_path p w.path) (all_writers h.files)) (nat_le 16 (length (all_readers h.files))) free;
           };

@@ -2,15 +2,15 @@
 use Rattle.std.proofs.Common.{◌≡◌, false, List, [], ◌∷◌, ◌++◌, Result, refl, sym, ap, subst, ◌∙◌}
 use Rattle.lfs_device.specs.declared.device.BlockDevice.{Ghosts}
 use Rattle.lfs_device.specs.declared.error.Error.{Error}
-use Rattle.lfs_fs.proofs.Common.{Blocks, Disk, CallEvent, AllCalls, LeftByLatest, IsRead, OnlyReadsSince, call_reads, Operation, OnlyReadsTree, TreeState, RuntimeFiles, IsChecksResult, session_view, HasSessionInvariant, DeviceConforms}
+use Rattle.lfs_fs.proofs.Common.{Blocks, Disk, CallEvent, AllCalls, LeftByLatestCall, IsRead, OnlyReadsSince, call_reads, Operation, OnlyReadsTree, TreeState, RuntimeFiles, IsChecksResult, session_view, HasSessionInvariant, DeviceConforms}
 use Rattle.lfs_model.specs.crash.Conformance.{CallsConform, CallConforms}
 use Rattle.lfs_model.proofs.Conformance.{conforms_next}
 use Rattle.lfs_fs.proofs.Answered.{asked_by_checks, checked_ready}
 
 -- of the device that is lent
-pub laws_met : {D : Type 0} (g : Ghosts D) (device : D) (t : TreeState) → g.blocks device ≡ t.disk.blocks → g.history device ≡ t.history → LeftByLatest (g.history device) (g.blocks device) → CallsConform (g.history device) → DeviceConforms t
+pub laws_met : {D : Type 0} (g : Ghosts D) (device : D) (t : TreeState) → g.blocks device ≡ t.disk.blocks → g.history device ≡ t.history → LeftByLatestCall (g.history device) (g.blocks device) → CallsConform (g.history device) → DeviceConforms t
 laws_met g device t blocks history newest conforms = record {
-  newest = subst (λ (bs : Blocks). LeftByLatest t.history bs) blocks (subst (λ (h : List CallEvent). LeftByLatest h (g.blocks device)) history newest);
+  newest = subst (λ (bs : Blocks). LeftByLatestCall t.history bs) blocks (subst (λ (h : List CallEvent). LeftByLatestCall h (g.blocks device)) history newest);
   conforms = subst CallsConform history conforms;
 }
 
@@ -31,11 +31,11 @@ left_by (e ∷ older) = e.after
 
 reported_later : (t new : TreeState) → DeviceConforms t → OnlyReadsSince t.disk.blocks t.history new.history → new.disk ≡ t.disk → DeviceConforms new
 reported_later t new reported reads same = record {
-  newest = subst (λ (d : Disk). LeftByLatest new.history d.blocks) (sym same) (subst (λ h. LeftByLatest h t.disk.blocks) (sym reads.extends) (newest_on reads.events reads.each));
+  newest = subst (λ (d : Disk). LeftByLatestCall new.history d.blocks) (sym same) (subst (λ h. LeftByLatestCall h t.disk.blocks) (sym reads.extends) (newest_on reads.events reads.each));
   conforms = subst CallsConform (sym reads.extends) (conforming_on reads.events reads.each);
 }
   where
-    newest_on : (events : List CallEvent) → AllCalls (IsRead t.disk.blocks) events → LeftByLatest (events ++ t.history) t.disk.blocks
+    newest_on : (events : List CallEvent) → AllCalls (IsRead t.disk.blocks) events → LeftByLatestCall (events ++ t.history) t.disk.blocks
     newest_on [] each = reported.newest
     newest_on (e ∷ events) each = λ first older is. ap left_by (sym is) ∙ each.0.after
 

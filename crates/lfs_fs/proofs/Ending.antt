@@ -1,7 +1,7 @@
 -- How each of a session's calls ends.
 use Rattle.std.proofs.Common.{◌≡◌, Bool, true, false, cond, Some, None, Result, Ok, Err, refl, sym, ap, subst, ◌∙◌}
 use Rattle.std.specs.Prelude.{◌⊎◌, OnOk, IfErr, is_err}
-use Rattle.lfs_fs.proofs.Common.{same_Some, fault_count, Failed, Operation, Refusal, Reply, operation_refusal, OpenFilesByNumber, is_refusal, error_refusal, OnlyReadsTree, HasErrorCause, HasMountCause, IsRemountedTree, TreeState, tree_summary, refused_before_search, needs_session_alone, MeetsReplyRules, RuntimeFiles, IsChecksResult, PassesEarlyChecks, FailsChecks, SessionView, session_view, view_with_files, refusal_by_checks, viewed_session, reply_from}
+use Rattle.lfs_fs.proofs.Common.{same_Some, fault_count, Failed, Operation, Refusal, Reply, operation_refusal, OpenFilesByNumber, is_refusal, error_refusal, OnlyReadsTree, HasErrorCause, HasMountCause, IsRemountedTree, TreeState, tree_summary, refused_before_search, needs_session_alone, MeetsReplyRules, RuntimeFiles, IsChecksResult, PassesReadlessChecks, FailsChecks, SessionView, session_view, view_with_files, refusal_by_checks, viewed_session, reply_from}
 use Rattle.lfs_device.specs.declared.error.Error.{Error}
 use Rattle.lfs_device.specs.declared.error.Error.TheVariants.{Io, NoMemory}
 use Rattle.lfs_model.specs.session.Operations as ops
@@ -14,12 +14,12 @@ failed_first : (h : SessionView) (op : Operation) (r : Refusal) → refusal_by_c
 failed_first h op r e f = sym (same_Some Failed r (sym (ap (λ b. cond b (Some Failed) (operation_refusal (tree_summary h.tree) (viewed_session h) op)) f) ∙ e))
 
 -- no check refuses it
-unrefused_late : (old : SessionView) (op : Operation) → refusal_by_checks old op ≡ None → PassesEarlyChecks old op
+unrefused_late : (old : SessionView) (op : Operation) → refusal_by_checks old op ≡ None → PassesReadlessChecks old op
 unrefused_late old op e r f = absurd (let k : None ≡ Some r = sym e ∙ f in cc)
 
 -- ---- the session worked
 
-at_work : (old now : SessionView) (op : Operation) (r : Result Reply Error) (new : SessionView) → old ≡ now → old.tree.failed ≡ false → PassesEarlyChecks old op → (is_err r ≡ false → fault_count new.tree.history ≡ fault_count old.tree.history) →
+at_work : (old now : SessionView) (op : Operation) (r : Result Reply Error) (new : SessionView) → old ≡ now → old.tree.failed ≡ false → PassesReadlessChecks old op → (is_err r ≡ false → fault_count new.tree.history ≡ fault_count old.tree.history) →
     (needs_session_alone (viewed_session old) op ≡ true → is_err r ≡ false) → MeetsReplyRules now op r new
 at_work old now op r new same works late calm quiet = subst (λ z. MeetsReplyRules z op r new) same (record {
   failed = λ f other. absurd (let k = sym works ∙ f in cc);
@@ -33,7 +33,7 @@ pub answer_ends : (old now : SessionView) (op : Operation) (reply : Reply) (new 
 answer_ends old now op reply new same e calm = at_work old now op (Ok reply) new same (not_failed old op e) (unrefused_late old op e) (λ k. calm) (λ k. refl)
 
 -- by an error
-error_late : (old now : SessionView) (op : Operation) (e : Error) (new : SessionView) → old ≡ now → old.tree.failed ≡ false → PassesEarlyChecks old op → needs_session_alone (viewed_session old) op ≡ false → MeetsReplyRules now op (Err e) new
+error_late : (old now : SessionView) (op : Operation) (e : Error) (new : SessionView) → old ≡ now → old.tree.failed ≡ false → PassesReadlessChecks old op → needs_session_alone (viewed_session old) op ≡ false → MeetsReplyRules now op (Err e) new
 error_late old now op e new same works late takes = at_work old now op (Err e) new same works late (λ k. absurd (cc)) (λ k. absurd (let l = sym takes ∙ k in cc))
 
 pub error_ends : (old now : SessionView) (op : Operation) (e : Error) (new : SessionView) → old ≡ now → refusal_by_checks old op ≡ None → needs_session_alone (viewed_session old) op ≡ false → MeetsReplyRules now op (Err e) new

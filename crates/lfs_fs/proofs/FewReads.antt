@@ -1,7 +1,7 @@
 -- How many reads a look-up makes, by its device calls.
 use Rattle.std.proofs.Common.{ℕ, ◌≡◌, ◌≤◌, ◌+◌, List, [], ◌∷◌, ◌++◌, Option, Some, unwrap_or, ap, arith}
 use Rattle.std.specs.Prelude.{sum_by}
-use Rattle.lfs_fs.proofs.Common.{ReadsEachOnce, directory_pair_count, CallEvent, read_count, Operation, parse_path, path_or_root, Path, TreeState, ReadsSearched}
+use Rattle.lfs_fs.proofs.Common.{ReadsEachPairOnce, directory_pair_count, CallEvent, read_count, Operation, parse_path, path_or_root, Path, TreeState, ReadsSearchedPairsOnce}
 
 -- a bound by the path of bytes
 pub few_given : (old new : TreeState) (f : Path → List Path) (bytes : List ℕ) (p : Path) → Some p ≡ parse_path bytes → read_count new.history ≤ read_count old.history + sum_by (directory_pair_count old.pairs) (f p)
@@ -15,7 +15,7 @@ reads_over [] older = omega arith
 reads_over (e ∷ calls) older = let k = reads_over calls older in omega (arith, k)
 
 -- by the calls that came
-pub reads_few : (old new : TreeState) (op : Operation) → ReadsSearched old op new → (calls : List CallEvent) → new.history ≡ calls ++ old.history → ReadsEachOnce old.pairs op calls
+pub reads_few : (old new : TreeState) (op : Operation) → ReadsSearchedPairsOnce old op new → (calls : List CallEvent) → new.history ≡ calls ++ old.history → ReadsEachPairOnce old.pairs op calls
 reads_few old new op few calls is looks =
     let e = ap read_count is in
     let k = reads_over calls old.history in

@@ -1,6 +1,6 @@
 -- A session just after a format or a mount.
 use Rattle.std.proofs.Common.{◌≡◌, ◌∙◌, false, cond, List, [], refl, ap, ap₂, subst}
-use Rattle.lfs_fs.proofs.Common.{content_at, Disk, block_count, CallEvent, IsMounted, OpenFilesByNumber, HasFailed, Healthy, mounted_session, Pair, Tree, IsAccepted, disk_tree, one_thread, IsMountedTree, TreeState, RuntimeFiles, files_view, SessionView, session_view, system_state, viewed_session}
+use Rattle.lfs_fs.proofs.Common.{content_at, Disk, block_count, CallEvent, IsJustMounted, OpenFilesByNumber, HasFailed, Healthy, mounted_session, Pair, Tree, IsAccepted, disk_tree, one_thread, IsMountedTree, TreeState, RuntimeFiles, files_view, SessionView, session_view, system_state, viewed_session}
 use Rattle.lfs_model.specs.tree.Fresh.{IsFreshDisk, empty_tree}
 use Rattle.lfs_model.proofs.Fresh.{accepted, shows}
 
@@ -12,7 +12,7 @@ fresh_state h works none ok fresh =
     ap (λ b. cond b HasFailed (Healthy (viewed_session h))) works
     ∙ ap₂ (λ (t : Tree) (f : OpenFilesByNumber). Healthy (record { tree = t; files = f })) (tree_is_empty h.tree.disk h.tree.pairs fresh ok) none
 
-pub mount_state : (disk : Disk) (history : List CallEvent) (t : TreeState) (files : RuntimeFiles) → IsMountedTree disk history t → files ≡ [] → IsMounted disk (system_state (session_view t files))
+pub mount_state : (disk : Disk) (history : List CallEvent) (t : TreeState) (files : RuntimeFiles) → IsMountedTree disk history t → files ≡ [] → IsJustMounted disk (system_state (session_view t files))
 mount_state disk history t files m none = record {
   on = m.disk_is;
   tree = disk_tree disk t.pairs;

@@ -3,18 +3,18 @@ use Rattle.std.proofs.Common.{ℕ, ◌≡◌, ◌<◌, ◌∙◌, inl, inr, Bool
 use Rattle.std.specs.Prelude.{All, IfErr, IfOk, OnOk, nat_eq}
 use Rattle.std.specs.List.{IsDistinct}
 use Rattle.std.proofs.lemmas.List.Elements.{All-weaker}
-use Rattle.lfs_fs.proofs.Common.{profiled_disk, ordered_disk, Disk, block_count, OnlyReadsSince-trans, one_thread, content_at, CallEvent, OnlyReadsSince, fault_count, IsMounted, OpenFilesByNumber, SessionHealth, all_unmoved_slots, struct_blocks, used_blocks, Slot, Struct, Inline, Ctz, Branch, Pair, pairs_blocks, IsAccepted, disk_of_device, TreeState, OnlyReadsTree, RuntimeFiles, files_view, HasSessionInvariant, DeviceConforms, ReturnsUnchangedDevice, SessionView, session_view, view_with_files, system_state}
+use Rattle.lfs_fs.proofs.Common.{disk_with_profile, disk_with_order, Disk, block_count, OnlyReadsSince-trans, one_thread, content_at, CallEvent, OnlyReadsSince, fault_count, IsJustMounted, OpenFilesByNumber, SessionHealth, all_unmoved_slots, struct_blocks, used_blocks, Slot, Struct, Inline, Ctz, Branch, Pair, pairs_blocks, IsAccepted, disk_of_device, TreeState, OnlyReadsTree, RuntimeFiles, files_view, HasSessionInvariant, DeviceConforms, ReturnsUnchangedDevice, SessionView, session_view, view_with_files, system_state}
 use Rattle.lfs_device.specs.declared.device.BlockDevice.{Ghosts}
 use Rattle.lfs_device.specs.declared.error.Error.{Error}
 use Rattle.lfs_device.specs.declared.error.Error.TheVariants.{Corrupt}
 use Rattle.lfs_model.specs.format.EntryTypes.{SuperblockFields, superblock_fields}
-use Rattle.lfs_model.specs.tree.Profile.{limits_usable, profile_with_limits, image_fields}
-use Rattle.lfs_model.specs.tree.View.{IsFormedList, BeginsWithSuperblock, accepts_version, chain_pairs}
+use Rattle.lfs_model.specs.tree.Profile.{are_limits_usable, profile_with_limits, image_superblock_fields}
+use Rattle.lfs_model.specs.tree.View.{IsWellFormedList, BeginsWithSuperblock, accepts_version, superblock_chain_pairs}
 use Rattle.lfs_model.specs.declared.limits.Profile.{Profile}
 use Rattle.lfs_model.specs.declared.order.NameOrder.{NameOrder}
 use Rattle.lfs_model.specs.declared.order.NameOrder.TheVariants.{LongerFirst, ShorterFirst}
 use Rattle.lfs_tree.specs.TreeState.{ReadsTreeOrFails}
-use Rattle.lfs_fs.specs.ImageLimits.{FailedByRead, BeginsLimited, OnlyReadsSession}
+use Rattle.lfs_fs.specs.ImageLimits.{FailedByRead, BeginsWithImageLimits, OnlyReadsSession}
 use Rattle.lfs_fs.specs.SessionView.{BeginsByMount}
 use Rattle.lfs_fs.proofs.Answered.{asked_ready}
 
@@ -35,20 +35,20 @@ ready_if_read t new files (Err e) between reads left = record { ready = λ works
 -- ---- one image, by two profiles of the same versions
 
 module _ (disk : Disk) (from to : Profile) (same : from.versions ≡ to.versions) where
-  is_list : (s : Struct) → IsFormedList (profiled_disk from disk) s → IsFormedList (profiled_disk to disk) s
+  is_list : (s : Struct) → IsWellFormedList (disk_with_profile from disk) s → IsWellFormedList (disk_with_profile to disk) s
   is_list (Inline bytes) ok = ok
   is_list (Ctz head size) ok = ok
   is_list (Branch at) ok = ok
 
-  files : (s : Struct) → struct_blocks (profiled_disk from disk) s ≡ struct_blocks (profiled_disk to disk) s
+  files : (s : Struct) → struct_blocks (disk_with_profile from disk) s ≡ struct_blocks (disk_with_profile to disk) s
   files (Inline bytes) = refl
   files (Ctz head size) = refl
   files (Branch at) = refl
 
-  used : (ps : List Pair) → used_blocks (profiled_disk from disk) ps ≡ used_blocks (profiled_disk to disk) ps
+  used : (ps : List Pair) → used_blocks (disk_with_profile from disk) ps ≡ used_blocks (disk_with_profile to disk) ps
   used ps = ap (λ (f : Struct → List ℕ). pairs_blocks ps ++ flat_map (λ (s : Slot). f s.struct) (all_unmoved_slots ps)) (λ i s. files s i)
 
-  pub accepted_by : (ps : List Pair) → IsAccepted (profiled_disk from disk) ps → IsAccepted (profiled_disk to disk) ps
+  pub accepted_by : (ps : List Pair) → IsAccepted (disk_with_profile from disk) ps → IsAccepted (disk_with_profile to disk) ps
   accepted_by ps ok =
       let (bytes, (struct, chain)) = ok.superblock in
       record {
@@ -60,7 +60,7 @@ module _ (disk : Disk) (from to : Profile) (same : from.versions ≡ to.versions
           bytes,
           (
             record { len = struct.len; version = subst (λ v. accepts_version v (superblock_fields bytes).version ≡ true) same struct.version; block_size = struct.block_size; block_count = struct.block_count },
-            subst (λ v. All (λ (p : Pair). BeginsWithSuperblock v bytes p.content.slots) (chain_pairs ps)) same chain,
+            subst (λ v. All (λ (p : Pair). BeginsWithSuperblock v bytes p.content.slots) (superblock_chain_pairs ps)) same chain,
           ),
         );
         slots = ok.slots;
@@ -69,12 +69,12 @@ module _ (disk : Disk) (from to : Profile) (same : from.versions ≡ to.versions
         once = ok.once;
         reached = ok.reached;
         move = ok.move;
-        lists = All-weaker (λ (s : Slot). IsFormedList (profiled_disk from disk) s.struct) (λ (s : Slot). IsFormedList (profiled_disk to disk) s.struct) (λ s. is_list s.struct) (all_unmoved_slots ps) ok.lists;
+        lists = All-weaker (λ (s : Slot). IsWellFormedList (disk_with_profile from disk) s.struct) (λ (s : Slot). IsWellFormedList (disk_with_profile to disk) s.struct) (λ s. is_list s.struct) (all_unmoved_slots ps) ok.lists;
         owned_once = subst (IsDistinct nat_eq) (used ps) ok.owned_once;
       }
 
 pub same_versions : (fields : SuperblockFields) (profile : Profile) → (profile_with_limits fields profile).versions ≡ profile.versions
-same_versions fields profile = go (limits_usable fields)
+same_versions fields profile = go (are_limits_usable fields)
   where
     limits : Profile
     limits = record profile { name_max = fields.name_max; file_max = fields.file_max; attr_max = fields.attr_max }
@@ -86,7 +86,7 @@ same_versions fields profile = go (limits_usable fields)
 -- if the superblock's limits are the profile's, the profile with these limits is the same
 pub same_limits : (fields : SuperblockFields) (profile limits : Profile) → limits ≡ profile_with_limits fields profile → (limits.name_max ≡ profile.name_max) × (limits.file_max ≡ profile.file_max) × (limits.attr_max ≡ profile.attr_max) → limits ≡ profile
 same_limits fields profile limits is same =
-    is ∙ go (limits_usable fields) (sym (ap (λ (k : Profile). k.name_max) is) ∙ same.0) (sym (ap (λ (k : Profile). k.file_max) is) ∙ same.1) (sym (ap (λ (k : Profile). k.attr_max) is) ∙ same.2)
+    is ∙ go (are_limits_usable fields) (sym (ap (λ (k : Profile). k.name_max) is) ∙ same.0) (sym (ap (λ (k : Profile). k.file_max) is) ∙ same.1) (sym (ap (λ (k : Profile). k.attr_max) is) ∙ same.2)
   where
     made : ℕ → ℕ → ℕ → Profile
     made n f a = record profile { name_max = n; file_max = f; attr_max = a }
@@ -97,7 +97,7 @@ same_limits fields profile limits is same =
     go false n f a = refl
 
 -- the pairs don't depend on the order of names or the profile
-pub same_pairs : (disk : Disk) (order other : NameOrder) (from to : Profile) (ps qs : List Pair) → IsAccepted (ordered_disk order (profiled_disk from disk)) ps → IsAccepted (ordered_disk other (profiled_disk to disk)) qs → ps ≡ qs
+pub same_pairs : (disk : Disk) (order other : NameOrder) (from to : Profile) (ps qs : List Pair) → IsAccepted (disk_with_order order (disk_with_profile from disk)) ps → IsAccepted (disk_with_order other (disk_with_profile to disk)) qs → ps ≡ qs
 same_pairs disk order other from to ps qs one two = one_thread (content_at disk) (block_count disk) ps qs one.thread two.thread
 
 -- ---- a mounted session that was only read since then
@@ -112,7 +112,7 @@ begun_read disk history s new begun read = record {
   no_files = read.files ∙ begun.no_files;
 }
 
-just_read : (disk : Disk) (s new : SessionView) → IsMounted disk (system_state s) → OnlyReadsSession s new → IsMounted disk (system_state new)
+just_read : (disk : Disk) (s new : SessionView) → IsJustMounted disk (system_state s) → OnlyReadsSession s new → IsJustMounted disk (system_state new)
 just_read disk s new just read = record {
   on = ap (λ (t : TreeState). t.disk) read.tree.same ∙ just.on;
   tree = just.tree;
@@ -127,14 +127,14 @@ just_read disk s new just read = record {
 
 -- the device was only read, by calls that didn't fail
 pub record OnlyReadsDevice {D : Type 0} (g : Ghosts D) (device back : D) : Type 0 where
-  pub disk : (order : NameOrder) (limits : Profile) → ordered_disk order (profiled_disk limits (disk_of_device g back)) ≡ ordered_disk order (profiled_disk limits (disk_of_device g device))
+  pub disk : (order : NameOrder) (limits : Profile) → disk_with_order order (disk_with_profile limits (disk_of_device g back)) ≡ disk_with_order order (disk_with_profile limits (disk_of_device g device))
   pub reads : OnlyReadsSince (g.blocks device) (g.history device) (g.history back)
   pub no_fault : fault_count (g.history back) ≡ fault_count (g.history device)
 
 module _ {D : Type 0} (g : Ghosts D) (device : D) (profile : Profile) (s read : SessionView)
-    (begun : BeginsByMount (ordered_disk s.tree.disk.order (profiled_disk profile (disk_of_device g device))) (g.history device) s) where
+    (begun : BeginsByMount (disk_with_order s.tree.disk.order (disk_with_profile profile (disk_of_device g device))) (g.history device) s) where
   abbrev below : NameOrder → Profile → Disk
-  below order limits = ordered_disk order (profiled_disk limits (disk_of_device g device))
+  below order limits = disk_with_order order (disk_with_profile limits (disk_of_device g device))
 
   its_profile : s.tree.disk.profile ≡ profile
   its_profile = ap (λ (d : Disk). d.profile) begun.disk_is
@@ -145,16 +145,16 @@ module _ {D : Type 0} (g : Ghosts D) (device : D) (profile : Profile) (s read : 
     is_below : below s.tree.disk.order profile ≡ below read.tree.disk.order read.tree.disk.profile
     is_below = ap₂ below (sym (ap (λ (t : TreeState). t.disk.order) only.tree.same)) (sym (ap (λ (t : TreeState). t.disk.profile) only.tree.same ∙ its_profile))
 
-    pub begun_at_once : (fields : SuperblockFields) (limits : Profile) → image_fields s.tree.pairs ≡ Some fields → limits ≡ profile_with_limits fields profile → limits ≡ profile → BeginsLimited (disk_of_device g device) (g.history device) profile read
+    pub begun_at_once : (fields : SuperblockFields) (limits : Profile) → image_superblock_fields s.tree.pairs ≡ Some fields → limits ≡ profile_with_limits fields profile → limits ≡ profile → BeginsWithImageLimits (disk_of_device g device) (g.history device) profile read
     begun_at_once fields limits has limits_is same = record {
       fields = fields;
-      superblock = ap (λ (t : TreeState). image_fields t.pairs) only.tree.same ∙ has;
+      superblock = ap (λ (t : TreeState). image_superblock_fields t.pairs) only.tree.same ∙ has;
       limits = ap (λ (t : TreeState). t.disk.profile) only.tree.same ∙ its_profile ∙ sym same ∙ limits_is;
       begun = subst (λ d. BeginsByMount d (g.history device) read) is_below (begun_read (below s.tree.disk.order profile) (g.history device) s read begun only);
     }
 
-    pub just_at_once : IsMounted (below s.tree.disk.order profile) (system_state s) → IsMounted (below read.tree.disk.order read.tree.disk.profile) (system_state read)
-    just_at_once just = subst (λ d. IsMounted d (system_state read)) is_below (just_read (below s.tree.disk.order profile) s read just only)
+    pub just_at_once : IsJustMounted (below s.tree.disk.order profile) (system_state s) → IsJustMounted (below read.tree.disk.order read.tree.disk.profile) (system_state read)
+    just_at_once just = subst (λ d. IsJustMounted d (system_state read)) is_below (just_read (below s.tree.disk.order profile) s read just only)
 
     pub longer_at_once : (s.tree.disk.order ≡ ShorterFirst → (ps : List Pair) → IsAccepted (below LongerFirst profile) ps → ⊥) → read.tree.disk.order ≡ ShorterFirst → (ps : List Pair) → IsAccepted (below LongerFirst read.tree.disk.profile) ps → ⊥
     longer_at_once longer short ps ok =
@@ -162,14 +162,14 @@ module _ {D : Type 0} (g : Ghosts D) (device : D) (profile : Profile) (s read : 
 
   -- ---- the device of the session
 
-  same_below : (kept : Profile) (back : D) → ordered_disk read.tree.disk.order (profiled_disk kept (disk_of_device g back)) ≡ read.tree.disk → read.tree.disk ≡ s.tree.disk → (order : NameOrder) (limits : Profile) →
-      ordered_disk order (profiled_disk limits (disk_of_device g back)) ≡ below order limits
-  same_below kept back given same order limits = ap (λ (d : Disk). ordered_disk order (profiled_disk limits d)) (given ∙ same ∙ begun.disk_is)
+  same_below : (kept : Profile) (back : D) → disk_with_order read.tree.disk.order (disk_with_profile kept (disk_of_device g back)) ≡ read.tree.disk → read.tree.disk ≡ s.tree.disk → (order : NameOrder) (limits : Profile) →
+      disk_with_order order (disk_with_profile limits (disk_of_device g back)) ≡ below order limits
+  same_below kept back given same order limits = ap (λ (d : Disk). disk_with_order order (disk_with_profile limits d)) (given ∙ same ∙ begun.disk_is)
 
   read_on : read.tree.disk ≡ s.tree.disk → OnlyReadsSince s.tree.disk.blocks s.tree.history read.tree.history → OnlyReadsSince (g.blocks device) (g.history device) read.tree.history
   read_on same reads = OnlyReadsSince-trans begun.reads reads (ap (λ (d : Disk). d.blocks) begun.disk_is)
 
-  pub given_back : (kept : Profile) (inner back : D) → back ≡ inner → ordered_disk read.tree.disk.order (profiled_disk kept (disk_of_device g inner)) ≡ read.tree.disk → g.history inner ≡ read.tree.history → OnlyReadsSession s read → OnlyReadsDevice g device back
+  pub given_back : (kept : Profile) (inner back : D) → back ≡ inner → disk_with_order read.tree.disk.order (disk_with_profile kept (disk_of_device g inner)) ≡ read.tree.disk → g.history inner ≡ read.tree.history → OnlyReadsSession s read → OnlyReadsDevice g device back
   given_back kept inner back is disk history only =
       let same = ap (λ (t : TreeState). t.disk) only.tree.same in
       subst (OnlyReadsDevice g device) (sym is) (record {
@@ -179,7 +179,7 @@ module _ {D : Type 0} (g : Ghosts D) (device : D) (profile : Profile) (s read : 
       })
 
   -- if its superblock can't be read
-  pub failing_back : (kept : Profile) (inner back : D) (e : Error) → back ≡ inner → ordered_disk read.tree.disk.order (profiled_disk kept (disk_of_device g inner)) ≡ read.tree.disk → g.history inner ≡ read.tree.history → FailedByRead s read e →
+  pub failing_back : (kept : Profile) (inner back : D) (e : Error) → back ≡ inner → disk_with_order read.tree.disk.order (disk_with_profile kept (disk_of_device g inner)) ≡ read.tree.disk → g.history inner ≡ read.tree.history → FailedByRead s read e →
       ReturnsUnchangedDevice g device back e
   failing_back kept inner back e is disk history (inl failed) = absurd (let k = sym failed.0 ∙ begun.works in cc)
   failing_back kept inner back e is disk history (inr (works, broken, error)) =
@@ -194,7 +194,7 @@ module _ {D : Type 0} (g : Ghosts D) (device : D) (profile : Profile) (s read : 
 
   module _ (back : D) (again : OnlyReadsDevice g device back) (limits : Profile) where
     abbrev first : NameOrder → Disk
-    first order = ordered_disk order (profiled_disk limits (disk_of_device g back))
+    first order = disk_with_order order (disk_with_profile limits (disk_of_device g back))
 
     begun_earlier : (h : SessionView) → BeginsByMount (first h.tree.disk.order) (g.history back) h → BeginsByMount (below h.tree.disk.order limits) (g.history device) h
     begun_earlier h later = record {
@@ -209,26 +209,26 @@ module _ {D : Type 0} (g : Ghosts D) (device : D) (profile : Profile) (s read : 
     new_profile : (h : SessionView) → h.tree.disk ≡ first h.tree.disk.order → limits ≡ h.tree.disk.profile
     new_profile h is = sym (ap (λ (d : Disk). d.profile) is)
 
-    begun_again : (fields : SuperblockFields) (h : SessionView) → image_fields s.tree.pairs ≡ Some fields → limits ≡ profile_with_limits fields profile → BeginsByMount (first h.tree.disk.order) (g.history back) h → BeginsLimited (disk_of_device g device) (g.history device) profile h
+    begun_again : (fields : SuperblockFields) (h : SessionView) → image_superblock_fields s.tree.pairs ≡ Some fields → limits ≡ profile_with_limits fields profile → BeginsByMount (first h.tree.disk.order) (g.history back) h → BeginsWithImageLimits (disk_of_device g device) (g.history device) profile h
     begun_again fields h has limits_is later =
         let earlier = begun_earlier h later in
         record {
           fields = fields;
-          superblock = ap image_fields (same_pairs (disk_of_device g device) h.tree.disk.order s.tree.disk.order limits profile h.tree.pairs s.tree.pairs earlier.accepted begun.accepted) ∙ has;
+          superblock = ap image_superblock_fields (same_pairs (disk_of_device g device) h.tree.disk.order s.tree.disk.order limits profile h.tree.pairs s.tree.pairs earlier.accepted begun.accepted) ∙ has;
           limits = sym (new_profile h later.disk_is) ∙ limits_is;
           begun = subst (λ k. BeginsByMount (below h.tree.disk.order k) (g.history device) h) (new_profile h later.disk_is) earlier;
         }
 
-    pub begun_if_ok : {A : Type 0} (fields : SuperblockFields) (r : Result SessionView A) → image_fields s.tree.pairs ≡ Some fields → limits ≡ profile_with_limits fields profile → IfOk r (λ h. BeginsByMount (first h.tree.disk.order) (g.history back) h) →
-        IfOk r (BeginsLimited (disk_of_device g device) (g.history device) profile)
+    pub begun_if_ok : {A : Type 0} (fields : SuperblockFields) (r : Result SessionView A) → image_superblock_fields s.tree.pairs ≡ Some fields → limits ≡ profile_with_limits fields profile → IfOk r (λ h. BeginsByMount (first h.tree.disk.order) (g.history back) h) →
+        IfOk r (BeginsWithImageLimits (disk_of_device g device) (g.history device) profile)
     begun_if_ok fields (Ok h) has limits_is later = begun_again fields h has limits_is later
     begun_if_ok fields (Err e) has limits_is later = tt
 
-    pub just_if_ok : {A : Type 0} (r : Result SessionView A) → IfOk r (λ h. BeginsByMount (first h.tree.disk.order) (g.history back) h) → IfOk r (λ h. IsMounted (first h.tree.disk.order) (system_state h)) →
-        IfOk r (λ h. IsMounted (below h.tree.disk.order h.tree.disk.profile) (system_state h))
+    pub just_if_ok : {A : Type 0} (r : Result SessionView A) → IfOk r (λ h. BeginsByMount (first h.tree.disk.order) (g.history back) h) → IfOk r (λ h. IsJustMounted (first h.tree.disk.order) (system_state h)) →
+        IfOk r (λ h. IsJustMounted (below h.tree.disk.order h.tree.disk.profile) (system_state h))
     just_if_ok (Ok h) later just =
-        subst (λ k. IsMounted (below h.tree.disk.order k) (system_state h)) (new_profile h later.disk_is)
-        (subst (λ d. IsMounted d (system_state h)) (again.disk h.tree.disk.order limits) just)
+        subst (λ k. IsJustMounted (below h.tree.disk.order k) (system_state h)) (new_profile h later.disk_is)
+        (subst (λ d. IsJustMounted d (system_state h)) (again.disk h.tree.disk.order limits) just)
     just_if_ok (Err e) later just = tt
 
     pub longer_if_ok : {A : Type 0} (r : Result SessionView A) → IfOk r (λ h. BeginsByMount (first h.tree.disk.order) (g.history back) h) → IfOk r (λ h. h.tree.disk.order ≡ ShorterFirst → (ps : List Pair) → IsAccepted (first LongerFirst) ps → ⊥) →
@@ -242,7 +242,7 @@ module _ {D : Type 0} (g : Ghosts D) (device : D) (profile : Profile) (s read : 
     corrupt_if_err fields (Ok x) limits_is corrupt = tt
     corrupt_if_err fields (Err e) limits_is corrupt = λ is order ps ok.
         corrupt is order ps (subst (λ d. IsAccepted d ps) (sym (again.disk order limits))
-        (accepted_by (ordered_disk order (disk_of_device g device)) profile limits (sym (ap (λ (k : Profile). k.versions) limits_is ∙ same_versions fields profile)) ps ok))
+        (accepted_by (disk_with_order order (disk_of_device g device)) profile limits (sym (ap (λ (k : Profile). k.versions) limits_is ∙ same_versions fields profile)) ps ok))
 
     back_again : (end : D) (e : Error) → ReturnsUnchangedDevice g back end e → ReturnsUnchangedDevice g device end e
     back_again end e given = record {

@@ -1,12 +1,12 @@
 -- Open files, in the code and in the definitions.
 use Rattle.std.proofs.Common.{ℕ, zero, suc, fold, unwrap_or, ◌≡◌, ◌+◌, ◌<◌, ◌≤◌, ◌||◌, Bool, true, false, cond, not, List, [], ◌∷◌, ◌++◌, length, map, set, Option, Some, None, is_some, is_none, nat_le, nat_lt, refl, sym, ap, ap₂, subst, ◌∙◌, arith}
 use Rattle.std.specs.Prelude.{slice_get, sum_by}
-use Rattle.lfs_fs.proofs.Common.{AllByRecursion, list_any, option_flatten, option_map, lt-ltb, ltb-true, same_Some, inline_limit, contents_form, FormFitsWriter, ContentsForm, IsWriterForm, nat_tests, map-set, map-append, same_path, Path, has_open_file, Reading, file_numbered, free_number_of, reserved_for_writers, reserved_for_writer, files_with_file, file_reader, all_readers, all_writers, path_or_root, repositioned_file, parse_path, block_count, lacks_room, TreeState, OnlyReadsTree, tree_summary, RuntimeFiles, prepended, selected_files, unsaved_or_tree, open_file_at, file_view, files_view, lowest_free, has_unsaved, is_open_where, is_unsaved_writer, writers_reserve, writer_reserve, contents_reserve, file_with_known, file_with_position, runtime_files_with, reader_if_any, reader_view, readers_among, is_unsaved_turned, writer_if_any, writer_view, writers_among, writers_paths, HasKnownBlocks, IsCurrentReader, IsReady, AreUnsavedIfAny, IsWriterReady}
+use Rattle.lfs_fs.proofs.Common.{AllByRecursion, list_any, option_flatten, option_map, lt-ltb, ltb-true, same_Some, inline_limit, contents_form, FormFitsWriter, ContentsForm, IsWriterForm, nat_tests, map-set, map-append, same_path, Path, has_open_file, Reading, file_numbered, free_number_of, reserved_for_writers, reserved_for_writer, files_with_file, file_reader, all_readers, all_writers, path_or_root, repositioned_file, parse_path, block_count, lacks_room, TreeState, OnlyReadsTree, tree_summary, RuntimeFiles, prepend_if_some, filter_map_files, draft_or_stored_bytes, open_file_at, file_view, files_view, lowest_free_fd, has_unsaved, is_open_where, is_writer_with_draft, writers_block_reserve, writer_block_reserve, draft_block_reserve, file_with_index_cache, file_with_position, files_with_entry, as_reader, reader_view, readers_among, is_draft_nonsequential, writer_if_any, writer_view, writers_among, writers_paths, HasValidIndexCache, IsCurrentReader, IsReady, AreSoundIfUnsaved, IsWriterReady}
 use Rattle.lfs_model.specs.declared.limits.Profile.{Profile}
 use Rattle.lfs_file.specs.Form as form
 use Rattle.std.proofs.lemmas.Option.{slice_get-map}
 use Rattle.lfs_model.specs.session.Session as session
-use Rattle.lfs_file.specs.declared.known.KnownBlocks.{KnownBlocks}
+use Rattle.lfs_file.specs.declared.known.IndexCache.{IndexCache}
 use Rattle.lfs_fs.specs.declared.files.OpenFile.{OpenFile}
 use Rattle.lfs_fs.specs.declared.files.OpenFile.TheVariants as file
 use Rattle.lfs_fs.specs.declared.files.Reader.{Reader}
@@ -28,7 +28,7 @@ pub is_there : (t : TreeState) (o : Option OpenFile) → is_some (option_map (fi
 is_there t None = refl
 is_there t (Some x) = refl
 
-pub reader_is : (t : TreeState) (o : Option OpenFile) → file_reader (option_map (file_view t) o) ≡ option_map reader_view (reader_if_any o)
+pub reader_is : (t : TreeState) (o : Option OpenFile) → file_reader (option_map (file_view t) o) ≡ option_map reader_view (as_reader o)
 reader_is t None = refl
 reader_is t (Some (file.Reading r)) = refl
 reader_is t (Some (file.Writing w)) = refl
@@ -75,53 +75,53 @@ busy t fs p = ap₂ (λ b n. b || nat_le 16 n) (sym (ap (list_any (λ w. same_pa
 
 -- ---- space
 
-pub held_one : (profile : Profile) (block_size : ℕ) (t : TreeState) (w : Writer) → length (unsaved_or_tree t w.path w.unsaved) ≡ w.size → writer_reserve profile block_size w ≡ reserved_for_writer profile block_size (writer_view t w)
-held_one profile block_size t w e = sizes w.unsaved w.size ∙ ap (λ n. cond (not (is_some w.unsaved)) 0 (contents_reserve profile block_size (is_unsaved_turned w.unsaved) n)) (sym e)
+pub held_one : (profile : Profile) (block_size : ℕ) (t : TreeState) (w : Writer) → length (draft_or_stored_bytes t w.path w.unsaved) ≡ w.size → writer_block_reserve profile block_size w ≡ reserved_for_writer profile block_size (writer_view t w)
+held_one profile block_size t w e = sizes w.unsaved w.size ∙ ap (λ n. cond (not (is_some w.unsaved)) 0 (draft_block_reserve profile block_size (is_draft_nonsequential w.unsaved) n)) (sym e)
   where
-    sizes : (u : Option UnsavedContents) (n : ℕ) → cond (is_none u) 0 (contents_reserve profile block_size (is_unsaved_turned u) n) ≡ cond (not (is_some u)) 0 (contents_reserve profile block_size (is_unsaved_turned u) n)
+    sizes : (u : Option UnsavedContents) (n : ℕ) → cond (is_none u) 0 (draft_block_reserve profile block_size (is_draft_nonsequential u) n) ≡ cond (not (is_some u)) 0 (draft_block_reserve profile block_size (is_draft_nonsequential u) n)
     sizes None n = refl
     sizes (Some u) n = refl
 
 held_each : (profile : Profile) (block_size a : ℕ) (t : TreeState) (ws : List Writer) → AllByRecursion (IsWriterReady t) ws →
-    fold (λ a x. a + writer_reserve profile block_size x) a ws ≡ fold (λ a x. a + reserved_for_writer profile block_size x) a (map (writer_view t) ws)
+    fold (λ a x. a + writer_block_reserve profile block_size x) a ws ≡ fold (λ a x. a + reserved_for_writer profile block_size x) a (map (writer_view t) ws)
 held_each profile block_size a t [] h = refl
 held_each profile block_size a t (w ∷ ws) h =
-    held_each profile block_size (a + writer_reserve profile block_size w) t ws h.1
+    held_each profile block_size (a + writer_block_reserve profile block_size w) t ws h.1
     ∙ ap (λ n. fold (λ a x. a + reserved_for_writer profile block_size x) (a + n) (map (writer_view t) ws)) (held_one profile block_size t w h.0.size)
 
-pub held_is : (profile : Profile) (block_size : ℕ) (t : TreeState) (fs : RuntimeFiles) → IsReady t fs → writers_reserve profile block_size fs ≡ reserved_for_writers profile block_size (files_view t fs)
+pub held_is : (profile : Profile) (block_size : ℕ) (t : TreeState) (fs : RuntimeFiles) → IsReady t fs → writers_block_reserve profile block_size fs ≡ reserved_for_writers profile block_size (files_view t fs)
 held_is profile block_size t fs ready = held_each profile block_size 0 t (writers_among fs) ready.written ∙ sym (ap (sum_by (reserved_for_writer profile block_size)) (writers_are t fs))
 
 -- ---- numbers
 
-pub free_is : (t : TreeState) (fs : RuntimeFiles) → lowest_free fs ≡ free_number_of (files_view t fs)
+pub free_is : (t : TreeState) (fs : RuntimeFiles) → lowest_free_fd fs ≡ free_number_of (files_view t fs)
 free_is t [] = refl
 free_is t (None ∷ fs) = refl
 free_is t (Some x ∷ fs) = ap (λ n. 1 + n) (free_is t fs)
 
-pub free_at_most : (fs : RuntimeFiles) → lowest_free fs ≤ length fs
+pub free_at_most : (fs : RuntimeFiles) → lowest_free_fd fs ≤ length fs
 free_at_most [] = omega arith
 free_at_most (None ∷ fs) = omega arith
 free_at_most (Some x ∷ fs) = let k = free_at_most fs in omega (arith, k)
 
-free_is_few : (fs : RuntimeFiles) → lowest_free fs ≤ length (readers_among fs) + length (writers_among fs)
+free_is_few : (fs : RuntimeFiles) → lowest_free_fd fs ≤ length (readers_among fs) + length (writers_among fs)
 free_is_few [] = omega arith
 free_is_few (None ∷ fs) = omega arith
 free_is_few (Some (file.Reading r) ∷ fs) = let k = free_is_few fs in omega (arith, k)
 free_is_few (Some (file.Writing w) ∷ fs) = let k = free_is_few fs in omega (arith, k)
 
-pub few_open : (fs : RuntimeFiles) → length (readers_among fs) < 16 → length (writers_among fs) ≤ 1 → lowest_free fs < 17
+pub few_open : (fs : RuntimeFiles) → length (readers_among fs) < 16 → length (writers_among fs) ≤ 1 → lowest_free_fd fs < 17
 few_open fs few one = let k = free_is_few fs in omega (arith, k, few, one)
 
-pub few_with_none : (fs : RuntimeFiles) → length (readers_among fs) ≤ 16 → writers_among fs ≡ [] → lowest_free fs < 17
+pub few_with_none : (fs : RuntimeFiles) → length (readers_among fs) ≤ 16 → writers_among fs ≡ [] → lowest_free_fd fs < 17
 few_with_none fs few none = let k = free_is_few fs in let l = ap (λ ws. length ws) none in omega (arith, k, few, l)
 
 -- ---- changes
 
-pub put_is : (t : TreeState) (fs : RuntimeFiles) (fd : ℕ) (entry : Option OpenFile) → files_view t (runtime_files_with fs fd entry) ≡ files_with_file (files_view t fs) fd (option_map (file_view t) entry)
+pub put_is : (t : TreeState) (fs : RuntimeFiles) (fd : ℕ) (entry : Option OpenFile) → files_view t (files_with_entry fs fd entry) ≡ files_with_file (files_view t fs) fd (option_map (file_view t) entry)
 put_is t fs fd entry = go (nat_lt fd (length fs)) refl
   where
-    go : (b : Bool) → nat_lt fd (length fs) ≡ b → files_view t (runtime_files_with fs fd entry) ≡ files_with_file (files_view t fs) fd (option_map (file_view t) entry)
+    go : (b : Bool) → nat_lt fd (length fs) ≡ b → files_view t (files_with_entry fs fd entry) ≡ files_with_file (files_view t fs) fd (option_map (file_view t) entry)
     go true e = rw (mapped_length (option_map (file_view t)) fs, e) (map-set (option_map (file_view t)) fs fd entry)
     go false e = rw (mapped_length (option_map (file_view t)) fs, e) (map-append (option_map (file_view t)) fs (entry ∷ []))
 
@@ -152,10 +152,10 @@ one_more n = omega arith
 
 -- ---- a free number
 
-pub free_there : (fs : RuntimeFiles) → open_file_at fs (lowest_free fs) ≡ None
+pub free_there : (fs : RuntimeFiles) → open_file_at fs (lowest_free_fd fs) ≡ None
 free_there [] = refl
 free_there (None ∷ fs) = refl
-free_there (Some x ∷ fs) = ap (open_file_at (Some x ∷ fs)) (one_more (lowest_free fs)) ∙ free_there fs
+free_there (Some x ∷ fs) = ap (open_file_at (Some x ∷ fs)) (one_more (lowest_free_fd fs)) ∙ free_there fs
 
 free_stays : (fs : RuntimeFiles) (n : ℕ) → open_file_at fs n ≡ None → set fs n None ≡ fs
 free_stays [] n e = refl
@@ -163,19 +163,19 @@ free_stays (None ∷ fs) zero e = refl
 free_stays (Some x ∷ fs) zero e = absurd (cc)
 free_stays (x ∷ fs) (suc n) e = ap (λ z. x ∷ z) (free_stays fs n e)
 
-pub none_put : (fs : RuntimeFiles) (n : ℕ) → n < length fs → open_file_at fs n ≡ None → fs ≡ runtime_files_with fs n None
+pub none_put : (fs : RuntimeFiles) (n : ℕ) → n < length fs → open_file_at fs n ≡ None → fs ≡ files_with_entry fs n None
 none_put fs n lt e = rw (lt-ltb n (length fs) lt) (sym (free_stays fs n e))
 
 -- ---- the writers after a change
 
-pub writers_put : (fs : RuntimeFiles) (r : Reader) → writers_among (runtime_files_with fs (lowest_free fs) (Some (file.Reading r))) ≡ writers_among fs
-writers_put fs r = go (nat_lt (lowest_free fs) (length fs)) refl
+pub writers_put : (fs : RuntimeFiles) (r : Reader) → writers_among (files_with_entry fs (lowest_free_fd fs) (Some (file.Reading r))) ≡ writers_among fs
+writers_put fs r = go (nat_lt (lowest_free_fd fs) (length fs)) refl
   where
-    set_free : (fs : RuntimeFiles) → writers_among (set fs (lowest_free fs) (Some (file.Reading r))) ≡ writers_among fs
+    set_free : (fs : RuntimeFiles) → writers_among (set fs (lowest_free_fd fs) (Some (file.Reading r))) ≡ writers_among fs
     set_free [] = refl
     set_free (None ∷ fs) = refl
-    set_free (Some (file.Reading q) ∷ fs) = ap (λ n. writers_among (set (Some (file.Reading q) ∷ fs) n (Some (file.Reading r)))) (one_more (lowest_free fs)) ∙ set_free fs
-    set_free (Some (file.Writing w) ∷ fs) = ap (λ n. writers_among (set (Some (file.Writing w) ∷ fs) n (Some (file.Reading r)))) (one_more (lowest_free fs)) ∙ ap (λ ws. w ∷ ws) (set_free fs)
+    set_free (Some (file.Reading q) ∷ fs) = ap (λ n. writers_among (set (Some (file.Reading q) ∷ fs) n (Some (file.Reading r)))) (one_more (lowest_free_fd fs)) ∙ set_free fs
+    set_free (Some (file.Writing w) ∷ fs) = ap (λ n. writers_among (set (Some (file.Writing w) ∷ fs) n (Some (file.Reading r)))) (one_more (lowest_free_fd fs)) ∙ ap (λ ws. w ∷ ws) (set_free fs)
 
     behind : (fs : RuntimeFiles) → writers_among (fs ++ Some (file.Reading r) ∷ []) ≡ writers_among fs
     behind [] = refl
@@ -183,7 +183,7 @@ writers_put fs r = go (nat_lt (lowest_free fs) (length fs)) refl
     behind (Some (file.Reading q) ∷ fs) = behind fs
     behind (Some (file.Writing w) ∷ fs) = ap (λ ws. w ∷ ws) (behind fs)
 
-    go : (b : Bool) → nat_lt (lowest_free fs) (length fs) ≡ b → writers_among (runtime_files_with fs (lowest_free fs) (Some (file.Reading r))) ≡ writers_among fs
+    go : (b : Bool) → nat_lt (lowest_free_fd fs) (length fs) ≡ b → writers_among (files_with_entry fs (lowest_free_fd fs) (Some (file.Reading r))) ≡ writers_among fs
     go true e = rw e (set_free fs)
     go false e = rw e (behind fs)
 
@@ -195,7 +195,7 @@ kept_moved profile block_size place shape w h = record { size = h.size; fits = f
     fits (form.Finished size flying) h = record { dirty = h.dirty; large = h.large; turned = h.turned }
     fits (form.InHand stop base flying) h = record { dirty = h.dirty; large = h.large; turned = h.turned; at_end = h.at_end }
 
-unsaved_moved_in : (t : TreeState) (w : Writer) (place : ℕ) (u : Option UnsavedContents) → AreUnsavedIfAny t w u → AreUnsavedIfAny t (record w { position = place }) u
+unsaved_moved_in : (t : TreeState) (w : Writer) (place : ℕ) (u : Option UnsavedContents) → AreSoundIfUnsaved t w u → AreSoundIfUnsaved t (record w { position = place }) u
 unsaved_moved_in t w place None h = tt
 unsaved_moved_in t w place (Some u) h = record { over = h.over; kept = kept_moved t.disk.profile t.disk.block_size place (contents_form u.contents) (writer_view t w) h.kept; form = h.form; room = h.room }
 
@@ -236,7 +236,7 @@ neither : (a b : Bool) → (a || b) ≡ false → (a ≡ false) × (b ≡ false)
 neither true b e = absurd (cc)
 neither false b e = (refl, e)
 
-pub saved_is : (o : Option OpenFile) → is_unsaved_writer o ≡ false → is_saved o ≡ true
+pub saved_is : (o : Option OpenFile) → is_writer_with_draft o ≡ false → is_saved o ≡ true
 saved_is None e = refl
 saved_is (Some (file.Reading r)) e = refl
 saved_is (Some (file.Writing w)) e = none w.unsaved e
@@ -264,28 +264,28 @@ abbrev pub one_of : {A : Type 0} → Option A → ℕ
 one_of None = 0
 one_of (Some x) = 1
 
-before_length : {A : Type 0} (o : Option A) (xs : List A) → length (prepended o xs) ≡ one_of o + length xs
+before_length : {A : Type 0} (o : Option A) (xs : List A) → length (prepend_if_some o xs) ≡ one_of o + length xs
 before_length None xs = omega arith
 before_length (Some x) xs = omega arith
 
 pub count_set : {A : Type 0} (kind : Option OpenFile → Option A) (fs : RuntimeFiles) (fd : ℕ) (entry : Option OpenFile) → fd < length fs →
-    length (selected_files kind (set fs fd entry)) + one_of (kind (open_file_at fs fd)) ≡ length (selected_files kind fs) + one_of (kind entry)
+    length (filter_map_files kind (set fs fd entry)) + one_of (kind (open_file_at fs fd)) ≡ length (filter_map_files kind fs) + one_of (kind entry)
 count_set kind [] fd entry lt = absurd (omega (arith, lt))
-count_set kind (f ∷ fs) zero entry lt = omega (arith, before_length (kind entry) (selected_files kind fs), before_length (kind f) (selected_files kind fs))
+count_set kind (f ∷ fs) zero entry lt = omega (arith, before_length (kind entry) (filter_map_files kind fs), before_length (kind f) (filter_map_files kind fs))
 count_set kind (f ∷ fs) (suc fd) entry lt =
     let k = count_set kind fs fd entry (omega (arith, lt)) in
-    omega (arith, k, before_length (kind f) (selected_files kind (set fs fd entry)), before_length (kind f) (selected_files kind fs))
+    omega (arith, k, before_length (kind f) (filter_map_files kind (set fs fd entry)), before_length (kind f) (filter_map_files kind fs))
 
-count_behind : {A : Type 0} (kind : Option OpenFile → Option A) (fs : RuntimeFiles) (entry : Option OpenFile) → length (selected_files kind (fs ++ entry ∷ [])) ≡ length (selected_files kind fs) + one_of (kind entry)
+count_behind : {A : Type 0} (kind : Option OpenFile → Option A) (fs : RuntimeFiles) (entry : Option OpenFile) → length (filter_map_files kind (fs ++ entry ∷ [])) ≡ length (filter_map_files kind fs) + one_of (kind entry)
 count_behind kind [] entry = omega (arith, before_length (kind entry) [])
 count_behind kind (f ∷ fs) entry =
     let k = count_behind kind fs entry in
-    omega (arith, k, before_length (kind f) (selected_files kind (fs ++ entry ∷ [])), before_length (kind f) (selected_files kind fs))
+    omega (arith, k, before_length (kind f) (filter_map_files kind (fs ++ entry ∷ [])), before_length (kind f) (filter_map_files kind fs))
 
-pub count_put : {A : Type 0} (kind : Option OpenFile → Option A) (fs : RuntimeFiles) (fd : ℕ) (entry : Option OpenFile) → length (selected_files kind (runtime_files_with fs fd entry)) ≤ length (selected_files kind fs) + one_of (kind entry)
+pub count_put : {A : Type 0} (kind : Option OpenFile → Option A) (fs : RuntimeFiles) (fd : ℕ) (entry : Option OpenFile) → length (filter_map_files kind (files_with_entry fs fd entry)) ≤ length (filter_map_files kind fs) + one_of (kind entry)
 count_put kind fs fd entry = go (nat_lt fd (length fs)) refl
   where
-    go : (b : Bool) → nat_lt fd (length fs) ≡ b → length (selected_files kind (runtime_files_with fs fd entry)) ≤ length (selected_files kind fs) + one_of (kind entry)
+    go : (b : Bool) → nat_lt fd (length fs) ≡ b → length (filter_map_files kind (files_with_entry fs fd entry)) ≤ length (filter_map_files kind fs) + one_of (kind entry)
     go true e =
         let k = count_set kind fs fd entry (ltb-true fd (length fs) e) in
         rw e (omega (arith, k))
@@ -294,22 +294,22 @@ count_put kind fs fd entry = go (nat_lt fd (length fs)) refl
         rw e (omega (arith, k))
 
 -- files that stay few
-pub few_put : {A : Type 0} (kind : Option OpenFile → Option A) (fs gs : RuntimeFiles) (fd limit : ℕ) (entry : Option OpenFile) → gs ≡ runtime_files_with fs fd entry → length (selected_files kind fs) + one_of (kind entry) ≤ limit → length (selected_files kind gs) ≤ limit
+pub few_put : {A : Type 0} (kind : Option OpenFile → Option A) (fs gs : RuntimeFiles) (fd limit : ℕ) (entry : Option OpenFile) → gs ≡ files_with_entry fs fd entry → length (filter_map_files kind fs) + one_of (kind entry) ≤ limit → length (filter_map_files kind gs) ≤ limit
 few_put kind fs gs fd limit entry is few =
     let k = count_put kind fs fd entry in
-    subst (λ xs. length (selected_files kind xs) ≤ limit) (sym is) (omega (arith, k, few))
+    subst (λ xs. length (filter_map_files kind xs) ≤ limit) (sym is) (omega (arith, k, few))
 
-pub few_set : {A : Type 0} (kind : Option OpenFile → Option A) (fs gs : RuntimeFiles) (fd limit : ℕ) (entry : Option OpenFile) → gs ≡ set fs fd entry → fd < length fs → length (selected_files kind fs) ≤ limit →
-    one_of (kind entry) ≤ one_of (kind (open_file_at fs fd)) → length (selected_files kind gs) ≤ limit
+pub few_set : {A : Type 0} (kind : Option OpenFile → Option A) (fs gs : RuntimeFiles) (fd limit : ℕ) (entry : Option OpenFile) → gs ≡ set fs fd entry → fd < length fs → length (filter_map_files kind fs) ≤ limit →
+    one_of (kind entry) ≤ one_of (kind (open_file_at fs fd)) → length (filter_map_files kind gs) ≤ limit
 few_set kind fs gs fd limit entry is lt few less =
     let k = count_set kind fs fd entry lt in
-    subst (λ xs. length (selected_files kind xs) ≤ limit) (sym is) (omega (arith, k, few, less))
+    subst (λ xs. length (filter_map_files kind xs) ≤ limit) (sym is) (omega (arith, k, few, less))
 
 pub less_changed : {A : Type 0} (kind : Option OpenFile → Option A) (change : OpenFile → OpenFile) (o : Option OpenFile) → ((f : OpenFile) → one_of (kind (Some (change f))) ≡ one_of (kind (Some f))) → one_of (kind (option_map change o)) ≤ one_of (kind o)
 less_changed kind change None same = omega arith
 less_changed kind change (Some f) same = let k = same f in omega (arith, k)
 
-pub reader_moved : (position : ℕ) (f : OpenFile) → one_of (reader_if_any (Some (file_with_position position f))) ≡ one_of (reader_if_any (Some f))
+pub reader_moved : (position : ℕ) (f : OpenFile) → one_of (as_reader (Some (file_with_position position f))) ≡ one_of (as_reader (Some f))
 reader_moved position (file.Reading r) = refl
 reader_moved position (file.Writing w) = refl
 
@@ -317,11 +317,11 @@ pub writer_moved : (position : ℕ) (f : OpenFile) → one_of (writer_if_any (So
 writer_moved position (file.Reading r) = refl
 writer_moved position (file.Writing w) = refl
 
-pub reader_noted : (known : KnownBlocks) (f : OpenFile) → one_of (reader_if_any (Some (file_with_known known f))) ≡ one_of (reader_if_any (Some f))
+pub reader_noted : (known : IndexCache) (f : OpenFile) → one_of (as_reader (Some (file_with_index_cache known f))) ≡ one_of (as_reader (Some f))
 reader_noted known (file.Reading r) = refl
 reader_noted known (file.Writing w) = refl
 
-pub writer_noted : (known : KnownBlocks) (f : OpenFile) → one_of (writer_if_any (Some (file_with_known known f))) ≡ one_of (writer_if_any (Some f))
+pub writer_noted : (known : IndexCache) (f : OpenFile) → one_of (writer_if_any (Some (file_with_index_cache known f))) ≡ one_of (writer_if_any (Some f))
 writer_noted known (file.Reading r) = refl
 writer_noted known (file.Writing w) = refl
 
@@ -419,15 +419,15 @@ ready_closed t fs fd e h = record {
   known = known_closed t.disk fs fd h.known;
 }
 
-pub ready_put : (t : TreeState) (fs : RuntimeFiles) (r : Reader) → IsCurrentReader t.pairs (writers_paths fs) r → HasKnownBlocks t.disk r → IsReady t fs → IsReady t (runtime_files_with fs (lowest_free fs) (Some (file.Reading r)))
+pub ready_put : (t : TreeState) (fs : RuntimeFiles) (r : Reader) → IsCurrentReader t.pairs (writers_paths fs) r → HasValidIndexCache t.disk r → IsReady t fs → IsReady t (files_with_entry fs (lowest_free_fd fs) (Some (file.Reading r)))
 ready_put t fs r k known h = record {
   sound = h.sound;
   called = h.called;
   one = subst (λ ws. length ws ≤ 1) (sym (writers_put fs r)) h.one;
   idle = λ e. h.idle (sym (ap (list_any (λ w. is_some w.unsaved)) (writers_put fs r)) ∙ e);
   written = subst (AllByRecursion (IsWriterReady t)) (sym (writers_put fs r)) h.written;
-  read = read_put t.pairs fs (lowest_free fs) r (ap (map (λ w. w.path)) (writers_put fs r)) k h.read;
-  known = known_put t.disk fs (lowest_free fs) r known h.known;
+  read = read_put t.pairs fs (lowest_free_fd fs) r (ap (map (λ w. w.path)) (writers_put fs r)) k h.read;
+  known = known_put t.disk fs (lowest_free_fd fs) r known h.known;
 }
 
 pub few_left : (t : TreeState) (fs : RuntimeFiles) → nat_le 16 (length (all_readers (files_view t fs))) ≡ false → length (readers_among fs) < 16
@@ -447,16 +447,16 @@ busy_at t fs bytes p b is e =
     e ∙ busy t fs (path_or_root bytes)
     ∙ ap (λ q. list_any (λ w. same_path q w.path) (all_writers (files_view t fs)) || nat_le 16 (length (all_readers (files_view t fs)))) (ap (λ z. unwrap_or z []) (sym is))
 
-pub lacks_is : (t : TreeState) (fs : RuntimeFiles) (need : ℕ) → IsReady t fs → nat_lt (block_count t.disk) (length (tree_summary t).used + writers_reserve t.disk.profile t.disk.block_size fs + need) ≡ lacks_room (tree_summary t) (files_view t fs) need
+pub lacks_is : (t : TreeState) (fs : RuntimeFiles) (need : ℕ) → IsReady t fs → nat_lt (block_count t.disk) (length (tree_summary t).used + writers_block_reserve t.disk.profile t.disk.block_size fs + need) ≡ lacks_room (tree_summary t) (files_view t fs) need
 lacks_is t fs need ready = ap (λ h. nat_lt (block_count t.disk) (length (tree_summary t).used + h + need)) (held_is t.disk.profile t.disk.block_size t fs ready)
 
-pub some_reader : (t : TreeState) (fs : RuntimeFiles) (fd : ℕ) (r : Reader) → Some r ≡ reader_if_any (open_file_at fs fd) → Some (reader_view r) ≡ file_reader (file_numbered (files_view t fs) fd)
+pub some_reader : (t : TreeState) (fs : RuntimeFiles) (fd : ℕ) (r : Reader) → Some r ≡ as_reader (open_file_at fs fd) → Some (reader_view r) ≡ file_reader (file_numbered (files_view t fs) fd)
 some_reader t fs fd r e = ap (option_map reader_view) e ∙ sym (ap file_reader (file_is t fs fd) ∙ reader_is t (open_file_at fs fd))
 
-pub none_reader : (t : TreeState) (fs : RuntimeFiles) (fd : ℕ) → None ≡ reader_if_any (open_file_at fs fd) → None ≡ file_reader (file_numbered (files_view t fs) fd)
+pub none_reader : (t : TreeState) (fs : RuntimeFiles) (fd : ℕ) → None ≡ as_reader (open_file_at fs fd) → None ≡ file_reader (file_numbered (files_view t fs) fd)
 none_reader t fs fd e = ap (option_map reader_view) e ∙ sym (ap file_reader (file_is t fs fd) ∙ reader_is t (open_file_at fs fd))
 
-pub reader_there : (o : Option OpenFile) (r : Reader) → Some r ≡ reader_if_any o → is_some o ≡ true
+pub reader_there : (o : Option OpenFile) (r : Reader) → Some r ≡ as_reader o → is_some o ≡ true
 reader_there None r e = absurd (cc)
 reader_there (Some x) r e = refl
 

@@ -1,6 +1,6 @@
 -- The invariant of the readers among open files.
 use Rattle.std.proofs.Common.{ℕ, zero, suc, ◌≡◌, ◌||◌, ◌∙◌, Bool, true, false, cond, List, [], ◌∷◌, ◌++◌, length, map, set, nat_lt, unwrap_or, Option, Some, None, refl, sym, ap, subst}
-use Rattle.lfs_fs.proofs.Common.{AllByRecursion, list_any, option_map, same_Some, Disk, vacates_path, Operation, struct_list_bytes, all_entries, disk_tree, slot_of, Attributes, Slot, Pair, Path, struct_node, is_file, same_path, path_from_same, path_itself, IsStorageAt, contents_struct, KeepsOtherFiles, IsApplied, TreeState, kept_thread, shown_tree, RuntimeFiles, prepended, open_file_at, file_with_position, runtime_files_with, reader_if_any, readers_among, writers_among, writers_paths, AreCurrentReaders, IsCurrentReader}
+use Rattle.lfs_fs.proofs.Common.{AllByRecursion, list_any, option_map, same_Some, Disk, vacates_path, Operation, disk_list_bytes, all_entries, disk_tree, slot_of_path, Attributes, Slot, Pair, Path, struct_node, is_file, same_path, path_from_same, path_itself, IsStorageAt, contents_struct, KeepsOtherFiles, IsOperationApplied, TreeState, kept_thread, visible_tree, RuntimeFiles, prepend_if_some, open_file_at, file_with_position, files_with_entry, as_reader, readers_among, writers_among, writers_paths, AreCurrentReaders, IsCurrentReader}
 use Rattle.lfs_lookup.specs.FileContents.{AreContentsAt}
 use Rattle.lfs_lookup.specs.declared.file_contents.FileContents.{FileContents}
 use Rattle.lfs_lookup.specs.declared.file_contents.FileContents.TheVariants as contents
@@ -13,31 +13,31 @@ use Rattle.lfs_fs.specs.declared.files.Writer.{Writer}
 
 -- a file is where contents are
 pub contents_are_file : (disk : Disk) (ps : List Pair) (path : Path) (c : FileContents) → IsStorageAt ps path c → is_file (disk_tree disk ps path) ≡ true
-contents_are_file disk ps path c h = go (slot_of ps path) h.struct
+contents_are_file disk ps path c h = go (slot_of_path ps path) h.struct
   where
-    kind : (attributes : Attributes) (d : FileContents) → is_file (Some (struct_node (struct_list_bytes disk) (all_entries ps) attributes (contents_struct d))) ≡ true
+    kind : (attributes : Attributes) (d : FileContents) → is_file (Some (struct_node (disk_list_bytes disk) (all_entries ps) attributes (contents_struct d))) ≡ true
     kind attributes (contents.Inline bytes) = refl
     kind attributes (contents.List head size) = refl
 
-    go : (o : Option Slot) → option_map (λ (u : Slot). u.struct) o ≡ Some (contents_struct c) → is_file (option_map (λ (u : Slot). struct_node (struct_list_bytes disk) (all_entries ps) u.attributes u.struct) o) ≡ true
+    go : (o : Option Slot) → option_map (λ (u : Slot). u.struct) o ≡ Some (contents_struct c) → is_file (option_map (λ (u : Slot). struct_node (disk_list_bytes disk) (all_entries ps) u.attributes u.struct) o) ≡ true
     go None e = absurd (cc)
-    go (Some u) e = subst (λ s. is_file (Some (struct_node (struct_list_bytes disk) (all_entries ps) u.attributes s)) ≡ true) (sym (same_Some u.struct (contents_struct c) e)) (kind u.attributes c)
+    go (Some u) e = subst (λ s. is_file (Some (struct_node (disk_list_bytes disk) (all_entries ps) u.attributes s)) ≡ true) (sym (same_Some u.struct (contents_struct c) e)) (kind u.attributes c)
 
 -- contents that are found are those of the file there
-pub found_contents : (t : TreeState) (path : Path) (o : Option FileContents) (x none : FileContents) → AreContentsAt (kept_thread t) path o → x ≡ unwrap_or o none → is_file (shown_tree t path) ≡ true → IsStorageAt t.pairs path x
+pub found_contents : (t : TreeState) (path : Path) (o : Option FileContents) (x none : FileContents) → AreContentsAt (kept_thread t) path o → x ≡ unwrap_or o none → is_file (visible_tree t path) ≡ true → IsStorageAt t.pairs path x
 found_contents t path None x none found is there = absurd (let k = sym found ∙ there in cc)
 found_contents t path (Some c) x none found is there = subst (IsStorageAt t.pairs path) (sym is) found
 
 -- ---- the readers of some open files
 
 module _ (P : Reader → Type 0) where
-  joined : (fs : RuntimeFiles) (entry : Option OpenFile) → AllByRecursion P (prepended (reader_if_any entry) []) → AllByRecursion P (readers_among fs) → AllByRecursion P (readers_among (entry ∷ fs))
+  joined : (fs : RuntimeFiles) (entry : Option OpenFile) → AllByRecursion P (prepend_if_some (as_reader entry) []) → AllByRecursion P (readers_among fs) → AllByRecursion P (readers_among (entry ∷ fs))
   joined fs None e h = h
   joined fs (Some (file.Reading r)) e h = (e.0, h)
   joined fs (Some (file.Writing w)) e h = h
 
   -- with a replaced entry
-  pub all_set : (fs : RuntimeFiles) (fd : ℕ) (entry : Option OpenFile) → AllByRecursion P (prepended (reader_if_any entry) []) → AllByRecursion P (readers_among fs) → AllByRecursion P (readers_among (set fs fd entry))
+  pub all_set : (fs : RuntimeFiles) (fd : ℕ) (entry : Option OpenFile) → AllByRecursion P (prepend_if_some (as_reader entry) []) → AllByRecursion P (readers_among fs) → AllByRecursion P (readers_among (set fs fd entry))
   all_set [] fd entry e h = h
   all_set (None ∷ fs) zero entry e h = joined fs entry e h
   all_set (Some (file.Reading r) ∷ fs) zero entry e h = joined fs entry e h.1
@@ -47,7 +47,7 @@ module _ (P : Reader → Type 0) where
   all_set (Some (file.Writing w) ∷ fs) (suc fd) entry e h = all_set fs fd entry e h
 
   -- with one more entry
-  all_more : (fs : RuntimeFiles) (entry : Option OpenFile) → AllByRecursion P (prepended (reader_if_any entry) []) → AllByRecursion P (readers_among fs) → AllByRecursion P (readers_among (fs ++ entry ∷ []))
+  all_more : (fs : RuntimeFiles) (entry : Option OpenFile) → AllByRecursion P (prepend_if_some (as_reader entry) []) → AllByRecursion P (readers_among fs) → AllByRecursion P (readers_among (fs ++ entry ∷ []))
   all_more [] None e h = h
   all_more [] (Some (file.Reading r)) e h = e
   all_more [] (Some (file.Writing w)) e h = h
@@ -55,7 +55,7 @@ module _ (P : Reader → Type 0) where
   all_more (Some (file.Reading r) ∷ fs) entry e h = (h.0, all_more fs entry e h.1)
   all_more (Some (file.Writing w) ∷ fs) entry e h = all_more fs entry e h
 
-  pub all_put : (fs : RuntimeFiles) (fd : ℕ) (entry : Option OpenFile) → AllByRecursion P (prepended (reader_if_any entry) []) → AllByRecursion P (readers_among fs) → AllByRecursion P (readers_among (runtime_files_with fs fd entry))
+  pub all_put : (fs : RuntimeFiles) (fd : ℕ) (entry : Option OpenFile) → AllByRecursion P (prepend_if_some (as_reader entry) []) → AllByRecursion P (readers_among fs) → AllByRecursion P (readers_among (files_with_entry fs fd entry))
   all_put fs fd entry e h = go (nat_lt fd (length fs))
     where
       go : (b : Bool) → AllByRecursion P (readers_among (cond b (set fs fd entry) (fs ++ entry ∷ [])))
@@ -63,7 +63,7 @@ module _ (P : Reader → Type 0) where
       go false = all_more fs entry e h
 
   -- the one of a number
-  pub one_of_all : (fs : RuntimeFiles) (fd : ℕ) (r : Reader) → Some r ≡ reader_if_any (open_file_at fs fd) → AllByRecursion P (readers_among fs) → P r
+  pub one_of_all : (fs : RuntimeFiles) (fd : ℕ) (r : Reader) → Some r ≡ as_reader (open_file_at fs fd) → AllByRecursion P (readers_among fs) → P r
   one_of_all [] fd r e h = absurd (cc)
   one_of_all (None ∷ fs) zero r e h = absurd (cc)
   one_of_all (Some (file.Reading q) ∷ fs) zero r e h = subst P (sym (same_Some r q e)) h.0
@@ -129,13 +129,13 @@ read_closed ps fs fd h =
     all_set (IsCurrentReader ps (writers_paths (set fs fd None))) fs fd None tt
     (all_weaker (IsCurrentReader ps (writers_paths fs)) (IsCurrentReader ps (writers_paths (set fs fd None))) (λ r k. record { contents = k.contents; apart = paths_closed r.path fs fd k.apart }) (readers_among fs) h)
 
-pub read_put : (ps : List Pair) (fs : RuntimeFiles) (fd : ℕ) (r : Reader) → writers_paths (runtime_files_with fs fd (Some (file.Reading r))) ≡ writers_paths fs → IsCurrentReader ps (writers_paths fs) r → AreCurrentReaders ps fs → AreCurrentReaders ps (runtime_files_with fs fd (Some (file.Reading r)))
+pub read_put : (ps : List Pair) (fs : RuntimeFiles) (fd : ℕ) (r : Reader) → writers_paths (files_with_entry fs fd (Some (file.Reading r))) ≡ writers_paths fs → IsCurrentReader ps (writers_paths fs) r → AreCurrentReaders ps fs → AreCurrentReaders ps (files_with_entry fs fd (Some (file.Reading r)))
 read_put ps fs fd r same k h =
-    subst (λ written. AllByRecursion (IsCurrentReader ps written) (readers_among (runtime_files_with fs fd (Some (file.Reading r))))) (sym same)
+    subst (λ written. AllByRecursion (IsCurrentReader ps written) (readers_among (files_with_entry fs fd (Some (file.Reading r))))) (sym same)
     (all_put (IsCurrentReader ps (writers_paths fs)) fs fd (Some (file.Reading r)) (k, tt) h)
 
 -- in an operation that is about none of them
-pub read_carried : (old new : TreeState) (op : Operation) (written : List Path) (rs : List Reader) → IsApplied old op new → AllByRecursion (λ r. vacates_path op r.path ≡ false) rs → AllByRecursion (IsCurrentReader old.pairs written) rs → AllByRecursion (IsCurrentReader new.pairs written) rs
+pub read_carried : (old new : TreeState) (op : Operation) (written : List Path) (rs : List Reader) → IsOperationApplied old op new → AllByRecursion (λ r. vacates_path op r.path ≡ false) rs → AllByRecursion (IsCurrentReader old.pairs written) rs → AllByRecursion (IsCurrentReader new.pairs written) rs
 read_carried old new op written [] carried off h = tt
 read_carried old new op written (r ∷ rs) carried off h = (
   record {
@@ -187,17 +187,17 @@ read_rewritten ps qs fs fd w v was now path same h =
     (all_set (IsCurrentReader ps (writers_paths fs)) fs fd (Some (file.Writing v)) tt h))
 
 -- its contents were committed, and its entry replaced
-pub read_saved : (disk : Disk) (old new : List Pair) (fs : RuntimeFiles) (fd : ℕ) (entry : Option OpenFile) (path : Path) (later : List Path) → reader_if_any entry ≡ None → writers_paths fs ≡ path ∷ [] → writers_paths (set fs fd entry) ≡ later
+pub read_saved : (disk : Disk) (old new : List Pair) (fs : RuntimeFiles) (fd : ℕ) (entry : Option OpenFile) (path : Path) (later : List Path) → as_reader entry ≡ None → writers_paths fs ≡ path ∷ [] → writers_paths (set fs fd entry) ≡ later
     → KeepsOtherFiles (disk_tree disk old) old path new → ((p : Path) → same_path p path ≡ false → list_any (same_path p) later ≡ false) → AreCurrentReaders old fs → AreCurrentReaders new (set fs fd entry)
 read_saved disk old new fs fd entry path later none was now keeps apart h =
     subst (λ written. AllByRecursion (IsCurrentReader new written) (readers_among (set fs fd entry))) (sym now)
-    (all_set (IsCurrentReader new later) fs fd entry (subst (λ o. AllByRecursion (IsCurrentReader new later) (prepended o [])) (sym none) tt)
+    (all_set (IsCurrentReader new later) fs fd entry (subst (λ o. AllByRecursion (IsCurrentReader new later) (prepend_if_some o [])) (sym none) tt)
     (read_stored disk old new path (path ∷ []) later (readers_among fs) keeps (λ p e. let k = alone_apart p path e in (k, apart p k)) (subst (λ written. AllByRecursion (IsCurrentReader old written) (readers_among fs)) was h)))
 
 -- it is the first one, at a path where no reader is
-pub read_opened : (ps : List Pair) (fs : RuntimeFiles) (fd : ℕ) (w : Writer) → writers_paths (runtime_files_with fs fd (Some (file.Writing w))) ≡ w.path ∷ [] → AllByRecursion (λ r. same_path w.path r.path ≡ false) (readers_among fs) → AreCurrentReaders ps fs → AreCurrentReaders ps (runtime_files_with fs fd (Some (file.Writing w)))
+pub read_opened : (ps : List Pair) (fs : RuntimeFiles) (fd : ℕ) (w : Writer) → writers_paths (files_with_entry fs fd (Some (file.Writing w))) ≡ w.path ∷ [] → AllByRecursion (λ r. same_path w.path r.path ≡ false) (readers_among fs) → AreCurrentReaders ps fs → AreCurrentReaders ps (files_with_entry fs fd (Some (file.Writing w)))
 read_opened ps fs fd w now off h =
-    subst (λ written. AllByRecursion (IsCurrentReader ps written) (readers_among (runtime_files_with fs fd (Some (file.Writing w))))) (sym now)
+    subst (λ written. AllByRecursion (IsCurrentReader ps written) (readers_among (files_with_entry fs fd (Some (file.Writing w))))) (sym now)
     (all_put (IsCurrentReader ps (w.path ∷ [])) fs fd (Some (file.Writing w)) tt (each (readers_among fs) off h))
   where
     each : (rs : List Reader) → AllByRecursion (λ r. same_path w.path r.path ≡ false) rs → AllByRecursion (IsCurrentReader ps (writers_paths fs)) rs → AllByRecursion (IsCurrentReader ps (w.path ∷ [])) rs

@@ -1,7 +1,7 @@
 -- The effect of a session's read of an open file.
 use Rattle.std.proofs.Common.{ℕ, ◌≡◌, ◌∙◌, ◌+◌, true, false, List, drop, length, set, take, Some, is_some, Result, Ok, Err, refl, sym, ap, subst}
-use Rattle.lfs_fs.proofs.Common.{option_map, AreKnownBlocks, contents_struct, error_refusal, repositioned_file, Reply, file_numbered, files_with_file, struct_blocks, file_bytes, HasErrorCause, FailedByReading, TreeState, OnlyReadsTree, shown_tree, IsCall, HasSessionInvariant, RuntimeFiles, open_file_at, file_with_known, file_with_position, files_view, writers_paths, reader_if_any, reader_view, reply_from, HasKnownBlocks, IsCurrentReader, IsReady, SessionView, refusal_by_checks, session_view}
-use Rattle.lfs_file.specs.declared.known.KnownBlocks.{KnownBlocks}
+use Rattle.lfs_fs.proofs.Common.{option_map, AreKnownBlocks, contents_struct, error_refusal, repositioned_file, Reply, file_numbered, files_with_file, struct_blocks, file_bytes, HasErrorCause, FailedByReading, TreeState, OnlyReadsTree, visible_tree, IsCall, HasSessionInvariant, RuntimeFiles, open_file_at, file_with_index_cache, file_with_position, files_view, writers_paths, as_reader, reader_view, reply_from, HasValidIndexCache, IsCurrentReader, IsReady, SessionView, refusal_by_checks, session_view}
+use Rattle.lfs_file.specs.declared.known.IndexCache.{IndexCache}
 use Rattle.lfs_device.specs.declared.error.Error.{Error}
 use Rattle.lfs_model.specs.session.Operations as ops
 use Rattle.lfs_fs.specs.declared.files.Reader.{Reader}
@@ -18,12 +18,12 @@ use Rattle.lfs_fs.proofs.Sparing.{asking_call, asks_not, kept_asking}
 use Rattle.lfs_fs.proofs.Stopping.{only_read}
 
 -- what a session keeps of an open reader
-module _ (t : TreeState) (fs : RuntimeFiles) (fd : ℕ) (r : Reader) (ready : t.failed ≡ false → IsReady t fs) (works : false ≡ t.failed) (there : Some r ≡ reader_if_any (open_file_at fs fd)) where
+module _ (t : TreeState) (fs : RuntimeFiles) (fd : ℕ) (r : Reader) (ready : t.failed ≡ false → IsReady t fs) (works : false ≡ t.failed) (there : Some r ≡ as_reader (open_file_at fs fd)) where
   pub kept_reader : IsCurrentReader t.pairs (writers_paths fs) r
   kept_reader = one_of_all (IsCurrentReader t.pairs (writers_paths fs)) fs fd r there (ready (sym works)).read
 
   pub known_of_reader : AreKnownBlocks (struct_blocks t.disk (contents_struct r.contents)) r.known
-  known_of_reader = one_of_all (HasKnownBlocks t.disk) fs fd r there (ready (sym works)).known
+  known_of_reader = one_of_all (HasValidIndexCache t.disk) fs fd r there (ready (sym works)).known
 
 -- ---- it is refused, or fails
 
@@ -33,7 +33,7 @@ module _ (t : TreeState) (fs : RuntimeFiles) (now : SessionView) (fd count : ℕ
       kept_asking t fs now (ops.Read fd count) _ same ready (λ s. refl) refl (refused_ends (session_view t fs) now (ops.Read fd count) (error_refusal e) same is)
       (refused_kept (session_view t fs) now (ops.Read fd count) e same (sound_by t fs ready) refl is)
 
-  pub broken_read : {B : Type 0} (reply : B → Reply) (r : Reader) (e : Error) (tree : TreeState) (result : Result B Error) → false ≡ t.failed → Some r ≡ reader_if_any (open_file_at fs fd) → FailedByReading t tree → HasErrorCause t tree e → result ≡ Err e
+  pub broken_read : {B : Type 0} (reply : B → Reply) (r : Reader) (e : Error) (tree : TreeState) (result : Result B Error) → false ≡ t.failed → Some r ≡ as_reader (open_file_at fs fd) → FailedByReading t tree → HasErrorCause t tree e → result ≡ Err e
       → IsCall now (ops.Read fd count) (reply_from reply result) (session_view tree fs)
   broken_read reply r e tree result works there broken error is =
       asking_call t fs now (ops.Read fd count) _ _ same ready (λ s. refl) (λ k. absurd (cc)) (asks_not _ _ _ _ refl)
@@ -43,8 +43,8 @@ module _ (t : TreeState) (fs : RuntimeFiles) (now : SessionView) (fd count : ℕ
 
 -- ---- it is done
 
-module _ (t tree : TreeState) (fs noted moved : RuntimeFiles) (fd position : ℕ) (r : Reader) (known : KnownBlocks) (ready : t.failed ≡ false → IsReady t fs) (works : false ≡ t.failed) (there : Some r ≡ reader_if_any (open_file_at fs fd)) (asked : OnlyReadsTree t tree)
-    (notes : noted ≡ set fs fd (option_map (file_with_known known) (open_file_at fs fd))) (moves : moved ≡ set noted fd (option_map (file_with_position position) (open_file_at noted fd))) where
+module _ (t tree : TreeState) (fs noted moved : RuntimeFiles) (fd position : ℕ) (r : Reader) (known : IndexCache) (ready : t.failed ≡ false → IsReady t fs) (works : false ≡ t.failed) (there : Some r ≡ as_reader (open_file_at fs fd)) (asked : OnlyReadsTree t tree)
+    (notes : noted ≡ set fs fd (option_map (file_with_index_cache known) (open_file_at fs fd))) (moves : moved ≡ set noted fd (option_map (file_with_position position) (open_file_at noted fd))) where
   still_there : is_some (open_file_at noted fd) ≡ true
   still_there = subst (λ gs. is_some (open_file_at gs fd) ≡ true) (sym notes) (there_noted known fs fd (reader_there (open_file_at fs fd) r there))
 
@@ -61,7 +61,7 @@ module _ (t tree : TreeState) (fs noted moved : RuntimeFiles) (fd position : ℕ
       ∙ ap (λ v. files_with_file v fd (option_map (repositioned_file position) (file_numbered v fd)))
       (ap (files_view tree) notes ∙ view_noted known tree fs fd ∙ ap (λ z. files_view z fs) asked.same)
 
-  pub done_read : (now : SessionView) (count : ℕ) (bytes : List ℕ) → session_view t fs ≡ now → bytes ≡ take count (drop r.position (file_bytes (shown_tree t r.path))) → position ≡ r.position + length bytes
+  pub done_read : (now : SessionView) (count : ℕ) (bytes : List ℕ) → session_view t fs ≡ now → bytes ≡ take count (drop r.position (file_bytes (visible_tree t r.path))) → position ≡ r.position + length bytes
       → IsCall now (ops.Read fd count) (Ok (ops.Bytes bytes)) (session_view tree moved)
   done_read now count bytes same are at =
       asking_call t fs now (ops.Read fd count) _ _ same ready (λ s. refl) (λ k. absurd (cc)) (asks_not _ _ _ _ refl)

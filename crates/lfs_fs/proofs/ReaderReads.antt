@@ -1,13 +1,13 @@
 -- The bytes that an open reader returns.
 use Rattle.std.proofs.Common.{ℕ, ◌≡◌, ◌≤◌, ◌+◌, ◌-◌, ◌++◌, min, true, false, List, length, take, drop, Option, Some, None, is_none, Result, Ok, Err, refl, sym, ap, ap₂, subst, ◌∙◌, arith}
-use Rattle.lfs_fs.proofs.Common.{option_map, file_bytes, is_file, Operation, Reply, OpenFilesByNumber, Reading, Writing, file_numbered, files_with_file, file_reader, refuse_if, repositioned_file, node_file_size, Node, FileNode, DirectoryNode, length-take, take_all, same_Some, IsStorageAt, contents_struct, CallEvent, read_count, struct_at, block_count_for, Ctz, Inline, Struct, RuntimeFiles, open_file_at, files_view, reader_if_any, reader_view, ReadsFew, TreeState, IsSoundState, shown_tree, OnlyReadsTree, SessionView, session_view, view_with_files, viewed_session, refusal_by_checks, StepsOrFails, error_refusal, FailedByReading, HasErrorCause, reply_from}
+use Rattle.lfs_fs.proofs.Common.{option_map, file_bytes, is_file, Operation, Reply, OpenFilesByNumber, Reading, Writing, file_numbered, files_with_file, file_reader, refuse_if, repositioned_file, node_file_size, Node, FileNode, DirectoryNode, length-take, take_all, same_Some, IsStorageAt, contents_struct, CallEvent, read_count, struct_at, skip_list_block_count, Ctz, Inline, Struct, RuntimeFiles, open_file_at, files_view, as_reader, reader_view, BoundsFileReads, TreeState, IsSoundState, visible_tree, OnlyReadsTree, SessionView, session_view, view_with_files, viewed_session, refusal_by_checks, StepsOrFails, error_refusal, FailedByReading, HasErrorCause, reply_from}
 use Rattle.lfs_model.specs.session.Operations as ops
 use Rattle.lfs_model.specs.session.Session.{OpenFile, FileReader}
 use Rattle.lfs_model.specs.session.Effects.{read_effect}
 use Rattle.std.proofs.lemmas.List.{length-drop, take_at, take_min}
 use Rattle.lfs_file.specs.Known.{ReadsFewPointers, ReadsKnownList}
-use Rattle.lfs_file.specs.declared.known.KnownBlocks.{KnownBlocks}
-use Rattle.lfs_model.specs.format.SkipLists.{IsBytePlace}
+use Rattle.lfs_file.specs.declared.known.IndexCache.{IndexCache}
+use Rattle.lfs_model.specs.format.SkipLists.{IsByteInListBlock}
 use Rattle.lfs_fs.specs.declared.files.Reader.{Reader}
 use Rattle.lfs_fs.proofs.OpenFiles.{some_reader}
 use Rattle.lfs_device.specs.declared.error.Error.{Error}
@@ -31,14 +31,14 @@ pub a_reader : (h : SessionView) (fd count : ℕ) (r : FileReader) → false ≡
 a_reader h fd count r works e = works_by h (ops.Read fd count) None works (ap (λ z. refuse_if (is_none z) ops.BadFile) (sym e))
 
 pub read_answers : (old now : SessionView) (fd count : ℕ) (r : FileReader) (tree : TreeState) (files : OpenFilesByNumber) (bytes : List ℕ) (position : ℕ) → old ≡ now → (old.tree.failed ≡ false → IsSoundState old.tree) → false ≡ old.tree.failed → OnlyReadsTree old.tree tree →
-    Some r ≡ file_reader (file_numbered old.files fd) → bytes ≡ take count (drop r.position (file_bytes (shown_tree old.tree r.path))) → position ≡ r.position + length bytes →
+    Some r ≡ file_reader (file_numbered old.files fd) → bytes ≡ take count (drop r.position (file_bytes (visible_tree old.tree r.path))) → position ≡ r.position + length bytes →
     files ≡ files_with_file old.files fd (option_map (repositioned_file position) (file_numbered old.files fd)) → StepsOrFails now (ops.Read fd count) (Ok (ops.Bytes bytes)) (view_with_files tree files)
 read_answers old now fd count r tree files bytes position same ready works asked is bytes_are at files_are =
     files_answers old now (ops.Read fd count) tree files (ops.Bytes bytes) same ready asked (a_reader old fd count r works is) refl refl refl refl refl
-    (ap (read_effect (viewed_session old) fd count) (sym is) ∙ ap₂ (λ b f. (ops.Bytes b, record { tree = shown_tree old.tree; files = f })) (sym bytes_are) moved)
+    (ap (read_effect (viewed_session old) fd count) (sym is) ∙ ap₂ (λ b f. (ops.Bytes b, record { tree = visible_tree old.tree; files = f })) (sym bytes_are) moved)
   where
     given : List ℕ
-    given = take count (drop r.position (file_bytes (shown_tree old.tree r.path)))
+    given = take count (drop r.position (file_bytes (visible_tree old.tree r.path)))
 
     moved : files_with_file old.files fd (Some (Reading (record r { position = r.position + length given }))) ≡ files
     moved = ap (λ n. files_with_file old.files fd (Some (Reading (record r { position = n })))) (ap (λ b. r.position + length b) (sym bytes_are) ∙ sym at)
@@ -82,23 +82,23 @@ read_fails old now op reply e tree r same works broken error is =
 -- ---- how often it reads
 
 -- as many bytes are read as the list has of those that were asked for
-pub known_read : (block_size size position count room : ℕ) (known later : KnownBlocks) (old new : List CallEvent) → room ≡ min count (size - position) → ReadsKnownList block_size size position room known later old new → ReadsKnownList block_size size position count known later old new
+pub known_read : (block_size size position count room : ℕ) (known later : IndexCache) (old new : List CallEvent) → room ≡ min count (size - position) → ReadsKnownList block_size size position room known later old new → ReadsKnownList block_size size position count known later old new
 known_read block_size size position count room known later old new is h first last off end at there =
     let fits : min room (size - position) ≡ min count (size - position) = omega arith in
-    subst (λ k. ReadsFewPointers known (block_count_for block_size size) first last k later old new) fits
-    (h first last off end at (subst (λ k. IsBytePlace block_size (position + k - 1) last end) (sym fits) there))
+    subst (λ k. ReadsFewPointers known (skip_list_block_count block_size size) first last k later old new) fits
+    (h first last off end at (subst (λ k. IsByteInListBlock block_size (position + k - 1) last end) (sym fits) there))
 
 -- no oftener than its known blocks say
-pub few_reads : (t new : TreeState) (fs : RuntimeFiles) (files : OpenFilesByNumber) (fd count : ℕ) (r : Reader) (known later : KnownBlocks) → Some r ≡ reader_if_any (open_file_at fs fd) → IsStorageAt t.pairs r.path r.contents
+pub few_reads : (t new : TreeState) (fs : RuntimeFiles) (files : OpenFilesByNumber) (fd count : ℕ) (r : Reader) (known later : IndexCache) → Some r ≡ as_reader (open_file_at fs fd) → IsStorageAt t.pairs r.path r.contents
     → ((own : List ℕ) → contents_struct r.contents ≡ Inline own → new.history ≡ t.history)
     → ((head size : ℕ) → contents_struct r.contents ≡ Ctz head size → ReadsKnownList t.disk.block_size size r.position count known later t.history new.history)
-    → ReadsFew (session_view t fs) fd count (view_with_files new files)
+    → BoundsFileReads (session_view t fs) fd count (view_with_files new files)
 few_reads t new fs files fd count r known later there kept none few = record {
   inline = λ q own at is. ap read_count (none own (stored q (Inline own) at is));
   list = λ q head size m first last off end at is le from to.
       let e = same q at in
-      (few head size (stored q (Ctz head size) at is) first last off end (subst (λ (z : FileReader). IsBytePlace t.disk.block_size z.position first off) (sym e) from)
-      (subst (λ (z : FileReader). IsBytePlace t.disk.block_size (z.position + min count (size - z.position) - 1) last end) (sym e) to)).few m le;
+      (few head size (stored q (Ctz head size) at is) first last off end (subst (λ (z : FileReader). IsByteInListBlock t.disk.block_size z.position first off) (sym e) from)
+      (subst (λ (z : FileReader). IsByteInListBlock t.disk.block_size (z.position + min count (size - z.position) - 1) last end) (sym e) to)).few m le;
 }
   where
     same : (q : FileReader) → file_reader (file_numbered (files_view t fs) fd) ≡ Some q → reader_view r ≡ q

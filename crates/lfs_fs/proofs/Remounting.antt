@@ -3,7 +3,7 @@ use Rattle.std.proofs.Common.{arith, ◌≡◌, inl, inr, true, false, cond, set
 use Rattle.std.specs.Prelude.{◌⊎◌, OnOk, OnErr, IfErr}
 use Rattle.lfs_device.specs.declared.error.Error.{Error}
 use Rattle.lfs_device.specs.declared.error.Error.TheVariants.{Io, NoMemory, Corrupt}
-use Rattle.lfs_fs.proofs.Common.{Disk, SameGeometry, ordered_disk, CallEvent, OpenFilesByNumber, Healthy, mounted_session, tree_after_storing, node_with_bytes, tree_with_change, option_map, Tree, IsAccepted, disk_tree, SystemState, IsStep, WriteNothing, is_dirty, is_refusal, error_refusal, TreeState, shown_tree, tree_summary, kept_thread, FailedByReading, HasMountCause, IsMountedTree, IsRemountedTree, IsSoundState, reply_from, RuntimeFiles, unsaved_or_tree, open_file_at, is_unsaved_writer, file_view, files_view, SessionView, IsReady, session_view, view_with_files, system_state, refusal_by_checks, SessionFails, StepsOrFails}
+use Rattle.lfs_fs.proofs.Common.{Disk, SameGeometry, disk_with_order, CallEvent, OpenFilesByNumber, Healthy, mounted_session, tree_after_storing, node_with_bytes, tree_with_change, option_map, Tree, IsAccepted, disk_tree, SystemState, IsStep, WriteNothing, is_dirty, is_refusal, error_refusal, TreeState, visible_tree, tree_summary, kept_thread, FailedByReading, HasMountCause, IsMountedTree, IsRemountedTree, IsSoundState, reply_from, RuntimeFiles, draft_or_stored_bytes, open_file_at, is_writer_with_draft, file_view, files_view, SessionView, IsReady, session_view, view_with_files, system_state, refusal_by_checks, SessionFails, StepsOrFails}
 use Rattle.lfs_model.specs.session.Operations as ops
 use Rattle.std.specs.List.{IsDistinct}
 use Rattle.lfs_model.specs.session.Run.{ShowsTree}
@@ -17,7 +17,7 @@ use Rattle.lfs_fs.proofs.Answered.{is_over, kept_answer, sound_by}
 use Rattle.lfs_fs.proofs.Stopping.{works_at}
 use Rattle.lfs_fs.proofs.Calls.{has_called, has_erased}
 use Rattle.lfs_model.proofs.BlockSets.{in_flight_count-AreInFlight}
-use Rattle.lfs_tree.specs.Formats.{ErasesTwo, IsFormatted}
+use Rattle.lfs_tree.specs.Formats.{ErasesTwoBlocks, IsFreshlyFormatted}
 
 -- ---- a file is closed of which nothing is to be saved
 
@@ -28,7 +28,7 @@ not_some (Some u) e = absurd (cc)
 pub no_tree_change : (t : TreeState) (f : Option kept.OpenFile) (tree : Tree) → is_saved f ≡ true → tree_after_storing (option_map (file_view t) f) tree ≡ tree
 no_tree_change t None tree e = refl
 no_tree_change t (Some (file.Reading r)) tree e = refl
-no_tree_change t (Some (file.Writing w)) tree e = ap (λ b. cond b (tree_with_change w.path (node_with_bytes (unsaved_or_tree t w.path w.unsaved)) tree) tree) (not_some w.unsaved e)
+no_tree_change t (Some (file.Writing w)) tree e = ap (λ b. cond b (tree_with_change w.path (node_with_bytes (draft_or_stored_bytes t w.path w.unsaved)) tree) tree) (not_some w.unsaved e)
 
 pub not_dirty : (t : TreeState) (f : Option kept.OpenFile) → is_saved f ≡ true → is_dirty (option_map (file_view t) f) ≡ false
 not_dirty t None e = refl
@@ -41,14 +41,14 @@ pub closed : (t : TreeState) (fs : RuntimeFiles) (now : SessionView) (fd : ℕ) 
 closed t fs now fd same ready e there nothing =
     kept_answer (session_view t fs) now (ops.Close fd) (files_view t (set fs fd None)) ops.Done same (sound_by t fs ready) e refl refl
     (ap is_dirty (file_is t fs fd) ∙ not_dirty t (open_file_at fs fd) nothing)
-    (ap₂ (λ t f. (ops.Done, record { tree = t; files = f })) (ap (λ f. tree_after_storing f (shown_tree t)) (file_is t fs fd) ∙ no_tree_change t (open_file_at fs fd) (shown_tree t) nothing) (sym (set_is t fs fd None there)))
+    (ap₂ (λ t f. (ops.Done, record { tree = t; files = f })) (ap (λ f. tree_after_storing f (visible_tree t)) (file_is t fs fd) ∙ no_tree_change t (open_file_at fs fd) (visible_tree t) nothing) (sym (set_is t fs fd None there)))
 
 pub closed_answers : (t : TreeState) (fs gs : RuntimeFiles) (now : SessionView) (fd : ℕ) → session_view t fs ≡ now → (t.failed ≡ false → IsReady t fs) → refusal_by_checks (session_view t fs) (ops.Close fd) ≡ None → is_some (open_file_at fs fd) ≡ true →
-    false ≡ is_unsaved_writer (open_file_at fs fd) → gs ≡ set fs fd None → StepsOrFails now (ops.Close fd) (Ok ops.Done) (session_view t gs)
+    false ≡ is_writer_with_draft (open_file_at fs fd) → gs ≡ set fs fd None → StepsOrFails now (ops.Close fd) (Ok ops.Done) (session_view t gs)
 closed_answers t fs gs now fd same ready e there saved is =
     subst (λ z. StepsOrFails now (ops.Close fd) (Ok ops.Done) (session_view t z)) (sym is) (closed t fs now fd same ready e there (saved_is (open_file_at fs fd) (sym saved)))
 
-pub closed_ready : (t : TreeState) (fs gs : RuntimeFiles) (fd : ℕ) → false ≡ is_unsaved_writer (open_file_at fs fd) → (t.failed ≡ false → IsReady t fs) → gs ≡ set fs fd None → t.failed ≡ false → IsReady t gs
+pub closed_ready : (t : TreeState) (fs gs : RuntimeFiles) (fd : ℕ) → false ≡ is_writer_with_draft (open_file_at fs fd) → (t.failed ≡ false → IsReady t fs) → gs ≡ set fs fd None → t.failed ≡ false → IsReady t gs
 closed_ready t fs gs fd saved ready is works = subst (IsReady t) (sym is) (ready_closed t fs fd (saved_is (open_file_at fs fd) (sym saved)) (ready works))
 
 -- ---- a remount
@@ -93,10 +93,10 @@ remount_steps old new sound r =
     (subst (λ d. IsAccepted d new.pairs) m.disk_is m.sound.accepted) r.longer
     (reads_write_nothing old.tree.disk.blocks m.reads.events m.reads.each) m.reads.each)
   where
-    m : IsMountedTree (ordered_disk new.disk.order old.tree.disk) old.tree.history new
+    m : IsMountedTree (disk_with_order new.disk.order old.tree.disk) old.tree.history new
     m = r.mounted
 
-    to : system_state (view_with_files new []) ≡ record { disk = ordered_disk new.disk.order old.tree.disk; calls = m.reads.events ++ old.tree.history; state = Healthy (mounted_session (disk_tree old.tree.disk new.pairs)) }
+    to : system_state (view_with_files new []) ≡ record { disk = disk_with_order new.disk.order old.tree.disk; calls = m.reads.events ++ old.tree.history; state = Healthy (mounted_session (disk_tree old.tree.disk new.pairs)) }
     to = healthy_system (view_with_files new []) m.works
         ∙ ap₂ (λ (d : Disk) (h : List CallEvent). record { disk = d; calls = h; state = Healthy (mounted_session (disk_tree d new.pairs)) }) m.disk_is m.reads.extends
 
@@ -117,7 +117,7 @@ none_twice : IsDistinct nat_eq []
 unfolding IsDistinct
 none_twice = tt
 
-pub fresh_ready : (before : List CallEvent) (new : TreeState) (files : RuntimeFiles) → files ≡ [] → IsSoundState new → IsFormatted (kept_thread new) → ErasesTwo before new.history → IsReady new files
+pub fresh_ready : (before : List CallEvent) (new : TreeState) (files : RuntimeFiles) → files ≡ [] → IsSoundState new → IsFreshlyFormatted (kept_thread new) → ErasesTwoBlocks before new.history → IsReady new files
 fresh_ready before new files none sound formatted calls =
     subst (IsReady new) (sym none) (record {
       sound = sound;
@@ -130,5 +130,5 @@ fresh_ready before new files none sound formatted calls =
     })
 
 pub remount_ready : (old new : TreeState) (files : RuntimeFiles) (r : Result (Unit {0}) Error) → files ≡ [] → OnOk r (IsRemountedTree old new) → OnErr r (FailedByReading old new) → new.failed ≡ false → IsReady new files
-remount_ready old new files (Ok u) none ok broken works = subst (IsReady new) (sym none) (mounted_ready (ordered_disk new.disk.order old.disk) old.history new ok.mounted)
+remount_ready old new files (Ok u) none ok broken works = subst (IsReady new) (sym none) (mounted_ready (disk_with_order new.disk.order old.disk) old.history new ok.mounted)
 remount_ready old new files (Err e) none ok broken works = absurd (let l = sym broken.failed ∙ works in cc)

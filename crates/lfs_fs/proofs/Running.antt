@@ -1,12 +1,12 @@
 -- Operations in turn, by a loop.
-use Rattle.lfs_fs.proofs.Common.{AllByRecursion, take_all, map-append, fault_count, read_count, Operation, SurvivesPowerLoss, IsStep, SystemState, Session, Healthy, Pair, ReadsOnceAlways, IsAccepted, SessionFails, SessionView, system_state, HasRefusalError, op_view, reply_view, IsCall, AreFewSmall, HasCachedDirectories, directory_pair_count, searched_directories}
+use Rattle.lfs_fs.proofs.Common.{AllByRecursion, take_all, map-append, fault_count, read_count, Operation, SurvivesPowerLoss, IsStep, SystemState, Session, Healthy, Pair, AlwaysReadsPairsOnce, IsAccepted, SessionFails, SessionView, system_state, HasRefusalError, op_view, reply_view, IsCall, AreFewOnePairDirectories, HasCachedDirectories, directory_pair_count, searched_directories}
 use Rattle.std.specs.Prelude.{sum_by}
 use Rattle.std.proofs.Common.{Ok, ℕ, ◌≡◌, ◌+◌, ◌<◌, ◌≤◌, Bool, false, cond, List, [], ◌∷◌, ◌++◌, Option, None, Some, length, take, drop, map, get_or, refl, sym, ap, subst, ◌∙◌, drop-cons, add-one, true, arith}
 use Rattle.std.proofs.lemmas.List.{append_cancel_right, take_more, take-append-drop}
 use Rattle.lfs_device.specs.declared.error.Error.{Error}
 use Rattle.lfs_model.specs.session.Operations as ops
 use Rattle.lfs_model.specs.crash.Performed.{ArePerformed, IsPerformed}
-use Rattle.lfs_model.specs.crash.ReadBounds.{SparesAndBoundsReads, RepeatReadsNothing, accepted_operation}
+use Rattle.lfs_model.specs.crash.ReadBounds.{KeepsBlocksBoundsReads, RepeatReadsNothing, accepted_operation}
 use Rattle.lfs_model.proofs.Performing.{last_accepted, last_further, performed_further}
 use Rattle.lfs_fs.specs.SessionView.{FailsRun}
 use Rattle.lfs_fs.proofs.KeptLookUps.{kept_hand, kept_small}
@@ -24,10 +24,10 @@ first_op (op ∷ ops) i h = op
 -- behind an accepted stat, the small directories that it searched are cached
 abbrev pub IsWarm : Option Operation → SessionView → Type 0
 IsWarm None h = Unit {0}
-IsWarm (Some before) h = (path : List ℕ) → before ≡ ops.Stat path → (s : Session) → (system_state h).state ≡ Healthy s → (ps : List Pair) → IsAccepted h.tree.disk ps → AreFewSmall ps (searched_directories before) → HasCachedDirectories h.tree (searched_directories before)
+IsWarm (Some before) h = (path : List ℕ) → before ≡ ops.Stat path → (s : Session) → (system_state h).state ≡ Healthy s → (ps : List Pair) → IsAccepted h.tree.disk ps → AreFewOnePairDirectories ps (searched_directories before) → HasCachedDirectories h.tree (searched_directories before)
 
 call_within_read_bounds : (before : Option Operation) (old : SessionView) (op : Operation) (reply : ops.Reply) (new : SessionView) → IsWarm before old → IsCall old op (Ok reply) new → (turn : IsStep (system_state old) op reply (system_state new)) →
-    SparesAndBoundsReads before (system_state old) op turn.calls (system_state new)
+    KeepsBlocksBoundsReads before (system_state old) op turn.calls (system_state new)
 call_within_read_bounds before old op reply new warm call turn = record {
   alone = call.alone refl;
   asked = λ k. append_cancel_right turn.calls [] old.tree.history (sym turn.called ∙ ap (λ (h : SessionView). h.tree.history) (call.asks.asked k));
@@ -93,7 +93,7 @@ named_further replies new reply done one is = subst (AllByRecursion HasRefusalEr
     go (r ∷ rs) h = (h.0, go rs h.1)
 
 -- without a call nothing was read
-pub silent_few : (from : SystemState) (op : Operation) (to : SystemState) → to.calls ≡ from.calls → ReadsOnceAlways from op to
+pub silent_few : (from : SystemState) (op : Operation) (to : SystemState) → to.calls ≡ from.calls → AlwaysReadsPairsOnce from op to
 silent_few from op to same s at ps a calls is looks =
     let none = append_cancel_right calls [] from.calls (sym is ∙ same) in
     subst (λ z. read_count z ≤ sum_by (directory_pair_count ps) (searched_directories op)) (sym none) (zero_least _)
@@ -102,7 +102,7 @@ silent_few from op to same s at ps a calls is looks =
     zero_least n = omega arith
 
 -- the session fails in the next one
-pub run_cut : (e : Error) (ops : List Op) (i : ℕ) (d : Op) (replies : List Reply) (a : SystemState) (b : SessionView) (c : SystemState) → i < length ops → HaveRun a (map op_view (take i ops)) (map reply_view replies) b → ReadsOnceAlways (system_state b) (op_view (get_or ops i d)) c →
+pub run_cut : (e : Error) (ops : List Op) (i : ℕ) (d : Op) (replies : List Reply) (a : SystemState) (b : SessionView) (c : SystemState) → i < length ops → HaveRun a (map op_view (take i ops)) (map reply_view replies) b → AlwaysReadsPairsOnce (system_state b) (op_view (get_or ops i d)) c →
     SessionFails e (system_state b) (op_view (get_or ops i d)) c → SurvivesPowerLoss (system_state b) (op_view (get_or ops i d)) c → FailsRun e a (map op_view ops) c
 run_cut e ops i d replies a b c lt run few fails survives_loss = record {
   ended = record {

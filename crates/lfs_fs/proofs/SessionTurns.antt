@@ -5,21 +5,21 @@ use Rattle.lfs_fs.proofs.Common.{Blocks, Disk, CallEvent, IsRead, Operation, Sys
 use Rattle.lfs_model.specs.session.Operations as ops
 use Rattle.lfs_model.specs.crash.Performed.{IsPerformed, IsRun}
 use Rattle.lfs_model.specs.crash.Lives.{Turn, EndsWith, IsTurn, IsLife}
-use Rattle.lfs_model.specs.crash.RepeatedPowerLoss.{LeftInCall, MeetsRunPremises}
+use Rattle.lfs_model.specs.crash.RepeatedPowerLoss.{LeftInCall, MeetsCrashSafetyPremises}
 use Rattle.lfs_model.specs.crash.ReadBounds.{accepted_operation}
-use Rattle.lfs_model.specs.crash.LifeTrees.{MayLosePower}
+use Rattle.lfs_model.specs.crash.LifeTrees.{HasWritableDiskTree}
 use Rattle.lfs_model.proofs.Histories.{AllCallsSince-weaker, LeftByLoss-read}
 use Rattle.lfs_model.proofs.Survived.{stopped_has}
 use Rattle.lfs_model.proofs.JoinedLives.{lives_joined}
 use Rattle.lfs_model.proofs.LivesSurvived.{life_is_safe}
 use Rattle.lfs_model.proofs.RunTurns.{none_inside, run_in_turns}
 use Rattle.lfs_model.proofs.SessionSteps.{tree_step}
-use Rattle.lfs_fs.specs.ReadOnly.{MayWrite}
+use Rattle.lfs_fs.specs.ReadOnly.{IsWritableSession}
 use Rattle.lfs_fs.specs.SessionView.{BeginsByMount}
-use Rattle.lfs_fs.specs.Turns.{IsSafeRun, reply_if_any, turn_of}
+use Rattle.lfs_fs.specs.Turns.{IsCrashSafeRun, reply_if_ok, turn_of}
 use Rattle.lfs_fs.proofs.Running.{call_performed, warm_behind}
 
-call_ends : (old : SessionView) (op : Operation) (r : Result ops.Reply Error) (new : SessionView) → StepsOrFails old op r new → EndsWith (reply_if_any r) (system_state old) op (system_state new)
+call_ends : (old : SessionView) (op : Operation) (r : Result ops.Reply Error) (new : SessionView) → StepsOrFails old op r new → EndsWith (reply_if_ok r) (system_state old) op (system_state new)
 call_ends old op (Ok reply) new step = tree_step (system_state old) (system_state new) op reply step
 call_ends old op (Err e) new fails = fails.fails
 
@@ -31,7 +31,7 @@ call_further from turns a b op r lived call = lives_joined turns (turn_of op r (
 
 -- ---- runs
 
-pub run_is_safe : (from : SystemState) (operations : List Operation) (to : SystemState) → IsRun from operations to → MeetsRunPremises from to → IsSafeRun from operations to
+pub run_is_safe : (from : SystemState) (operations : List Operation) (to : SystemState) → IsRun from operations to → MeetsCrashSafetyPremises from to → IsCrashSafeRun from operations to
 run_is_safe from operations to run may =
     let r = run_in_turns from operations to run in
     record { turns = r.0; run = r.1; safe = life_is_safe from r.0 to r.1.lived (none_inside from r.0 r.1.ends) may }
@@ -50,5 +50,5 @@ pub stopped_mount : (disk : Disk) (history : List CallEvent) (h : SessionView) (
 stopped_mount disk history h blocks begins since =
     stopped_has (λ bs. bs ≡ disk.blocks) history h.tree.history blocks (AllCallsSince-weaker (λ e (r : IsRead disk.blocks e) left l. LeftByLoss-read e left r.reads l ∙ r.before) begins.reads) since
 
-pub writable_may : (h : SessionView) → MayWrite h → MayLosePower (system_state h)
+pub writable_may : (h : SessionView) → IsWritableSession h → HasWritableDiskTree (system_state h)
 writable_may h may = record { agrees = may.agrees; profile = may.profile }

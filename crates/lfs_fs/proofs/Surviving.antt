@@ -1,7 +1,7 @@
 -- Runs whose operations survive a power loss.
 use Rattle.std.proofs.Common.{Result, Ok, Err, ◌≡◌, ◌≢◌, Bool, true, false, cond, List, [], refl, sym, ap, subst, ◌∙◌}
 use Rattle.lfs_device.specs.declared.error.Error.{Error}
-use Rattle.lfs_fs.proofs.Common.{HasEitherTree, SurvivesStoppedCalls, SurvivesPowerLoss, SameGeometry, ordered_disk, operation_result, LeftByLatest, Operation, Session, DiskSummary, is_remount, disk_tree, Pair, HealthyHasDiskTree, SystemState, StepsOrFails, SessionView, IsReady, session_view, system_state, HasSessionInvariant, DeviceConforms, RuntimeFiles, TreeState}
+use Rattle.lfs_fs.proofs.Common.{HasEitherTree, SurvivesStoppedCalls, SurvivesPowerLoss, SameGeometry, disk_with_order, operation_result, LeftByLatestCall, Operation, Session, DiskSummary, is_remount, disk_tree, Pair, HealthyHasDiskTree, SystemState, StepsOrFails, SessionView, IsReady, session_view, system_state, HasSessionInvariant, DeviceConforms, RuntimeFiles, TreeState}
 use Rattle.lfs_model.specs.crash.PowerLoss.{IsHealthySession}
 use Rattle.lfs_model.specs.session.Operations as ops
 use Rattle.lfs_model.proofs.AfterStops.{left_before}
@@ -34,7 +34,7 @@ untouched_survives_loss from op to agrees same survives = record {
 
 -- the disk has the shape that it had, and the order of names, but for a remount
 same_shape : (old : SessionView) (op : Operation) (r : Result ops.Reply Error) (new : SessionView) → is_remount op ≡ false → StepsOrFails old op r new → SameGeometry old.tree.disk new.tree.disk
-same_shape old op (Ok reply) new other turn = subst (λ b. SameGeometry (cond b (ordered_disk new.tree.disk.order old.tree.disk) old.tree.disk) new.tree.disk) other turn.geometry
+same_shape old op (Ok reply) new other turn = subst (λ b. SameGeometry (cond b (disk_with_order new.tree.disk.order old.tree.disk) old.tree.disk) new.tree.disk) other turn.geometry
 same_shape old op (Err e) new other fails = fails.fails.geometry
 
 -- What stands is what the newest call left.
@@ -53,5 +53,5 @@ call_survives_loss t fs now op r new is between reported other answers survives 
     go false works =
         let at = sym (ap (λ (s : TreeState). s.failed) was) ∙ works in
         device_survives_loss (system_state now) (system_state new) op agrees
-        (one_device (system_state now) (system_state new) (subst (λ (s : TreeState). s.history ≢ []) (sym was) (between.ready at).called) (subst (λ (s : TreeState). LeftByLatest s.history s.disk.blocks) (sym was) (between.reported at).newest) reported.newest reported.conforms
+        (one_device (system_state now) (system_state new) (subst (λ (s : TreeState). s.history ≢ []) (sym was) (between.ready at).called) (subst (λ (s : TreeState). LeftByLatestCall s.history s.disk.blocks) (sym was) (between.reported at).newest) reported.newest reported.conforms
         (same_blocks now.tree.disk new.tree.disk new.tree.disk.blocks (same_shape now op r new other answers))) survives

@@ -1,7 +1,7 @@
 -- A truncation of an open writer, and its turn.
 use Rattle.std.proofs.Common.{ℕ, zero, suc, ◌≡◌, ◌==◌, ◌<◌, ◌&&◌, ◌||◌, ◌++◌, Bool, true, false, not, cond, List, [], ◌∷◌, length, set, nat_lt, Option, Some, None, Ok, is_some, refl, sym, ap, ap₂, subst, ◌∙◌, arith}
 use Rattle.std.specs.Prelude.{◌==◌}
-use Rattle.lfs_fs.proofs.Common.{AllByRecursion, list_any, option_map, eq-eqb, lt-ltb, ltb-false, map-set, profile_file_max, Operation, needs_session_alone, IsStep, Session, DiskSummary, Writing, file_numbered, first_refusal, overfills_disk, files_with_file, refuse_if, file_writer, truncated_writer, Healthy, operation_effect, Tree, DiskView, recovered_from, filled_step, KeepsImage, TreeState, tree_summary, shown_tree, CanTruncateBy, IsChangedWriter, RuntimeFiles, unsaved_or_tree, open_file_at, file_view, files_view, writers_paths, reader_view, readers_among, writer_if_any, writer_view, writers_among, StepsOrFails, SessionView, IsReady, IsWriterReady, session_view, system_state, refusal_by_checks, viewed_session}
+use Rattle.lfs_fs.proofs.Common.{AllByRecursion, list_any, option_map, eq-eqb, lt-ltb, ltb-false, map-set, profile_file_max, Operation, needs_session_alone, IsStep, Session, DiskSummary, Writing, file_numbered, first_refusal, overfills_disk, files_with_file, refuse_if, file_writer, truncated_writer, Healthy, operation_effect, Tree, DiskView, recovered_from, filled_step, KeepsImage, TreeState, tree_summary, visible_tree, CanTruncateTo, IsChangedWriter, RuntimeFiles, draft_or_stored_bytes, open_file_at, file_view, files_view, writers_paths, reader_view, readers_among, writer_if_any, writer_view, writers_among, StepsOrFails, SessionView, IsReady, IsWriterReady, session_view, system_state, refusal_by_checks, viewed_session}
 use Rattle.lfs_model.specs.session.Operations as ops
 use Rattle.lfs_model.specs.session.Run.{has_size}
 use Rattle.lfs_model.specs.session.Session as session
@@ -30,13 +30,13 @@ module _ (t : TreeState) (fs : RuntimeFiles) (fd size : ℕ) (w : Writer) (e : o
   seen_there = the_writer t fs fd (Some w) is_writer
 
   checks_are : refusal_by_checks (session_view t fs) (ops.Truncate fd size)
-      ≡ first_refusal (refuse_if (nat_lt (profile_file_max t.disk.profile) size) ops.TooBig ∷ refuse_if (not (size == length (unsaved_or_tree t w.path w.unsaved)) && overfills_disk (tree_summary t) (truncated_writer (writer_view t w) size)) ops.NoSpace ∷ [])
+      ≡ first_refusal (refuse_if (nat_lt (profile_file_max t.disk.profile) size) ops.TooBig ∷ refuse_if (not (size == length (draft_or_stored_bytes t w.path w.unsaved)) && overfills_disk (tree_summary t) (truncated_writer (writer_view t w) size)) ops.NoSpace ∷ [])
   checks_are = rw (works_now, seen_there) refl
 
   small_enough : nat_lt (profile_file_max t.disk.profile) size ≡ false
   small_enough = unrefused _ ops.TooBig (neither _ _ (sym checks_are ∙ accepted)).0
 
-  has_room : (not (size == length (unsaved_or_tree t w.path w.unsaved)) && overfills_disk (tree_summary t) (truncated_writer (writer_view t w) size)) ≡ false
+  has_room : (not (size == length (draft_or_stored_bytes t w.path w.unsaved)) && overfills_disk (tree_summary t) (truncated_writer (writer_view t w) size)) ≡ false
   has_room = unrefused _ ops.NoSpace (neither _ _ (neither _ _ (sym checks_are ∙ accepted)).1).0
 
   module _ (ready : IsReady t fs) where
@@ -46,7 +46,7 @@ module _ (t : TreeState) (fs : RuntimeFiles) (fd size : ℕ) (w : Writer) (e : o
     written_now : IsWriterReady t w
     written_now = written_at t fs fd w ready.written is_writer
 
-    pub can_now : (size == w.size) ≡ false → CanTruncateBy t w size
+    pub can_now : (size == w.size) ≡ false → CanTruncateTo t w size
     can_now other = record {
       can = record {
         works = works_now;
@@ -55,7 +55,7 @@ module _ (t : TreeState) (fs : RuntimeFiles) (fd size : ℕ) (w : Writer) (e : o
       };
       other = λ same. absurd (let k = sym other ∙ eq-eqb size w.size same in cc);
       small = (let l = ltb-false (profile_file_max t.disk.profile) size small_enough in omega (arith, l));
-      room = ltb-false _ _ (left (size == length (unsaved_or_tree t w.path w.unsaved)) _ (ap (λ n. size == n) written_now.size ∙ other) has_room);
+      room = ltb-false _ _ (left (size == length (draft_or_stored_bytes t w.path w.unsaved)) _ (ap (λ n. size == n) written_now.size ∙ other) has_room);
     }
       where
         left : (a b : Bool) → a ≡ false → (not a && b) ≡ false → b ≡ false
@@ -77,9 +77,9 @@ pub same_size : (t : TreeState) (fs : RuntimeFiles) (fd size : ℕ) (now : Sessi
 same_size t fs fd size now w same ready accepted e is =
     subst (λ z. StepsOrFails now (ops.Truncate fd size) (Ok ops.Done) z) same
     (kept_answer (session_view t fs) now (ops.Truncate fd size) (files_view t fs) ops.Done same (sound_by t fs ready) accepted refl refl refl
-    (ap (λ f. (ops.Done, record { tree = shown_tree t; files = f })) stays))
+    (ap (λ f. (ops.Done, record { tree = visible_tree t; files = f })) stays))
   where
-    long : (size == length (unsaved_or_tree t w.path w.unsaved)) ≡ true
+    long : (size == length (draft_or_stored_bytes t w.path w.unsaved)) ≡ true
     long = ap (λ n. size == n) (written_at t fs fd w (ready (not_failed (session_view t fs) (ops.Truncate fd size) accepted)).written (sym (ap writer_if_any e))).size ∙ is
 
     stays : files_with_file (files_view t fs) fd (option_map (λ v. Writing (truncated_writer v size)) (file_writer (file_numbered (files_view t fs) fd))) ≡ files_view t fs

@@ -10,17 +10,17 @@ use Rattle.lfs_model.specs.session.State.{Healthy, is_remount}
 use Rattle.lfs_model.specs.session.Run.{SystemState, is_refusal}
 use Rattle.lfs_model.specs.session.History.{AllCallsSince}
 use Rattle.lfs_model.specs.crash.Stops.{ErasesCleanly}
-use Rattle.lfs_model.specs.crash.Premises.{MeetsPremises}
-use Rattle.lfs_model.specs.crash.RepeatedPowerLoss.{LeftBetween, MeetsRunPremises}
+use Rattle.lfs_model.specs.crash.Premises.{MeetsPowerLossPremises}
+use Rattle.lfs_model.specs.crash.RepeatedPowerLoss.{LeftBetween, MeetsCrashSafetyPremises}
 use Rattle.lfs_model.proofs.Common.{and_parts}
 use Rattle.lfs_model.proofs.Premises.{since_of_each}
 use Rattle.lfs_fs.specs.CallEffects.{IsCall}
 use Rattle.lfs_fs.specs.SessionView.{SessionView, system_state}
 use Rattle.lfs_fs.specs.Turns.{turn_of}
-use Rattle.lfs_model.specs.crash.Lives.{Turn, IsLife, all_answered, fails_last, is_last}
+use Rattle.lfs_model.specs.crash.Lives.{Turn, IsLife, all_answered, only_last_may_fail, is_last}
 use Rattle.lfs_model.specs.crash.LifeHeadline.{session_after_turn, session_after_turns}
-use Rattle.lfs_model.specs.crash.LifeTrees.{IsTreeOfLife, StartsSafely}
-use Rattle.lfs_fs.specs.Starts.{LivesOn}
+use Rattle.lfs_model.specs.crash.LifeTrees.{IsTreeOfLife, HasMountableTree}
+use Rattle.lfs_fs.specs.Starts.{IsReachableByCalls}
 use Rattle.lfs_fs.proofs.SessionTurns.{call_turn}
 use Rattle.lfs_model.proofs.LivedOn.{life_since}
 use Rattle.lfs_model.proofs.JoinedLives.{lives_joined, one_turn}
@@ -28,14 +28,14 @@ use Rattle.lfs_model.proofs.TreesLeft.{AllTreesHave, any_summary, life_leaves}
 
 -- ---- lives of calls
 
-pub lives : (h k : SessionView) (op : Operation) (r : Result Reply Error) → IsCall h op r k → LivesOn (system_state h) (system_state k)
+pub lives : (h k : SessionView) (op : Operation) (r : Result Reply Error) → IsCall h op r k → IsReachableByCalls (system_state h) (system_state k)
 lives h k op r call = (turn_of op r (system_state k) ∷ [], one_turn (turn_of op r (system_state k)) (system_state h) (call_turn h op r k call))
 
-pub lives_then : (a b c : SystemState) → LivesOn a b → LivesOn b c → LivesOn a c
+pub lives_then : (a b c : SystemState) → IsReachableByCalls a b → IsReachableByCalls b c → IsReachableByCalls a c
 lives_then a b c first second = (first.0 ++ second.0, lives_joined first.0 second.0 a b c first.1 second.1)
 
 -- a device of which all calls meet the premises erases cleanly
-pub cleanly : (from to : SystemState) → LivesOn from to → MeetsPremises to.calls → AllCallsSince ErasesCleanly from.calls to.calls
+pub cleanly : (from to : SystemState) → IsReachableByCalls from to → MeetsPowerLossPremises to.calls → AllCallsSince ErasesCleanly from.calls to.calls
 cleanly from to lived premises = let since = life_since lived.0 from to lived.1 in since_of_each since.events since.extends premises.erases
 
 -- ---- the trees of calls
@@ -55,7 +55,7 @@ module _ (P : Tree → Type 0) where
       go true = before
       go false = after
 
-  next_start_has : (from to : SystemState) (turns : List Turn) (s : Session) (left : Disk) → from.state ≡ Healthy s → fails_last turns ≡ true → IsLife from turns to → AllTreesHave P any_summary s turns → MeetsRunPremises from to → LeftBetween from to left → StartsSafely P left
+  next_start_has : (from to : SystemState) (turns : List Turn) (s : Session) (left : Disk) → from.state ≡ Healthy s → only_last_may_fail turns ≡ true → IsLife from turns to → AllTreesHave P any_summary s turns → MeetsCrashSafetyPremises from to → LeftBetween from to left → HasMountableTree P left
   next_start_has from to turns s left healthy ends lived all may stop =
       let k = life_leaves any_summary s from turns to left healthy ends lived may stop in
       record { order = k.order; tree = k.tree; has = one_of s turns k.tree all k.has; safe = k.safe; may = k.may }
@@ -70,7 +70,7 @@ module _ (P : Tree → Type 0) where
   last_tree s [] all = all
   last_tree s (turn ∷ turns) all = last_tree (session_after_turn any_summary s turn) turns all.1
 
-  ends_last : (turns : List Turn) (turn : Turn) → all_answered turns ≡ true → fails_last (turns ++ turn ∷ []) ≡ true
+  ends_last : (turns : List Turn) (turn : Turn) → all_answered turns ≡ true → only_last_may_fail (turns ++ turn ∷ []) ≡ true
   ends_last [] turn all = go turn.reply
     where
       go : (r : Option Reply) → ((is_some r || true) && true) ≡ true
@@ -78,12 +78,12 @@ module _ (P : Tree → Type 0) where
       go (Some reply) = refl
   ends_last (first ∷ turns) turn all =
       let both = and_parts _ _ all in
-      ap (λ b. (b || is_last (turns ++ turn ∷ [])) && fails_last (turns ++ turn ∷ [])) both.0 ∙ ends_last turns turn both.1
+      ap (λ b. (b || is_last (turns ++ turn ∷ [])) && only_last_may_fail (turns ++ turn ∷ [])) both.0 ∙ ends_last turns turn both.1
 
   -- After turns that were answered comes a call. Where each tree so far has P, and the one that the call makes, the next start has P,
   -- wherever power was lost.
   pub call_leaves : (h a b : SessionView) (s : Session) (turns : List Turn) (op : Operation) (r : Result Reply Error) (left : Disk) → (system_state h).state ≡ Healthy s → all_answered turns ≡ true → IsLife (system_state h) turns (system_state a) → AllTreesHave P any_summary s turns →
-      is_remount op ≡ false → P (operation_effect any_summary (session_after_turns any_summary s turns) op).1.tree → IsCall a op r b → MeetsRunPremises (system_state h) (system_state b) → LeftBetween (system_state h) (system_state b) left → StartsSafely P left
+      is_remount op ≡ false → P (operation_effect any_summary (session_after_turns any_summary s turns) op).1.tree → IsCall a op r b → MeetsCrashSafetyPremises (system_state h) (system_state b) → LeftBetween (system_state h) (system_state b) left → HasMountableTree P left
   call_leaves h a b s turns op r left healthy answered lived all other after call may stop =
       next_start_has (system_state h) (system_state b) (turns ++ turn_of op r (system_state b) ∷ []) s left healthy (ends_last turns (turn_of op r (system_state b)) answered)
       (lives_joined turns (turn_of op r (system_state b) ∷ []) (system_state h) (system_state a) (system_state b) lived (one_turn (turn_of op r (system_state b)) (system_state a) (call_turn a op r b call)))

@@ -1,7 +1,7 @@
 -- The checks of a writer's calls.
 use Rattle.std.proofs.Common.{ℕ, zero, suc, if◌then◌else◌, ◌≡◌, ◌+◌, ◌≤◌, Bool, true, false, not, max, min, List, [], ◌∷◌, Option, Some, None, length, take, nat_lt, ◌&&◌, ◌||◌, is_some, refl, sym, ap, ap₂, subst, ◌∙◌, arith}
 use Rattle.std.specs.Prelude.{◌==◌}
-use Rattle.lfs_fs.proofs.Common.{eq-eqb, eqb-true, ne_eqb, lt-ltb, same_Some, AllByRecursion, option_map, block_count, profile_file_max, truncated_writer, written_writer, written_contents, zero_padded, turns_writer, write_position, file_numbered, first_refusal, overfills_disk, refuse_if, file_writer, TreeState, tree_summary, RuntimeFiles, unsaved_or_tree, last_change_end, open_file_at, files_view, contents_reserve, is_unsaved_turned, writer_if_any, writer_view, writers_among, IsWriterReady, session_view, refusal_by_checks}
+use Rattle.lfs_fs.proofs.Common.{eq-eqb, eqb-true, ne_eqb, lt-ltb, same_Some, AllByRecursion, option_map, block_count, profile_file_max, truncated_writer, writer_after_write, written_contents, zero_padded, turns_writer, write_position, file_numbered, first_refusal, overfills_disk, refuse_if, file_writer, TreeState, tree_summary, RuntimeFiles, draft_or_stored_bytes, last_change_end, open_file_at, files_view, draft_block_reserve, is_draft_nonsequential, writer_if_any, writer_view, writers_among, IsWriterReady, session_view, refusal_by_checks}
 use Rattle.lfs_model.specs.session.Operations as ops
 use Rattle.lfs_model.specs.session.Session as session
 use Rattle.lfs_fs.specs.declared.files.OpenFile.{OpenFile}
@@ -38,7 +38,7 @@ written_at t (Some (file.Writing v) ∷ fs) (suc fd) w h e = written_at t fs fd 
 -- ---- a write
 
 write_refused : (t : TreeState) (fs : RuntimeFiles) (fd : ℕ) (bytes : List ℕ) (w : session.FileWriter) (x y : Bool) → false ≡ t.failed → file_writer (file_numbered (files_view t fs) fd) ≡ Some w →
-    (nat_lt 0 (length bytes) && nat_lt (profile_file_max t.disk.profile) (write_position w + length bytes)) ≡ x → (nat_lt 0 (length bytes) && overfills_disk (tree_summary t) (written_writer w bytes)) ≡ y →
+    (nat_lt 0 (length bytes) && nat_lt (profile_file_max t.disk.profile) (write_position w + length bytes)) ≡ x → (nat_lt 0 (length bytes) && overfills_disk (tree_summary t) (writer_after_write w bytes)) ≡ y →
     refusal_by_checks (session_view t fs) (ops.Write fd bytes) ≡ first_refusal (refuse_if x ops.TooBig ∷ refuse_if y ops.NoSpace ∷ [])
 write_refused t fs fd bytes w x y works is big full = rw (sym works, is, big, full) refl
 
@@ -48,7 +48,7 @@ write_no_writer t fs fd bytes works none = rw (sym works, the_writer t fs fd Non
 pub write_nothing : (t : TreeState) (fs : RuntimeFiles) (fd : ℕ) (bytes : List ℕ) (w : Writer) → false ≡ t.failed → Some w ≡ writer_if_any (open_file_at fs fd) → nat_lt 0 (length bytes) ≡ false → refusal_by_checks (session_view t fs) (ops.Write fd bytes) ≡ None
 write_nothing t fs fd bytes w works is none =
     write_refused t fs fd bytes (writer_view t w) false false works (the_writer t fs fd (Some w) is)
-    (ap (λ b. b && nat_lt (profile_file_max t.disk.profile) (write_position (writer_view t w) + length bytes)) none) (ap (λ b. b && overfills_disk (tree_summary t) (written_writer (writer_view t w) bytes)) none)
+    (ap (λ b. b && nat_lt (profile_file_max t.disk.profile) (write_position (writer_view t w) + length bytes)) none) (ap (λ b. b && overfills_disk (tree_summary t) (writer_after_write (writer_view t w) bytes)) none)
 
 pub write_too_big : (t : TreeState) (fs : RuntimeFiles) (fd : ℕ) (bytes : List ℕ) (w : Writer) (place : ℕ) → false ≡ t.failed → IsWriterReady t w → Some w ≡ writer_if_any (open_file_at fs fd) → nat_lt 0 (length bytes) ≡ true →
     place ≡ (if w.appends then w.size else w.position) → nat_lt (profile_file_max t.disk.profile) (place + length bytes) ≡ true → refusal_by_checks (session_view t fs) (ops.Write fd bytes) ≡ Some ops.TooBig
@@ -58,35 +58,35 @@ write_too_big t fs fd bytes w place works written is some at big =
 
 -- what the writer would hold
 overfills_is : (t : TreeState) (w v : session.FileWriter) (turned : Bool) (size : ℕ) → v.dirty ≡ true → v.turned ≡ turned → length v.contents ≡ size →
-    overfills_disk (tree_summary t) v ≡ nat_lt (block_count t.disk) (length (tree_summary t).used + contents_reserve t.disk.profile t.disk.block_size turned size)
+    overfills_disk (tree_summary t) v ≡ nat_lt (block_count t.disk) (length (tree_summary t).used + draft_block_reserve t.disk.profile t.disk.block_size turned size)
 overfills_is t w v turned size dirty turns_writer long = rw (dirty, turns_writer, long) refl
 
 pub write_fits : (t : TreeState) (fs : RuntimeFiles) (fd : ℕ) (bytes : List ℕ) (w : Writer) (place begin size : ℕ) (turned full : Bool) → false ≡ t.failed → IsWriterReady t w → Some w ≡ writer_if_any (open_file_at fs fd) → nat_lt 0 (length bytes) ≡ true → 1 ≤ length bytes →
-    place ≡ (if w.appends then w.size else w.position) → nat_lt (profile_file_max t.disk.profile) (place + length bytes) ≡ false → begin ≡ min place w.size → turned ≡ (is_unsaved_turned w.unsaved || turns_writer (last_change_end w.unsaved) begin) → size ≡ max w.size (place + length bytes) →
-    full ≡ nat_lt (block_count t.disk) (length (tree_summary t).used + contents_reserve t.disk.profile t.disk.block_size turned size) → refusal_by_checks (session_view t fs) (ops.Write fd bytes) ≡ refuse_if full ops.NoSpace
+    place ≡ (if w.appends then w.size else w.position) → nat_lt (profile_file_max t.disk.profile) (place + length bytes) ≡ false → begin ≡ min place w.size → turned ≡ (is_draft_nonsequential w.unsaved || turns_writer (last_change_end w.unsaved) begin) → size ≡ max w.size (place + length bytes) →
+    full ≡ nat_lt (block_count t.disk) (length (tree_summary t).used + draft_block_reserve t.disk.profile t.disk.block_size turned size) → refusal_by_checks (session_view t fs) (ops.Write fd bytes) ≡ refuse_if full ops.NoSpace
 write_fits t fs fd bytes w place begin size turned full works written is some one at small begin_is turned_is size_is full_is =
     write_refused t fs fd bytes (writer_view t w) false full works (the_writer t fs fd (Some w) is)
     (ap₂ (λ a b. a && b) some (ap (λ p. nat_lt (profile_file_max t.disk.profile) (p + length bytes)) (sym p_is) ∙ small))
-    (ap₂ (λ a b. a && b) some (overfills_is t (writer_view t w) (written_writer (writer_view t w) bytes) turned size (ap (λ (v : session.FileWriter). v.dirty) after) (ap (λ (v : session.FileWriter). v.turned) after ∙ turn) (ap (λ (v : session.FileWriter). length v.contents) after ∙ long) ∙ sym full_is))
+    (ap₂ (λ a b. a && b) some (overfills_is t (writer_view t w) (writer_after_write (writer_view t w) bytes) turned size (ap (λ (v : session.FileWriter). v.dirty) after) (ap (λ (v : session.FileWriter). v.turned) after ∙ turn) (ap (λ (v : session.FileWriter). length v.contents) after ∙ long) ∙ sym full_is))
     ∙ left full
   where
     p_is : place ≡ write_position (writer_view t w)
     p_is = place_is t w place written at
 
-    after : written_writer (writer_view t w) bytes ≡ record (writer_view t w) {
-      contents = written_contents (unsaved_or_tree t w.path w.unsaved) (write_position (writer_view t w)) bytes;
+    after : writer_after_write (writer_view t w) bytes ≡ record (writer_view t w) {
+      contents = written_contents (draft_or_stored_bytes t w.path w.unsaved) (write_position (writer_view t w)) bytes;
       position = write_position (writer_view t w) + length bytes;
       dirty = true;
-      turned = is_unsaved_turned w.unsaved || turns_writer (last_change_end w.unsaved) (min (write_position (writer_view t w)) (length (unsaved_or_tree t w.path w.unsaved)));
+      turned = is_draft_nonsequential w.unsaved || turns_writer (last_change_end w.unsaved) (min (write_position (writer_view t w)) (length (draft_or_stored_bytes t w.path w.unsaved)));
       last_end = Some (write_position (writer_view t w) + length bytes);
     }
     after = after_write_is (writer_view t w) bytes one
 
-    turn : (is_unsaved_turned w.unsaved || turns_writer (last_change_end w.unsaved) (min (write_position (writer_view t w)) (length (unsaved_or_tree t w.path w.unsaved)))) ≡ turned
-    turn = ap₂ (λ p n. is_unsaved_turned w.unsaved || turns_writer (last_change_end w.unsaved) (min p n)) (sym p_is) written.size ∙ ap (λ b. is_unsaved_turned w.unsaved || turns_writer (last_change_end w.unsaved) b) (sym begin_is) ∙ sym turned_is
+    turn : (is_draft_nonsequential w.unsaved || turns_writer (last_change_end w.unsaved) (min (write_position (writer_view t w)) (length (draft_or_stored_bytes t w.path w.unsaved)))) ≡ turned
+    turn = ap₂ (λ p n. is_draft_nonsequential w.unsaved || turns_writer (last_change_end w.unsaved) (min p n)) (sym p_is) written.size ∙ ap (λ b. is_draft_nonsequential w.unsaved || turns_writer (last_change_end w.unsaved) b) (sym begin_is) ∙ sym turned_is
 
-    long : length (written_contents (unsaved_or_tree t w.path w.unsaved) (write_position (writer_view t w)) bytes) ≡ size
-    long = length-written (unsaved_or_tree t w.path w.unsaved) (write_position (writer_view t w)) bytes ∙ ap₂ (λ m p. max m (p + length bytes)) written.size (sym p_is) ∙ sym size_is
+    long : length (written_contents (draft_or_stored_bytes t w.path w.unsaved) (write_position (writer_view t w)) bytes) ≡ size
+    long = length-written (draft_or_stored_bytes t w.path w.unsaved) (write_position (writer_view t w)) bytes ∙ ap₂ (λ m p. max m (p + length bytes)) written.size (sym p_is) ∙ sym size_is
 
     left : (b : Bool) → first_refusal (refuse_if false ops.TooBig ∷ refuse_if b ops.NoSpace ∷ []) ≡ refuse_if b ops.NoSpace
     left true = refl
@@ -108,25 +108,25 @@ truncate_too_big t fs fd size w works is big = truncate_refused t fs fd size (wr
 pub truncate_same : (t : TreeState) (fs : RuntimeFiles) (fd size : ℕ) (w : Writer) → false ≡ t.failed → IsWriterReady t w → Some w ≡ writer_if_any (open_file_at fs fd) → nat_lt (profile_file_max t.disk.profile) size ≡ false → size ≡ w.size → refusal_by_checks (session_view t fs) (ops.Truncate fd size) ≡ None
 truncate_same t fs fd size w works written is small same =
     truncate_refused t fs fd size (writer_view t w) false false works (the_writer t fs fd (Some w) is) small
-    (ap (λ b. not b && overfills_disk (tree_summary t) (truncated_writer (writer_view t w) size)) (eq-eqb size (length (unsaved_or_tree t w.path w.unsaved)) (same ∙ sym written.size)))
+    (ap (λ b. not b && overfills_disk (tree_summary t) (truncated_writer (writer_view t w) size)) (eq-eqb size (length (draft_or_stored_bytes t w.path w.unsaved)) (same ∙ sym written.size)))
 
 pub truncate_fits : (t : TreeState) (fs : RuntimeFiles) (fd size : ℕ) (w : Writer) (turned full : Bool) → false ≡ t.failed → IsWriterReady t w → Some w ≡ writer_if_any (open_file_at fs fd) → nat_lt (profile_file_max t.disk.profile) size ≡ false → (size ≡ w.size → ⊥) →
-    turned ≡ (is_unsaved_turned w.unsaved || is_some (last_change_end w.unsaved)) → full ≡ nat_lt (block_count t.disk) (length (tree_summary t).used + contents_reserve t.disk.profile t.disk.block_size turned size) →
+    turned ≡ (is_draft_nonsequential w.unsaved || is_some (last_change_end w.unsaved)) → full ≡ nat_lt (block_count t.disk) (length (tree_summary t).used + draft_block_reserve t.disk.profile t.disk.block_size turned size) →
     refusal_by_checks (session_view t fs) (ops.Truncate fd size) ≡ refuse_if full ops.NoSpace
 truncate_fits t fs fd size w turned full works written is small other turned_is full_is =
     truncate_refused t fs fd size (writer_view t w) false full works (the_writer t fs fd (Some w) is) small
     (ap₂ (λ a b. not a && b) differs (overfills_is t (writer_view t w) (truncated_writer (writer_view t w) size) turned size (ap (λ (v : session.FileWriter). v.dirty) after) (ap (λ (v : session.FileWriter). v.turned) after ∙ sym turned_is)
-    (ap (λ (v : session.FileWriter). length v.contents) after ∙ length-cut (unsaved_or_tree t w.path w.unsaved) size) ∙ sym full_is))
+    (ap (λ (v : session.FileWriter). length v.contents) after ∙ length-cut (draft_or_stored_bytes t w.path w.unsaved) size) ∙ sym full_is))
     ∙ left full
   where
-    differs : (size == length (unsaved_or_tree t w.path w.unsaved)) ≡ false
-    differs = ne_eqb size (length (unsaved_or_tree t w.path w.unsaved)) (λ e. other (e ∙ written.size))
+    differs : (size == length (draft_or_stored_bytes t w.path w.unsaved)) ≡ false
+    differs = ne_eqb size (length (draft_or_stored_bytes t w.path w.unsaved)) (λ e. other (e ∙ written.size))
 
     after : truncated_writer (writer_view t w) size ≡ record (writer_view t w) {
-      contents = take size (zero_padded size (unsaved_or_tree t w.path w.unsaved));
+      contents = take size (zero_padded size (draft_or_stored_bytes t w.path w.unsaved));
       dirty = true;
-      turned = is_unsaved_turned w.unsaved || is_some (last_change_end w.unsaved);
-      last_end = if nat_lt (length (unsaved_or_tree t w.path w.unsaved)) size then Some size else last_change_end w.unsaved;
+      turned = is_draft_nonsequential w.unsaved || is_some (last_change_end w.unsaved);
+      last_end = if nat_lt (length (draft_or_stored_bytes t w.path w.unsaved)) size then Some size else last_change_end w.unsaved;
     }
     after = after_truncate_is (writer_view t w) size differs
 

@@ -1,8 +1,8 @@
 -- A writer that is changed in place among the open files.
 use Rattle.std.proofs.Common.{ℕ, zero, suc, ◌≡◌, ◌≤◌, List, [], ◌∷◌, length, Option, Some, sym, ap, subst, ◌∙◌, arith, slice_index_or}
 use Rattle.std.specs.Prelude.{slice_set}
-use Rattle.lfs_fs.proofs.Common.{same_Some, RuntimeFiles, unsaved_or_tree, open_file_at, writer_if_any, CanChangeWriter, IsUnsavedForm, TreeState, contents_form}
-use Rattle.lfs_fs.specs.WriterChanges.{HasWriterFile, ChangesWriterAt}
+use Rattle.lfs_fs.proofs.Common.{same_Some, RuntimeFiles, draft_or_stored_bytes, open_file_at, writer_if_any, CanChangeWriter, IsDraftOrFileForm, TreeState, contents_form}
+use Rattle.lfs_fs.specs.WriterChanges.{IsWritablePath, ChangesWriterAt}
 use Rattle.lfs_fs.specs.declared.files.OpenFile.{OpenFile}
 use Rattle.lfs_fs.specs.declared.files.OpenFile.TheVariants as file
 use Rattle.lfs_fs.specs.declared.files.UnsavedContents.{UnsavedContents}
@@ -29,8 +29,8 @@ pub as_many : (fs : RuntimeFiles) (fd : ℕ) (v w : Writer) → open_file_at fs 
 as_many fs fd v w e = subst (λ o. one_of (writer_if_any (Some (file.Writing v))) ≤ one_of (writer_if_any o)) (sym e) (omega arith)
 
 -- the contents of a writer whose changes were taken out
-pub has_contents : (t : TreeState) (w : Writer) (unsaved : Option UnsavedContents) → CanChangeWriter t w → unsaved ≡ w.unsaved → HasWriterFile t w.path unsaved
-has_contents t w unsaved can is = subst (λ u. HasWriterFile t w.path u) (sym is) (record {
+pub has_contents : (t : TreeState) (w : Writer) (unsaved : Option UnsavedContents) → CanChangeWriter t w → unsaved ≡ w.unsaved → IsWritablePath t w.path unsaved
+has_contents t w unsaved can is = subst (λ u. IsWritablePath t w.path u) (sym is) (record {
   works = can.works;
   writable = can.written.writable;
   settled = can.written.settled;
@@ -39,12 +39,12 @@ has_contents t w unsaved can is = subst (λ u. HasWriterFile t w.path u) (sym is
   over = λ u e. (changed_in t w u can.written.changed e).over;
 })
 
-pub has_size : (t : TreeState) (w : Writer) (unsaved : Option UnsavedContents) → CanChangeWriter t w → unsaved ≡ w.unsaved → length (unsaved_or_tree t w.path unsaved) ≡ w.size
-has_size t w unsaved can is = ap (λ u. length (unsaved_or_tree t w.path u)) is ∙ can.written.size
+pub has_size : (t : TreeState) (w : Writer) (unsaved : Option UnsavedContents) → CanChangeWriter t w → unsaved ≡ w.unsaved → length (draft_or_stored_bytes t w.path unsaved) ≡ w.size
+has_size t w unsaved can is = ap (λ u. length (draft_or_stored_bytes t w.path u)) is ∙ can.written.size
 
-pub same_form : (t : TreeState) (w : Writer) (unsaved : Option UnsavedContents) (c : WriterContents) → unsaved ≡ w.unsaved → IsUnsavedForm t.disk.profile t.disk.block_size unsaved (length (unsaved_or_tree t w.path unsaved)) (contents_form c) →
-    IsUnsavedForm t.disk.profile t.disk.block_size w.unsaved (length (unsaved_or_tree t w.path w.unsaved)) (contents_form c)
-same_form t w unsaved c is h = subst (λ u. IsUnsavedForm t.disk.profile t.disk.block_size u (length (unsaved_or_tree t w.path u)) (contents_form c)) is h
+pub same_form : (t : TreeState) (w : Writer) (unsaved : Option UnsavedContents) (c : WriterContents) → unsaved ≡ w.unsaved → IsDraftOrFileForm t.disk.profile t.disk.block_size unsaved (length (draft_or_stored_bytes t w.path unsaved)) (contents_form c) →
+    IsDraftOrFileForm t.disk.profile t.disk.block_size w.unsaved (length (draft_or_stored_bytes t w.path w.unsaved)) (contents_form c)
+same_form t w unsaved c is h = subst (λ u. IsDraftOrFileForm t.disk.profile t.disk.block_size u (length (draft_or_stored_bytes t w.path u)) (contents_form c)) is h
 
-pub same_bytes : (t : TreeState) (w : Writer) (unsaved : Option UnsavedContents) (bytes : List ℕ) → unsaved ≡ w.unsaved → bytes ≡ unsaved_or_tree t w.path unsaved → bytes ≡ unsaved_or_tree t w.path w.unsaved
-same_bytes t w unsaved bytes is e = subst (λ u. bytes ≡ unsaved_or_tree t w.path u) is e
+pub same_bytes : (t : TreeState) (w : Writer) (unsaved : Option UnsavedContents) (bytes : List ℕ) → unsaved ≡ w.unsaved → bytes ≡ draft_or_stored_bytes t w.path unsaved → bytes ≡ draft_or_stored_bytes t w.path w.unsaved
+same_bytes t w unsaved bytes is e = subst (λ u. bytes ≡ draft_or_stored_bytes t w.path u) is e

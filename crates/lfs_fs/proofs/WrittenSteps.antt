@@ -1,7 +1,7 @@
 -- A write of an open writer, and its turn.
 use Rattle.std.proofs.Common.{ℕ, ◌≡◌, ◌==◌, ◌+◌, ◌<◌, ◌^◌, ◌&&◌, ◌||◌, ◌++◌, Bool, true, false, List, [], ◌∷◌, length, set, nat_lt, Some, None, Ok, is_some, refl, sym, ap, ap₂, subst, ◌∙◌, arith}
 use Rattle.std.specs.Prelude.{◌==◌}
-use Rattle.lfs_fs.proofs.Common.{list_any, option_map, eqb-true, ltb-false, profile_file_max, Operation, needs_session_alone, IsStep, needs_no_device, Session, DiskSummary, Writing, file_numbered, first_refusal, overfills_disk, files_with_file, refuse_if, file_writer, written_writer, write_position, Healthy, operation_effect, Tree, DiskView, recovered_from, filled_step, KeepsImage, TreeState, tree_summary, shown_tree, CanWriteBy, IsChangedWriter, RuntimeFiles, open_file_at, files_view, writer_if_any, writer_view, StepsOrFails, SessionView, IsReady, session_view, system_state, refusal_by_checks, viewed_session}
+use Rattle.lfs_fs.proofs.Common.{list_any, option_map, eqb-true, ltb-false, profile_file_max, Operation, needs_session_alone, IsStep, needs_no_device, Session, DiskSummary, Writing, file_numbered, first_refusal, overfills_disk, files_with_file, refuse_if, file_writer, writer_after_write, write_position, Healthy, operation_effect, Tree, DiskView, recovered_from, filled_step, KeepsImage, TreeState, tree_summary, visible_tree, CanWriteBytes, IsChangedWriter, RuntimeFiles, open_file_at, files_view, writer_if_any, writer_view, StepsOrFails, SessionView, IsReady, session_view, system_state, refusal_by_checks, viewed_session}
 use Rattle.lfs_model.specs.session.Operations as ops
 use Rattle.lfs_fs.specs.declared.files.OpenFile.TheVariants as file
 use Rattle.lfs_fs.specs.declared.files.Writer.{Writer}
@@ -25,7 +25,7 @@ module _ (t : TreeState) (fs : RuntimeFiles) (fd : ℕ) (bytes : List ℕ) (w : 
   seen_there = the_writer t fs fd (Some w) is_writer
 
   checks_are : refusal_by_checks (session_view t fs) (ops.Write fd bytes)
-      ≡ first_refusal (refuse_if (nat_lt 0 (length bytes) && nat_lt (profile_file_max t.disk.profile) (write_position (writer_view t w) + length bytes)) ops.TooBig ∷ refuse_if (nat_lt 0 (length bytes) && overfills_disk (tree_summary t) (written_writer (writer_view t w) bytes)) ops.NoSpace ∷ [])
+      ≡ first_refusal (refuse_if (nat_lt 0 (length bytes) && nat_lt (profile_file_max t.disk.profile) (write_position (writer_view t w) + length bytes)) ops.TooBig ∷ refuse_if (nat_lt 0 (length bytes) && overfills_disk (tree_summary t) (writer_after_write (writer_view t w) bytes)) ops.NoSpace ∷ [])
   checks_are = rw (works_now, seen_there) refl
 
   left : (a b : Bool) → a ≡ true → (a && b) ≡ false → b ≡ false
@@ -35,7 +35,7 @@ module _ (t : TreeState) (fs : RuntimeFiles) (fd : ℕ) (bytes : List ℕ) (w : 
   small_enough : nat_lt 0 (length bytes) ≡ true → nat_lt (profile_file_max t.disk.profile) (write_position (writer_view t w) + length bytes) ≡ false
   small_enough some = left (nat_lt 0 (length bytes)) _ some (unrefused _ ops.TooBig (neither _ _ (sym checks_are ∙ accepted)).0)
 
-  has_room : nat_lt 0 (length bytes) ≡ true → overfills_disk (tree_summary t) (written_writer (writer_view t w) bytes) ≡ false
+  has_room : nat_lt 0 (length bytes) ≡ true → overfills_disk (tree_summary t) (writer_after_write (writer_view t w) bytes) ≡ false
   has_room some = left (nat_lt 0 (length bytes)) _ some (unrefused _ ops.NoSpace (neither _ _ (neither _ _ (sym checks_are ∙ accepted)).1).0)
 
   pub few_bytes : (length bytes == 0) ≡ false → length bytes < 2 ^ 32
@@ -50,7 +50,7 @@ module _ (t : TreeState) (fs : RuntimeFiles) (fd : ℕ) (bytes : List ℕ) (w : 
     pub alone : IsOnly fs fd w
     alone = only fs fd w e ready.one
 
-    pub can_now : (length bytes == 0) ≡ false → CanWriteBy t w bytes
+    pub can_now : (length bytes == 0) ≡ false → CanWriteBytes t w bytes
     can_now some = record {
       can = record {
         works = works_now;
@@ -72,11 +72,11 @@ empty_put : (t : TreeState) (fs : RuntimeFiles) (fd : ℕ) (now : SessionView) (
 empty_put t fs fd now w same invariant accepted e =
     subst (λ z. StepsOrFails now (ops.Write fd []) (Ok (ops.Count 0)) z) same
     (kept_answer (session_view t fs) now (ops.Write fd []) (files_view t fs) (ops.Count 0) same (sound_by t fs invariant) accepted refl refl refl
-    (ap (λ f. (ops.Count 0, record { tree = shown_tree t; files = f })) stays))
+    (ap (λ f. (ops.Count 0, record { tree = visible_tree t; files = f })) stays))
   where
-    stays : files_with_file (files_view t fs) fd (option_map (λ v. Writing (written_writer v [])) (file_writer (file_numbered (files_view t fs) fd))) ≡ files_view t fs
+    stays : files_with_file (files_view t fs) fd (option_map (λ v. Writing (writer_after_write v [])) (file_writer (file_numbered (files_view t fs) fd))) ≡ files_view t fs
     stays =
-        ap (λ o. files_with_file (files_view t fs) fd (option_map (λ v. Writing (written_writer v [])) o)) (the_writer t fs fd (Some w) (sym (ap writer_if_any e)))
+        ap (λ o. files_with_file (files_view t fs) fd (option_map (λ v. Writing (writer_after_write v [])) o)) (the_writer t fs fd (Some w) (sym (ap writer_if_any e)))
         ∙ sym (set_is t fs fd (Some (file.Writing w)) (ap is_some e)) ∙ ap (files_view t) (set_same fs fd (file.Writing w) e)
 
 pub nothing_put : (t : TreeState) (fs : RuntimeFiles) (fd : ℕ) (bytes : List ℕ) (now : SessionView) (w : Writer) → session_view t fs ≡ now → (t.failed ≡ false → IsReady t fs) → refusal_by_checks (session_view t fs) (ops.Write fd bytes) ≡ None → open_file_at fs fd ≡ Some (file.Writing w) →
@@ -96,7 +96,7 @@ pub some_taken : (t : TreeState) (fs : RuntimeFiles) (fd : ℕ) (bytes : List �
 some_taken t fs fd bytes some = some_needed (viewed_session (session_view t fs)) fd bytes some
 
 pub some_put : (t new : TreeState) (fs : RuntimeFiles) (fd : ℕ) (bytes : List ℕ) (now : SessionView) (w v : Writer) → session_view t fs ≡ now → (t.failed ≡ false → IsReady t fs) → refusal_by_checks (session_view t fs) (ops.Write fd bytes) ≡ None → open_file_at fs fd ≡ Some (file.Writing w) → (length bytes == 0) ≡ false →
-    IsChangedWriter new (written_writer (writer_view t w) bytes) v → KeepsImage t new → IsStep (system_state now) (ops.Write fd bytes) (ops.Count (length bytes)) (system_state (session_view new (set fs fd (Some (file.Writing v)))))
+    IsChangedWriter new (writer_after_write (writer_view t w) bytes) v → KeepsImage t new → IsStep (system_state now) (ops.Write fd bytes) (ops.Count (length bytes)) (system_state (session_view new (set fs fd (Some (file.Writing v)))))
 some_put t new fs fd bytes now w v same invariant accepted e some made b =
     subst (λ z. IsStep (system_state z) op (ops.Count (length bytes)) (system_state (session_view new later))) same
     (subst (λ m. IsStep m op (ops.Count (length bytes)) (system_state (session_view new later))) (sym (healthy_system (session_view t fs) works))
@@ -114,11 +114,11 @@ some_put t new fs fd bytes now w v same invariant accepted e some made b =
     works : t.failed ≡ false
     works = not_failed (session_view t fs) op accepted
 
-    files : files_view new later ≡ files_with_file (files_view t fs) fd (option_map (λ u. Writing (written_writer u bytes)) (file_writer (file_numbered (files_view t fs) fd)))
+    files : files_view new later ≡ files_with_file (files_view t fs) fd (option_map (λ u. Writing (writer_after_write u bytes)) (file_writer (file_numbered (files_view t fs) fd)))
     files =
         other_tree t new fs fd w v (only fs fd w e (invariant works).one) ∙ ap (λ x. set (files_view t fs) fd (Some (Writing x))) made.seen
-        ∙ sym (inside_put t fs fd (Writing (written_writer (writer_view t w) bytes)) (ap is_some e))
-        ∙ sym (ap (λ o. files_with_file (files_view t fs) fd (option_map (λ u. Writing (written_writer u bytes)) o)) (the_writer t fs fd (Some w) (sym (ap writer_if_any e))))
+        ∙ sym (inside_put t fs fd (Writing (writer_after_write (writer_view t w) bytes)) (ap is_some e))
+        ∙ sym (ap (λ o. files_with_file (files_view t fs) fd (option_map (λ u. Writing (writer_after_write u bytes)) o)) (the_writer t fs fd (Some w) (sym (ap writer_if_any e))))
 
     to : system_state (session_view new later) ≡ record { disk = new.disk; calls = b.calls ++ t.history; state = Healthy (operation_effect (tree_summary t) (viewed_session (session_view t fs)) op).1 }
     to = healthy_system (session_view new later) b.works ∙ ap₂ (λ calls (s : Session). record { disk = new.disk; calls = calls; state = Healthy s }) b.called (ap₂ (λ z f. record { tree = z; files = f }) b.shows files)

@@ -1,6 +1,6 @@
 -- Facts of a session's device, for proofs.
 use Rattle.std.specs.Prelude.{◌≡◌, false}
-use Rattle.lfs_model.specs.session.History.{LeftByLatest}
+use Rattle.lfs_model.specs.session.History.{LeftByLatestCall}
 use Rattle.lfs_model.specs.crash.Conformance.{CallsConform}
 use Rattle.lfs_tree.specs.TreeState.{TreeState}
 use Rattle.lfs_fs.specs.FileView.{RuntimeFiles}
@@ -8,7 +8,7 @@ use Rattle.lfs_fs.specs.SessionView.{IsReady}
 
 -- The disk is as the latest device call left it, and each call that didn't fail conforms to the laws.
 pub record DeviceConforms (t : TreeState) : Type 0 where
-  pub newest : LeftByLatest t.history t.disk.blocks
+  pub newest : LeftByLatestCall t.history t.disk.blocks
   pub conforms : CallsConform t.history
 
 -- The invariant of a session between its calls: unless it has failed, it is ready for the next call, and its device has met the

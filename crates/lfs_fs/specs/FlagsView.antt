@@ -16,8 +16,8 @@ flags_view f = record {
 }
 
 -- the flags of both
-abbrev pub joined_flags : FlagsOfOpen → FlagsOfOpen → FlagsOfOpen
-joined_flags f g = record {
+abbrev pub flags_union : FlagsOfOpen → FlagsOfOpen → FlagsOfOpen
+flags_union f g = record {
   read = f.read || g.read;
   write = f.write || g.write;
   create = f.create || g.create;

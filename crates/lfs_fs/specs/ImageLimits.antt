@@ -1,13 +1,13 @@
 -- The limits that an image has, and a mount by them.
 use Rattle.std.specs.Prelude.{◌≡◌, ◌≢◌, ◌<◌, ◌⊎◌, true, false, List, Some}
-use Rattle.lfs_device.specs.DeviceDisk.{profiled_disk}
-use Rattle.lfs_model.specs.format.Disk.{ordered_disk, Disk}
+use Rattle.lfs_device.specs.DeviceDisk.{disk_with_profile}
+use Rattle.lfs_model.specs.format.Disk.{disk_with_order, Disk}
 use Rattle.lfs_device.specs.declared.device.BlockDevice.{Ghosts}
 use Rattle.lfs_device.specs.declared.error.Error.{Error}
 use Rattle.lfs_device.specs.declared.error.Error.TheVariants.{Failed, Io}
 use Rattle.lfs_model.specs.format.EntryTypes.{SuperblockFields}
 use Rattle.lfs_model.specs.session.History.{CallEvent, OnlyReadsSince, fault_count}
-use Rattle.lfs_model.specs.tree.Profile.{profile_with_limits, image_fields}
+use Rattle.lfs_model.specs.tree.Profile.{profile_with_limits, image_superblock_fields}
 use Rattle.lfs_model.specs.declared.limits.Profile.{Profile}
 use Rattle.lfs_model.specs.declared.order.NameOrder.{NameOrder}
 use Rattle.lfs_thread.specs.Kept.{disk_of_device}
@@ -29,16 +29,16 @@ FailedByRead old new e = ((old.tree.failed ≡ true) × (e ≡ Failed) × (new �
 -- ---- a mount by the limits of the image
 
 -- The session was mounted from the disk. Its profile is the given one with the limits of the image's superblock.
-pub record BeginsLimited (disk : Disk) (history : List CallEvent) (profile : Profile) (h : SessionView) : Type 0 where
+pub record BeginsWithImageLimits (disk : Disk) (history : List CallEvent) (profile : Profile) (h : SessionView) : Type 0 where
   pub fields : SuperblockFields
-  pub superblock : image_fields h.tree.pairs ≡ Some fields
+  pub superblock : image_superblock_fields h.tree.pairs ≡ Some fields
   pub limits : h.tree.disk.profile ≡ profile_with_limits fields profile
-  pub begun : BeginsByMount (ordered_disk h.tree.disk.order (profiled_disk h.tree.disk.profile disk)) history h
+  pub begun : BeginsByMount (disk_with_order h.tree.disk.order (disk_with_profile h.tree.disk.profile disk)) history h
 
 -- The call returns the device with an error. The device was only read, and is the same disk, whatever the order of names and
 -- the profile. The error is `Io` exactly if a device call failed.
 pub record ReturnsUnchangedDevice {D : Type 0} (g : Ghosts D) (old back : D) (error : Error) : Type 0 where
-  pub disk : (order : NameOrder) (profile : Profile) → ordered_disk order (profiled_disk profile (disk_of_device g back)) ≡ ordered_disk order (profiled_disk profile (disk_of_device g old))
+  pub disk : (order : NameOrder) (profile : Profile) → disk_with_order order (disk_with_profile profile (disk_of_device g back)) ≡ disk_with_order order (disk_with_profile profile (disk_of_device g old))
   pub reads : OnlyReadsSince (g.blocks old) (g.history old) (g.history back)
   pub fault : error ≡ Io → fault_count (g.history old) < fault_count (g.history back)
   pub no_fault : error ≢ Io → fault_count (g.history back) ≡ fault_count (g.history old)

@@ -9,7 +9,7 @@ use Rattle.lfs_model.specs.format.Slots.{zero_gstate}
 use Rattle.lfs_model.specs.format.Thread.{pairs_gstate}
 use Rattle.lfs_model.specs.tree.Tree.{Path}
 use Rattle.lfs_lookup.specs.RefusalErrors.{is_refusal, error_refusal}
-use Rattle.lfs_tree.specs.RenameFindings.{AreRenameResults}
+use Rattle.lfs_tree.specs.RenameLookup.{AreRenameResults}
 use Rattle.lfs_tree.specs.TreeState.{TreeState, kept_thread}
 use Rattle.lfs_fs.specs.EntryPaths.{entry_path}
 use Rattle.lfs_fs.specs.FileView.{RuntimeFiles}
@@ -30,7 +30,7 @@ prevents_rename from to p = is_some (without_prefix from p) || same_path to p
 
 -- A rename that passes the checks without a look-up: the tree hasn't failed and may be written, no path is the root's, and the
 -- new one isn't beneath the old one.
-pub record PassesRename (t : TreeState) (old new : List ℕ) (paths : RenamePaths) : Type 0 where
+pub record PassesRenameWithoutLookup (t : TreeState) (old new : List ℕ) (paths : RenamePaths) : Type 0 where
   pub given : (paths.old.now ≡ old) × (paths.new.now ≡ new)
   pub works : t.failed ≡ false
   pub writable : t.writable ≡ true
@@ -40,8 +40,8 @@ pub record PassesRename (t : TreeState) (old new : List ℕ) (paths : RenamePath
   pub same : paths.is_same ≡ same_path (path_or_root old) (path_or_root new)
 
 -- the error is the operation's refusal, whatever files are open
-abbrev pub IsRefusedAnyway : TreeState → Operation → Error → Type 0
-IsRefusedAnyway t op e = (files : RuntimeFiles) → (is_refusal e ≡ true) × (refusal_by_checks (session_view t files) op ≡ Some (error_refusal e))
+abbrev pub IsFileIndependentRefusal : TreeState → Operation → Error → Type 0
+IsFileIndependentRefusal t op e = (files : RuntimeFiles) → (is_refusal e ≡ true) × (refusal_by_checks (session_view t files) op ≡ Some (error_refusal e))
 
 -- the paths of these bytes, whether they are the same, and the results of their look-ups if nothing is to recover
 pub record IsPermittedRename (t : TreeState) (old new : List ℕ) (r : PermittedRename) : Type 0 where

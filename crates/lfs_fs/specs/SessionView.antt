@@ -13,7 +13,7 @@ use Rattle.lfs_model.specs.format.Slots.{zero_gstate}
 use Rattle.lfs_model.specs.format.Thread.{Pair, pairs_gstate}
 use Rattle.lfs_model.specs.tree.Tree.{Path, Tree}
 use Rattle.lfs_model.specs.session.Session.{OpenFilesByNumber, Session, all_readers, all_writers, flags_allowed, parents_refusal}
-use Rattle.lfs_fs.specs.FileView.{RuntimeFiles, unsaved_or_tree, files_view, has_unsaved, contents_reserve, readers_among, writer_view, writers_among, writers_paths}
+use Rattle.lfs_fs.specs.FileView.{RuntimeFiles, draft_or_stored_bytes, files_view, has_unsaved, draft_block_reserve, readers_among, writer_view, writers_among, writers_paths}
 use Rattle.lfs_fs.specs.declared.files.Reader.{Reader}
 use Rattle.lfs_fs.specs.declared.files.Writer.{Writer}
 use Rattle.std.specs.List.{AllByRecursion, list_any}
@@ -35,7 +35,7 @@ use Rattle.lfs_model.specs.tree.Shown.{struct_blocks}
 use Rattle.lfs_lookup.specs.FileContents.{IsStorageAt, contents_struct}
 use Rattle.lfs_lookup.specs.RefusalErrors.{is_refusal, error_refusal}
 use Rattle.lfs_lookup.specs.declared.file_contents.FileContents.{FileContents}
-use Rattle.lfs_tree.specs.TreeState.{TreeState, kept_thread, shown_tree, tree_summary, IsSoundState, OnlyReadsTree, FailedByReading, HasErrorCause}
+use Rattle.lfs_tree.specs.TreeState.{TreeState, kept_thread, visible_tree, tree_summary, IsSoundState, OnlyReadsTree, FailedByReading, HasErrorCause}
 
 -- The tree and the open files.
 pub record SessionView : Type 0 where
@@ -50,23 +50,23 @@ session_view tree files = view_with_files tree (files_view tree files)
 
 -- Changed contents are those of the file's writer, in a form that fits the writer. They can be saved, and there is room for the
 -- blocks that the writer holds.
-pub record AreUnsavedContents (t : TreeState) (w : Writer) (u : UnsavedContents) : Type 0 where
+pub record AreSoundUnsavedContents (t : TreeState) (w : Writer) (u : UnsavedContents) : Type 0 where
   pub over : AreTreeContents t w.path u.contents
   pub kept : IsWriterForm t.disk.profile t.disk.block_size (contents_form u.contents) (writer_view t w)
   pub form : InlineWithinLimit (inline_limit t.disk.profile t.disk.block_size) (contents_form u.contents)
-  pub room : length (tree_summary t).used + contents_reserve t.disk.profile t.disk.block_size u.has_turned w.size ≤ block_count t.disk
+  pub room : length (tree_summary t).used + draft_block_reserve t.disk.profile t.disk.block_size u.has_turned w.size ≤ block_count t.disk
 
-abbrev pub AreUnsavedIfAny : TreeState → Writer → Option UnsavedContents → Type 0
-AreUnsavedIfAny t w None = Unit {0}
-AreUnsavedIfAny t w (Some u) = AreUnsavedContents t w u
+abbrev pub AreSoundIfUnsaved : TreeState → Writer → Option UnsavedContents → Type 0
+AreSoundIfUnsaved t w None = Unit {0}
+AreSoundIfUnsaved t w (Some u) = AreSoundUnsavedContents t w u
 
 -- The image under a file that is open for writing has nothing to recover, and the file is in the tree.
 pub record IsWriterReady (t : TreeState) (w : Writer) : Type 0 where
   pub writable : t.writable ≡ true
   pub settled : pairs_gstate t.pairs ≡ zero_gstate
-  pub there : is_file (shown_tree t w.path) ≡ true
-  pub size : length (unsaved_or_tree t w.path w.unsaved) ≡ w.size
-  pub changed : AreUnsavedIfAny t w w.unsaved
+  pub there : is_file (visible_tree t w.path) ≡ true
+  pub size : length (draft_or_stored_bytes t w.path w.unsaved) ≡ w.size
+  pub changed : AreSoundIfUnsaved t w w.unsaved
 
 -- A reader's contents are those of the entry at its path, and no writer is at that path.
 pub record IsCurrentReader (ps : List Pair) (written : List Path) (r : Reader) : Type 0 where
@@ -78,8 +78,8 @@ abbrev pub AreCurrentReaders : List Pair → RuntimeFiles → Type 0
 AreCurrentReaders ps files = AllByRecursion (IsCurrentReader ps (writers_paths files)) (readers_among files)
 
 -- The blocks that a reader knows are its list's.
-abbrev pub HasKnownBlocks : Disk → Reader → Type 0
-HasKnownBlocks disk r = AreKnownBlocks (struct_blocks disk (contents_struct r.contents)) r.known
+abbrev pub HasValidIndexCache : Disk → Reader → Type 0
+HasValidIndexCache disk r = AreKnownBlocks (struct_blocks disk (contents_struct r.contents)) r.known
 
 -- What a session keeps of a tree that works: the tree is the disk's, whose device has had a call. Blocks are in flight only where
 -- a writer has changes.
@@ -90,10 +90,10 @@ pub record IsReady (t : TreeState) (files : RuntimeFiles) : Type 0 where
   pub idle : has_unsaved files ≡ false → in_flight_count t.map ≡ 0
   pub written : AllByRecursion (IsWriterReady t) (writers_among files)
   pub read : AreCurrentReaders t.pairs files
-  pub known : AllByRecursion (HasKnownBlocks t.disk) (readers_among files)
+  pub known : AllByRecursion (HasValidIndexCache t.disk) (readers_among files)
 
 abbrev pub viewed_session : SessionView → Session
-viewed_session h = record { tree = shown_tree h.tree; files = h.files }
+viewed_session h = record { tree = visible_tree h.tree; files = h.files }
 
 abbrev pub system_state : SessionView → SystemState
 system_state h = record {
@@ -131,13 +131,13 @@ abbrev pub refusal_by_checks : SessionView → Operation → Option Refusal
 refusal_by_checks h op = if h.tree.failed then Some Failed else operation_refusal (tree_summary h.tree) (viewed_session h) op
 
 -- no check refuses the operation, of those that make no call
-abbrev pub PassesEarlyChecks : SessionView → Operation → Type 0
-PassesEarlyChecks h op = (r : Refusal) → refusal_by_checks h op ≡ Some r → refused_before_search op r ≡ false
+abbrev pub PassesReadlessChecks : SessionView → Operation → Type 0
+PassesReadlessChecks h op = (r : Refusal) → refusal_by_checks h op ≡ Some r → refused_before_search op r ≡ false
 
 -- what the checks leave where they end in that error: a refusal, or a call that failed
 abbrev pub FailsChecks : Bool → SessionView → Operation → Error → TreeState → Type 0
 FailsChecks true h op e tree = OnlyReadsTree h.tree tree × (refusal_by_checks h op ≡ Some (error_refusal e)) × (refused_before_search op (error_refusal e) ≡ true → tree ≡ h.tree)
-FailsChecks false h op e tree = FailedByReading h.tree tree × (h.tree.failed ≡ false) × HasErrorCause h.tree tree e × PassesEarlyChecks h op
+FailsChecks false h op e tree = FailedByReading h.tree tree × (h.tree.failed ≡ false) × HasErrorCause h.tree tree e × PassesReadlessChecks h op
 
 -- An operation's checks by reads alone. The operation passes, and then the value has P; or it is refused; or a read failed.
 abbrev pub IsChecksResult : {A : Type 0} → SessionView → Operation → (A → Type 0) → Result A Error → TreeState → Type 0
@@ -158,20 +158,20 @@ pub record CanOpenReader (t : Tree) (files : OpenFilesByNumber) (bytes : List �
 
 -- the same, with the contents of its file
 pub record IsReadableFile (t : TreeState) (files : OpenFilesByNumber) (bytes : List ℕ) (kept : FileContents) : Type 0 where
-  pub readable : CanOpenReader (shown_tree t) files bytes
+  pub readable : CanOpenReader (visible_tree t) files bytes
   pub contents : IsStorageAt t.pairs (path_or_root bytes) kept
 
 -- An open for writing that passes the checks before those of its entry.
-pub record PassesFirstChecks (t : TreeState) (bytes : List ℕ) (flags : FlagsOfOpen) : Type 0 where
+pub record PassesChecksBeforeEntry (t : TreeState) (bytes : List ℕ) (flags : FlagsOfOpen) : Type 0 where
   pub works : t.failed ≡ false
   pub writable : t.writable ≡ true
   pub given : is_some (parse_path bytes) ≡ true
   pub write : flags.write ≡ true
   pub allowed : flags_allowed flags ≡ true
-  pub parents : parents_refusal (shown_tree t) [] (path_or_root bytes) ≡ None
+  pub parents : parents_refusal (visible_tree t) [] (path_or_root bytes) ≡ None
 
 -- a file that may be opened for writing, and where its path leads to, if nothing is to recover
-pub record IsFoundWritable (t : Tree) (now : TreeState) (bytes : List ℕ) (found : WritableFile) : Type 0 where
+pub record IsCheckedWritableFile (t : Tree) (now : TreeState) (bytes : List ℕ) (found : WritableFile) : Type 0 where
   pub path : found.path ≡ path_or_root bytes
   pub size : node_file_size (t found.path) ≡ found.size
   pub target : IfSome found.target (IsCreationResult (kept_thread now) found.path)

@@ -4,5 +4,5 @@ use Rattle.lfs_model.specs.session.Run.{SystemState}
 use Rattle.lfs_model.specs.crash.Lives.{Turn, IsLife}
 
 -- a life led from the first state to the second
-abbrev pub LivesOn : SystemState → SystemState → Type 0
-LivesOn from to = (turns : List Turn) × IsLife from turns to
+abbrev pub IsReachableByCalls : SystemState → SystemState → Type 0
+IsReachableByCalls from to = (turns : List Turn) × IsLife from turns to

@@ -2,24 +2,24 @@
 
 ghost use Rattle.std.specs.Prelude.{if◌then◌else◌, nat_lt, ◌+◌, ◌≡◌, ◌<◌, ◌^◌, ℕ, List, [], length, map, true, false, is_none, is_some, unwrap_or};
 ghost use Rattle.lfs_model.specs.session.Operations as ops;
-ghost use Rattle.lfs_model.specs.session.Session.{exceeds_charge};
+ghost use Rattle.lfs_model.specs.session.Session.{exceeds_half_pair};
 ghost use Rattle.lfs_model.specs.format.Disk.{block_count, profile_attr_max, profile_file_max, profile_name_max};
-ghost use Rattle.lfs_fs.specs.FileView.{open_file_at, files_view, writers_reserve, contents_reserve, writer_if_any};
+ghost use Rattle.lfs_fs.specs.FileView.{open_file_at, files_view, writers_block_reserve, draft_block_reserve, writer_if_any};
 ghost use Rattle.lfs_model.specs.session.Refusals.{path_or_root};
-ghost use Rattle.lfs_model.specs.session.Effects.{items_at, node_file_size};
+ghost use Rattle.lfs_model.specs.session.Effects.{listed_entries_at, node_file_size};
 ghost use Rattle.lfs_fs.specs.FlagsView.{flags_view};
 ghost use Rattle.lfs_model.specs.session.TreeEdits.{is_directory, last_name, node_attributes_of};
 ghost use Rattle.lfs_model.specs.format.Content.{attribute_bytes};
 ghost use Rattle.lfs_fs.specs.EntryPaths.{entry_path};
-ghost use Rattle.lfs_fs.specs.SessionView.{IsChecksResult, IsReadlessResult, IsFoundWritable, IsReadableFile, IsReady, PassesFirstChecks, refusal_by_checks, session_view};
-ghost use Rattle.lfs_fs.specs.LookUps.{ReadsSearched, AddsNoReads, CachesSearched};
+ghost use Rattle.lfs_fs.specs.SessionView.{IsChecksResult, IsReadlessResult, IsCheckedWritableFile, IsReadableFile, IsReady, PassesChecksBeforeEntry, refusal_by_checks, session_view};
+ghost use Rattle.lfs_fs.specs.LookUps.{ReadsSearchedPairsOnce, CachedLookupReadsNothing, CachesSearchedDirectories};
 ghost use Rattle.lfs_lookup.specs.Finds.{is_directory_node, listed_item_view, node_size_if_file, stat_view};
-ghost use Rattle.lfs_tree.specs.TreeState.{tree_summary, shown_tree};
+ghost use Rattle.lfs_tree.specs.TreeState.{tree_summary, visible_tree};
 ghost use Rattle.lfs_model.specs.format.Slots.{Attributes, attributes_size};
-ghost use Rattle.lfs_fs.specs.Replacements.{IncludesReplaced, replaced_size};
+ghost use Rattle.lfs_fs.specs.Replacements.{IncludesReplacedAttribute, replaced_attribute_size};
 
 use crate::check_order::{are_both_true, find_first_refusal, value_or_refusal};
-use crate::files::{Files, reserved_for_bytes};
+use crate::files::{Files, draft_blocks_reserved};
 use crate::flags::OpenFlags;
 use bitflags::Flags;
 use lfs_device::{BlockDevice, Error};
@@ -31,22 +31,22 @@ use std::alloc::Global;
 
 // Returns whether a new entry with a name of `name_len` bytes would be too large for its metadata
 // pair.
-fn new_entry_overflows<D: BlockDevice>(tree: &Tree<D>, name_len: usize) -> bool
+fn new_entry_exceeds_limit<D: BlockDevice>(tree: &Tree<D>, name_len: usize) -> bool
     requires { name_len < 2 ^ 63 }
-    ensures { (name : List ℕ) → length name ≡ name_len → result ≡ exceeds_charge (tree_summary tree.now) name [] }
+    ensures { (name : List ℕ) → length name ≡ name_len → result ≡ exceeds_half_pair (tree_summary tree.now) name [] }
 {
-    entry_overflows(tree, name_len, 0)
+    exceeds_entry_limit(tree, name_len, 0)
 }
 
 // Returns whether an entry would be too large for its metadata pair, given the lengths in bytes of
 // its name and its attributes.
-pub(crate) fn entry_overflows<D: BlockDevice>(
+pub(crate) fn exceeds_entry_limit<D: BlockDevice>(
     tree: &Tree<D>,
     name_len: usize,
     attributes_len: usize,
 ) -> bool
     requires { name_len < 2 ^ 63 }
-    ensures { (name : List ℕ) (attributes : Attributes) → length name ≡ name_len → attributes_size attributes ≡ attributes_len → result ≡ exceeds_charge (tree_summary tree.now) name attributes }
+    ensures { (name : List ℕ) (attributes : Attributes) → length name ≡ name_len → attributes_size attributes ≡ attributes_len → result ≡ exceeds_half_pair (tree_summary tree.now) name attributes }
 {
     let geometry = tree.geometry();
     let entry = 4 + name_len as u64 + (4 + u64::from(geometry.struct_limit()));
@@ -54,14 +54,14 @@ pub(crate) fn entry_overflows<D: BlockDevice>(
 }
 
 // Returns whether the profile doesn't allow a name of `name_len` bytes.
-pub(crate) fn name_is_long<D: BlockDevice>(tree: &Tree<D>, name_len: usize) -> bool
+pub(crate) fn exceeds_name_max<D: BlockDevice>(tree: &Tree<D>, name_len: usize) -> bool
     ensures { result ≡ nat_lt (profile_name_max tree.now.disk.profile) name_len }
 {
     name_len > tree.geometry().name_max() as usize
 }
 
 // Returns whether the profile doesn't allow a file of `size` bytes.
-fn file_is_long<D: BlockDevice>(tree: &Tree<D>, size: u64) -> bool
+fn exceeds_file_max<D: BlockDevice>(tree: &Tree<D>, size: u64) -> bool
     ensures longer { result ≡ nat_lt (profile_file_max tree.now.disk.profile) size }
     ensures small { result ≡ false → size < 2 ^ 31 }
 {
@@ -69,17 +69,17 @@ fn file_is_long<D: BlockDevice>(tree: &Tree<D>, size: u64) -> bool
 }
 
 // Returns whether the profile doesn't allow an attribute of `len` bytes.
-fn attribute_is_long<D: BlockDevice>(tree: &Tree<D>, len: usize) -> bool
+fn exceeds_attr_max<D: BlockDevice>(tree: &Tree<D>, len: usize) -> bool
     ensures { result ≡ nat_lt (profile_attr_max tree.now.disk.profile) len }
 {
     len > tree.geometry().attr_max() as usize
 }
 
 // Returns whether fewer than `need` blocks are free, apart from those reserved for a writer.
-pub(crate) fn lacks_blocks<D: BlockDevice>(tree: &Tree<D>, files: &Files, need: u32) -> bool
+pub(crate) fn lacks_free_blocks<D: BlockDevice>(tree: &Tree<D>, files: &Files, need: u32) -> bool
     requires works { tree.now.failed ≡ false }
     requires small { need < 16 }
-    ensures { result ≡ nat_lt (block_count tree.now.disk) (length (tree_summary tree.now).used + writers_reserve tree.now.disk.profile tree.now.disk.block_size files.now + need) }
+    ensures { result ≡ nat_lt (block_count tree.now.disk) (length (tree_summary tree.now).used + writers_block_reserve tree.now.disk.profile tree.now.disk.block_size files.now + need) }
 {
     let geometry = tree.geometry();
     let held = files.reserved_block_count(geometry);
@@ -93,10 +93,10 @@ pub fn check_and_stat<D: BlockDevice>(
     files: &Files,
     bytes: &[u8],
 ) -> Result<Stat, Error>
-    ensures checks { IsChecksResult (session_view tree.old files.now) (ops.Stat bytes.now) (λ stat. node_file_size (shown_tree tree.old (path_or_root bytes.now)) ≡ stat_view stat) result tree.new }
-    ensures few { ReadsSearched tree.old (ops.Stat bytes.now) tree.new }
-    ensures kept { AddsNoReads tree.old (ops.Stat bytes.now) tree.new }
-    ensures hand { CachesSearched tree.old (ops.Stat bytes.now) result tree.new }
+    ensures checks { IsChecksResult (session_view tree.old files.now) (ops.Stat bytes.now) (λ stat. node_file_size (visible_tree tree.old (path_or_root bytes.now)) ≡ stat_view stat) result tree.new }
+    ensures few { ReadsSearchedPairsOnce tree.old (ops.Stat bytes.now) tree.new }
+    ensures kept { CachedLookupReadsNothing tree.old (ops.Stat bytes.now) tree.new }
+    ensures hand { CachesSearchedDirectories tree.old (ops.Stat bytes.now) result tree.new }
 {
     if tree.has_failed() {
         return Err(Error::Failed);
@@ -135,10 +135,13 @@ pub fn check_mkdir<'a, D: BlockDevice>(
     let found = tree.look_up(alloc, &path)?;
     let checks = [
         found.fault,
-        refuse_if(name_is_long(tree, path.name_len()), Error::NameTooLong),
+        refuse_if(exceeds_name_max(tree, path.name_len()), Error::NameTooLong),
         refuse_if(!found.node.is_nothing(), Error::Exist),
-        refuse_if(new_entry_overflows(tree, path.name_len()), Error::EntryFull),
-        refuse_if(lacks_blocks(tree, files, 4), Error::NoSpace),
+        refuse_if(
+            new_entry_exceeds_limit(tree, path.name_len()),
+            Error::EntryFull,
+        ),
+        refuse_if(lacks_free_blocks(tree, files, 4), Error::NoSpace),
     ];
     value_or_refusal(&checks, path)
 }
@@ -158,7 +161,7 @@ pub fn check_seek<D: BlockDevice>(
     if !files.is_open(fd) {
         return Err(Error::BadFile);
     }
-    if file_is_long(tree, position as u64) {
+    if exceeds_file_max(tree, position as u64) {
         return Err(Error::Invalid);
     }
     Ok(())
@@ -208,7 +211,7 @@ pub struct WritableFile<'a> {
 }
 
 // Returns whether too few blocks are free to truncate a file of `size` bytes to 0 bytes.
-fn lacks_truncate_room<D: BlockDevice>(tree: &Tree<D>, size: Option<u32>) -> bool
+fn lacks_truncate_blocks<D: BlockDevice>(tree: &Tree<D>, size: Option<u32>) -> bool
     requires { tree.now.failed ≡ false }
     ensures { result ≡ nat_lt (block_count tree.now.disk) (length (tree_summary tree.now).used + (if nat_lt 0 (unwrap_or size 0) then 2 else 0)) }
 {
@@ -225,8 +228,8 @@ fn creation_refusal<D: BlockDevice>(
     flags: OpenFlags,
 ) -> Option<Refusal>
     requires ready { IsReady tree.now files.now }
-    requires passes { PassesFirstChecks tree.now bytes.now (flags_view flags) }
-    requires absent { is_none (shown_tree tree.now (path_or_root bytes.now)) ≡ true }
+    requires passes { PassesChecksBeforeEntry tree.now bytes.now (flags_view flags) }
+    requires absent { is_none (visible_tree tree.now (path_or_root bytes.now)) ≡ true }
     requires len { length (last_name (path_or_root bytes.now)) ≡ name_len }
     requires bound { name_len < 2 ^ 63 }
     ensures { result ≡ refusal_by_checks (session_view tree.now files.now) (ops.Open bytes.now (flags_view flags)) }
@@ -235,26 +238,26 @@ fn creation_refusal<D: BlockDevice>(
         return refuse_if(true, Error::NoEnt);
     }
     let checks = [
-        refuse_if(name_is_long(tree, name_len), Error::NameTooLong),
+        refuse_if(exceeds_name_max(tree, name_len), Error::NameTooLong),
         refuse_if(files.prevents_writer_at(bytes), Error::Busy),
-        refuse_if(new_entry_overflows(tree, name_len), Error::EntryFull),
-        refuse_if(lacks_blocks(tree, files, 2), Error::NoSpace),
+        refuse_if(new_entry_exceeds_limit(tree, name_len), Error::EntryFull),
+        refuse_if(lacks_free_blocks(tree, files, 2), Error::NoSpace),
     ];
     find_first_refusal(&checks)
 }
 
 // Returns the refusal, if any, of opening an existing entry for writing.
-fn reopening_refusal<D: BlockDevice>(
+fn existing_entry_refusal<D: BlockDevice>(
     tree: &Tree<D>,
     files: &Files,
     bytes: &[u8],
     node: Node,
     flags: OpenFlags,
 ) -> Option<Refusal>
-    requires passes { PassesFirstChecks tree.now bytes.now (flags_view flags) }
-    requires there { is_none (shown_tree tree.now (path_or_root bytes.now)) ≡ false }
-    requires directories { is_directory (shown_tree tree.now (path_or_root bytes.now)) ≡ is_directory_node node }
-    requires sizes { node_file_size (shown_tree tree.now (path_or_root bytes.now)) ≡ node_size_if_file node }
+    requires passes { PassesChecksBeforeEntry tree.now bytes.now (flags_view flags) }
+    requires there { is_none (visible_tree tree.now (path_or_root bytes.now)) ≡ false }
+    requires directories { is_directory (visible_tree tree.now (path_or_root bytes.now)) ≡ is_directory_node node }
+    requires sizes { node_file_size (visible_tree tree.now (path_or_root bytes.now)) ≡ node_size_if_file node }
     ensures { result ≡ refusal_by_checks (session_view tree.now files.now) (ops.Open bytes.now (flags_view flags)) }
 {
     let truncates = flags.contains(OpenFlags::TRUNCATE);
@@ -263,7 +266,7 @@ fn reopening_refusal<D: BlockDevice>(
         refuse_if(node.is_directory(), Error::IsDir),
         refuse_if(files.prevents_writer_at(bytes), Error::Busy),
         refuse_if(
-            are_both_true(truncates, lacks_truncate_room(tree, node.size())),
+            are_both_true(truncates, lacks_truncate_blocks(tree, node.size())),
             Error::NoSpace,
         ),
     ];
@@ -281,7 +284,7 @@ pub fn check_open_writer<'a, D: BlockDevice>(
 ) -> Result<WritableFile<'a>, Error>
     requires write { (flags_view flags).write ≡ true }
     requires ready { tree.old.failed ≡ false → IsReady tree.old files.now }
-    ensures { IsChecksResult (session_view tree.old files.now) (ops.Open bytes.now (flags_view flags)) (IsFoundWritable (shown_tree tree.old) tree.new bytes.now) result tree.new }
+    ensures { IsChecksResult (session_view tree.old files.now) (ops.Open bytes.now (flags_view flags)) (IsCheckedWritableFile (visible_tree tree.old) tree.new bytes.now) result tree.new }
 {
     if tree.has_failed() {
         return Err(Error::Failed);
@@ -303,7 +306,7 @@ pub fn check_open_writer<'a, D: BlockDevice>(
     let refusal = if node.is_nothing() {
         creation_refusal(tree, files, bytes, path.name_len(), flags)
     } else {
-        reopening_refusal(tree, files, bytes, node, flags)
+        existing_entry_refusal(tree, files, bytes, node, flags)
     };
     let file = WritableFile {
         path,
@@ -331,9 +334,9 @@ pub fn check_and_list<D: BlockDevice>(
     files: &Files,
     bytes: &[u8],
 ) -> Result<Vec<ListItem>, Error>
-    ensures checks { IsChecksResult (session_view tree.old files.now) (ops.ListAll bytes.now) (λ items. items_at (shown_tree tree.old) (path_or_root bytes.now) ≡ map listed_item_view items.items) result tree.new }
-    ensures few { ReadsSearched tree.old (ops.ListAll bytes.now) tree.new }
-    ensures kept { AddsNoReads tree.old (ops.ListAll bytes.now) tree.new }
+    ensures checks { IsChecksResult (session_view tree.old files.now) (ops.ListAll bytes.now) (λ items. listed_entries_at (visible_tree tree.old) (path_or_root bytes.now) ≡ map listed_item_view items.items) result tree.new }
+    ensures few { ReadsSearchedPairsOnce tree.old (ops.ListAll bytes.now) tree.new }
+    ensures kept { CachedLookupReadsNothing tree.old (ops.ListAll bytes.now) tree.new }
 {
     if tree.has_failed() {
         return Err(Error::Failed);
@@ -359,9 +362,9 @@ pub fn check_get_attr<D: BlockDevice>(
     bytes: &[u8],
     kind: u8,
 ) -> Result<Vec<u8>, Error>
-    ensures checks { IsChecksResult (session_view tree.old files.now) (ops.GetAttr bytes.now kind) (λ v. unwrap_or (attribute_bytes kind (node_attributes_of (shown_tree tree.old (path_or_root bytes.now)))) [] ≡ v.items) result tree.new }
-    ensures few { ReadsSearched tree.old (ops.GetAttr bytes.now kind) tree.new }
-    ensures kept { AddsNoReads tree.old (ops.GetAttr bytes.now kind) tree.new }
+    ensures checks { IsChecksResult (session_view tree.old files.now) (ops.GetAttr bytes.now kind) (λ v. unwrap_or (attribute_bytes kind (node_attributes_of (visible_tree tree.old (path_or_root bytes.now)))) [] ≡ v.items) result tree.new }
+    ensures few { ReadsSearchedPairsOnce tree.old (ops.GetAttr bytes.now kind) tree.new }
+    ensures kept { CachedLookupReadsNothing tree.old (ops.GetAttr bytes.now kind) tree.new }
 {
     if tree.has_failed() {
         return Err(Error::Failed);
@@ -439,8 +442,8 @@ pub fn check_remove<'a, D: BlockDevice>(
 // Returns how many bytes an entry's attributes and their tags will need after an attribute of `len`
 // bytes replaces `replaced`.
 fn replaced_attributes_size(taken: usize, replaced: &Option<Vec<u8>>, len: usize) -> usize
-    requires { IncludesReplaced taken replaced.now len }
-    ensures { result + replaced_size replaced.now ≡ taken + (4 + len) }
+    requires { IncludesReplacedAttribute taken replaced.now len }
+    ensures { result + replaced_attribute_size replaced.now ≡ taken + (4 + len) }
 {
     let gone = match replaced {
         Some(bytes) => 4 + bytes.len(),
@@ -477,23 +480,23 @@ pub fn check_set_attr<'a, D: BlockDevice>(
     let checks = [
         found.finding.fault,
         refuse_if(found.finding.node.is_nothing(), Error::NoEnt),
-        refuse_if(attribute_is_long(tree, value.len()), Error::TooBig),
+        refuse_if(exceeds_attr_max(tree, value.len()), Error::TooBig),
         refuse_if(
-            entry_overflows(tree, path.name_len(), size),
+            exceeds_entry_limit(tree, path.name_len(), size),
             Error::EntryFull,
         ),
-        refuse_if(lacks_blocks(tree, files, 2), Error::NoSpace),
+        refuse_if(lacks_free_blocks(tree, files, 2), Error::NoSpace),
     ];
     value_or_refusal(&checks, path)
 }
 
 // Returns whether too few blocks are free to reserve those for a writer with `size` bytes.
-fn lacks_writer_room<D: BlockDevice>(tree: &Tree<D>, has_turned: bool, size: u32) -> bool
+fn lacks_writer_blocks<D: BlockDevice>(tree: &Tree<D>, has_turned: bool, size: u32) -> bool
     requires { tree.now.failed ≡ false }
-    ensures { result ≡ nat_lt (block_count tree.now.disk) (length (tree_summary tree.now).used + contents_reserve tree.now.disk.profile tree.now.disk.block_size has_turned size) }
+    ensures { result ≡ nat_lt (block_count tree.now.disk) (length (tree_summary tree.now).used + draft_block_reserve tree.now.disk.profile tree.now.disk.block_size has_turned size) }
 {
     let geometry = tree.geometry();
-    let held = reserved_for_bytes(geometry, has_turned, size);
+    let held = draft_blocks_reserved(geometry, has_turned, size);
     (geometry.block_count as u64) < tree.used_count() as u64 + held
 }
 
@@ -517,11 +520,15 @@ pub fn check_write<D: BlockDevice>(
         return Ok(());
     }
     let place = writer.place();
-    if file_is_long(tree, place as u64 + bytes.len() as u64) {
+    if exceeds_file_max(tree, place as u64 + bytes.len() as u64) {
         return Err(Error::TooBig);
     }
     let size = writer.size.max(place + bytes.len() as u32);
-    if lacks_writer_room(tree, writer.turns_by_change(place.min(writer.size)), size) {
+    if lacks_writer_blocks(
+        tree,
+        writer.nonsequential_after_change(place.min(writer.size)),
+        size,
+    ) {
         return Err(Error::NoSpace);
     }
     Ok(())
@@ -543,10 +550,10 @@ pub fn check_truncate<D: BlockDevice>(
     let Some(writer) = files.writer(fd) else {
         return Err(Error::BadFile);
     };
-    if file_is_long(tree, size as u64) {
+    if exceeds_file_max(tree, size as u64) {
         return Err(Error::TooBig);
     }
-    if size != writer.size && lacks_writer_room(tree, writer.turns_by_resize(), size) {
+    if size != writer.size && lacks_writer_blocks(tree, writer.nonsequential_after_resize(), size) {
         return Err(Error::NoSpace);
     }
     Ok(())

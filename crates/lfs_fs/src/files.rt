@@ -7,20 +7,20 @@ ghost use Rattle.lfs_model.specs.session.TreeEdits.{same_path, tree_with_change}
 ghost use Rattle.lfs_model.specs.session.Operations.{parse_path};
 ghost use Rattle.lfs_model.specs.session.Session.{has_open_file};
 ghost use Rattle.lfs_model.specs.session.Effects.{node_with_bytes};
-ghost use Rattle.lfs_model.specs.session.Writers.{synced_writer, truncated_writer, turns_writer, written_writer};
+ghost use Rattle.lfs_model.specs.session.Writers.{synced_writer, truncated_writer, turns_writer, writer_after_write};
 ghost use Rattle.lfs_model.specs.session.Refusals.{path_or_root, path_unusable};
 ghost use Rattle.lfs_file.specs.Known.{no_known_blocks};
 ghost use Rattle.lfs_fs.specs.RenamePaths.{prevents_rename};
-ghost use Rattle.lfs_tree.specs.OpenContents.{AreBytesStored, KeepsImage};
-ghost use Rattle.lfs_tree.specs.TreeState.{HasErrorCause, IsFailedTree, IsSoundState, SurvivesStops, TreeState, shown_tree};
-ghost use Rattle.lfs_fs.specs.WriterChanges.{CanSaveWriter, CanTruncateBy, CanWriteBy, ChangesWriterAt, IsChangedWriter, IsSavedWriter};
+ghost use Rattle.lfs_tree.specs.OpenContents.{IsStoreApplied, KeepsImage};
+ghost use Rattle.lfs_tree.specs.TreeState.{HasErrorCause, IsFailedTree, IsSoundState, PowerLossesLeaveEither, TreeState, visible_tree};
+ghost use Rattle.lfs_fs.specs.WriterChanges.{CanSaveWriter, CanTruncateTo, CanWriteBytes, ChangesWriterAt, IsChangedWriter, IsSavedWriter};
 ghost use Rattle.lfs_fs.specs.declared.files.Writer.{Writer as WriterSeen};
-ghost use Rattle.lfs_fs.specs.FileView.{last_change_end, open_file_at, files_view, unsaved_or_tree, is_open_where, is_unsaved_writer, lowest_free, writers_reserve, writer_reserve, contents_reserve, file_with_known, file_with_position, runtime_files_with, reader_if_any, readers_among, is_unsaved_turned, writer_if_any, writer_view, writers_among, own_position};
+ghost use Rattle.lfs_fs.specs.FileView.{last_change_end, open_file_at, files_view, draft_or_stored_bytes, is_open_where, is_writer_with_draft, lowest_free_fd, writers_block_reserve, writer_block_reserve, draft_block_reserve, file_with_index_cache, file_with_position, files_with_entry, as_reader, readers_among, is_draft_nonsequential, writer_if_any, writer_view, writers_among, open_file_position};
 
 use crate::owned_path::OwnedPath;
-use crate::writers::{save_writer, truncate_writer, write_by_writer};
+use crate::writers::{save_writer, truncate_writer, write_to_draft};
 use lfs_device::{BlockDevice, Error, Geometry};
-use lfs_file::{KnownBlocks, WriterContents, blocks_for};
+use lfs_file::{IndexCache, WriterContents, blocks_for};
 use lfs_lookup::FileContents;
 use lfs_tree::Tree;
 use std::alloc::Global;
@@ -37,7 +37,7 @@ pub struct Reader {
     /// The contents of the file according to its entry, which don't change while the file is open.
     pub contents: FileContents,
     /// The blocks of the file's CTZ skip-list that reads have found.
-    pub known: KnownBlocks,
+    pub known: IndexCache,
 }
 
 /// A file that is open for writing.
@@ -83,18 +83,18 @@ impl Writer {
     }
 
     /// Returns whether the writer will be nonsequential after a change that begins at byte `begin`.
-    pub fn turns_by_change(&self, begin: u32) -> bool
-        ensures { result ≡ (is_unsaved_turned self.now.unsaved || turns_writer (last_change_end self.now.unsaved) begin) }
+    pub fn nonsequential_after_change(&self, begin: u32) -> bool
+        ensures { result ≡ (is_draft_nonsequential self.now.unsaved || turns_writer (last_change_end self.now.unsaved) begin) }
     {
         match &self.unsaved {
-            Some(unsaved) => unsaved.has_turned || begins_elsewhere(unsaved.last_end, begin),
+            Some(unsaved) => unsaved.has_turned || is_nonsequential_change(unsaved.last_end, begin),
             None => false,
         }
     }
 
     /// Returns whether the writer will be nonsequential after a change of its size.
-    pub fn turns_by_resize(&self) -> bool
-        ensures { result ≡ (is_unsaved_turned self.now.unsaved || is_some (last_change_end self.now.unsaved)) }
+    pub fn nonsequential_after_resize(&self) -> bool
+        ensures { result ≡ (is_draft_nonsequential self.now.unsaved || is_some (last_change_end self.now.unsaved)) }
     {
         match &self.unsaved {
             Some(unsaved) => unsaved.has_turned || unsaved.last_end.is_some(),
@@ -103,28 +103,28 @@ impl Writer {
     }
 
     /// Returns the new value of `last_end` after the size is changed to `new_size`.
-    pub fn change_end_resized(&self, new_size: u32) -> Option<u32>
+    pub fn end_after_resize(&self, new_size: u32) -> Option<u32>
         ensures { result ≡ (if nat_lt self.now.size new_size then Some new_size else last_change_end self.now.unsaved) }
     {
         match &self.unsaved {
-            Some(unsaved) => resized_change_end(self.size, new_size, unsaved.last_end),
-            None => resized_change_end(self.size, new_size, None),
+            Some(unsaved) => resized_last_end(self.size, new_size, unsaved.last_end),
+            None => resized_last_end(self.size, new_size, None),
         }
     }
 
     // Returns the number of free blocks that are reserved for the writer.
     fn reserved_block_count(&self, geometry: Geometry) -> u64
-        ensures held { result ≡ writer_reserve geometry.profile geometry.block_size self.now }
+        ensures held { result ≡ writer_block_reserve geometry.profile geometry.block_size self.now }
         ensures few { result < 2 ^ 34 }
     {
         match &self.unsaved {
-            Some(unsaved) => reserved_for_bytes(geometry, unsaved.has_turned, self.size),
+            Some(unsaved) => draft_blocks_reserved(geometry, unsaved.has_turned, self.size),
             None => 0,
         }
     }
 }
 
-fn resized_change_end(size: u32, new_size: u32, last_end: Option<u32>) -> Option<u32>
+fn resized_last_end(size: u32, new_size: u32, last_end: Option<u32>) -> Option<u32>
     ensures { result ≡ (if nat_lt size new_size then Some new_size else last_end) }
 {
     if size < new_size {
@@ -134,7 +134,7 @@ fn resized_change_end(size: u32, new_size: u32, last_end: Option<u32>) -> Option
     }
 }
 
-fn begins_elsewhere(last_end: Option<u32>, begin: u32) -> bool
+fn is_nonsequential_change(last_end: Option<u32>, begin: u32) -> bool
     ensures { result ≡ turns_writer last_end begin }
 {
     match last_end {
@@ -171,10 +171,10 @@ impl Files {
 
     // Returns the number of free blocks that are reserved for the open writer.
     pub(crate) fn reserved_block_count(&self, geometry: Geometry) -> u64
-        ensures held { result ≡ writers_reserve geometry.profile geometry.block_size self.now }
+        ensures held { result ≡ writers_block_reserve geometry.profile geometry.block_size self.now }
         ensures few { result < 2 ^ 34 }
     {
-        blocks_reserved_among(&self.entries, geometry)
+        count_reserved_blocks(&self.entries, geometry)
     }
 
     // Returns whether no reader may be opened at the path, because it has a writer or 16 readers
@@ -197,8 +197,8 @@ impl Files {
     ) -> Result<u32, Error>
         requires path { is_some (parse_path path.now) ≡ true }
         requires few { length (readers_among self.old) < 16 }
-        ensures number { IfOk result (λ fd. fd ≡ lowest_free self.old) }
-        ensures added { OnOk result (self.new ≡ runtime_files_with self.old (lowest_free self.old) (Some (OpenFile.Reading (record { path = path_or_root path.now; position = 0; contents = contents; known = no_known_blocks })))) }
+        ensures number { IfOk result (λ fd. fd ≡ lowest_free_fd self.old) }
+        ensures added { OnOk result (self.new ≡ files_with_entry self.old (lowest_free_fd self.old) (Some (OpenFile.Reading (record { path = path_or_root path.now; position = 0; contents = contents; known = no_known_blocks })))) }
         ensures same { OnErr result (self.new ≡ self.old) }
         ensures error { IfErr result (λ e. e ≡ Error.NoMemory) }
     {
@@ -206,7 +206,7 @@ impl Files {
             path: OwnedPath::of(alloc, path)?,
             position: 0,
             contents,
-            known: KnownBlocks::new(),
+            known: IndexCache::new(),
         };
         let number = free_number(&self.entries);
         set_table_entry(&mut self.entries, number, Some(OpenFile::Reading(reader)))?;
@@ -215,7 +215,7 @@ impl Files {
 
     /// Returns a reference to the reader with the number `fd`, if there is one.
     pub fn reader(&self, fd: u32) -> Option<&Reader>
-        ensures { option_map (λ r. r.now) result ≡ reader_if_any (open_file_at self.now fd) }
+        ensures { option_map (λ r. r.now) result ≡ as_reader (open_file_at self.now fd) }
     {
         match self.entries.get(fd as usize) {
             Some(Some(OpenFile::Reading(reader))) => Some(reader),
@@ -235,7 +235,7 @@ impl Files {
 
     // Returns the position of the open file `fd`.
     pub(crate) fn position(&self, fd: u32) -> Option<u32>
-        ensures { result ≡ option_map own_position (open_file_at self.now fd) }
+        ensures { result ≡ option_map open_file_position (open_file_at self.now fd) }
     {
         match self.entries.get(fd as usize) {
             Some(Some(OpenFile::Reading(reader))) => Some(reader.position),
@@ -264,8 +264,8 @@ impl Files {
     /// free number.
     pub fn reserve_number(&mut self) -> Result<u32, Error>
         requires { writers_among self.old ≡ [] }
-        ensures number { IfOk result (λ fd. fd ≡ lowest_free self.old) }
-        ensures room { OnOk result (self.new ≡ runtime_files_with self.old (lowest_free self.old) None) }
+        ensures number { IfOk result (λ fd. fd ≡ lowest_free_fd self.old) }
+        ensures room { OnOk result (self.new ≡ files_with_entry self.old (lowest_free_fd self.old) None) }
         ensures same { OnErr result (self.new ≡ self.old) }
         ensures error { IfErr result (λ e. e ≡ Error.NoMemory) }
     {
@@ -295,12 +295,12 @@ impl Files {
         fd: u32,
         bytes: &[u8],
     ) -> Result<(), Error>
-        requires { (w : WriterSeen) × (open_file_at self.old fd ≡ Some (OpenFile.Writing w)) × CanWriteBy tree.old w bytes.now }
-        ensures written { (w : WriterSeen) → open_file_at self.old fd ≡ Some (OpenFile.Writing w) → ChangesWriterAt self.old fd (λ v. OnOk result (IsChangedWriter tree.new (written_writer (writer_view tree.old w) bytes.now) v)) self.new }
+        requires { (w : WriterSeen) × (open_file_at self.old fd ≡ Some (OpenFile.Writing w)) × CanWriteBytes tree.old w bytes.now }
+        ensures written { (w : WriterSeen) → open_file_at self.old fd ≡ Some (OpenFile.Writing w) → ChangesWriterAt self.old fd (λ v. OnOk result (IsChangedWriter tree.new (writer_after_write (writer_view tree.old w) bytes.now) v)) self.new }
         ensures beside { OnOk result (KeepsImage tree.old tree.new) }
         ensures broken { OnErr result (IsFailedTree tree.old tree.new) }
         ensures errors { IfErr result (HasErrorCause tree.old tree.new) }
-        ensures survives { IsSoundState tree.old → SurvivesStops tree.old tree.new (shown_tree tree.old) }
+        ensures survives { IsSoundState tree.old → PowerLossesLeaveEither tree.old tree.new (visible_tree tree.old) }
     {
         write_in_table(alloc, tree, &mut self.entries, fd as usize, bytes)
     }
@@ -316,12 +316,12 @@ impl Files {
         fd: u32,
         new_size: u32,
     ) -> Result<(), Error>
-        requires { (w : WriterSeen) × (open_file_at self.old fd ≡ Some (OpenFile.Writing w)) × CanTruncateBy tree.old w new_size }
+        requires { (w : WriterSeen) × (open_file_at self.old fd ≡ Some (OpenFile.Writing w)) × CanTruncateTo tree.old w new_size }
         ensures written { (w : WriterSeen) → open_file_at self.old fd ≡ Some (OpenFile.Writing w) → ChangesWriterAt self.old fd (λ v. OnOk result (IsChangedWriter tree.new (truncated_writer (writer_view tree.old w) new_size) v)) self.new }
         ensures beside { OnOk result (KeepsImage tree.old tree.new) }
         ensures broken { OnErr result (IsFailedTree tree.old tree.new) }
         ensures errors { IfErr result (HasErrorCause tree.old tree.new) }
-        ensures survives { IsSoundState tree.old → SurvivesStops tree.old tree.new (shown_tree tree.old) }
+        ensures survives { IsSoundState tree.old → PowerLossesLeaveEither tree.old tree.new (visible_tree tree.old) }
     {
         truncate_in_table(alloc, tree, &mut self.entries, fd as usize, new_size)
     }
@@ -337,11 +337,11 @@ impl Files {
         fd: u32,
     ) -> Result<(), Error>
         requires { (w : WriterSeen) × (open_file_at self.old fd ≡ Some (OpenFile.Writing w)) × CanSaveWriter tree.old w }
-        ensures stored { (w : WriterSeen) → open_file_at self.old fd ≡ Some (OpenFile.Writing w) → OnOk result (AreBytesStored tree.old w.path (unsaved_or_tree tree.old w.path w.unsaved) tree.new) }
+        ensures stored { (w : WriterSeen) → open_file_at self.old fd ≡ Some (OpenFile.Writing w) → OnOk result (IsStoreApplied tree.old w.path (draft_or_stored_bytes tree.old w.path w.unsaved) tree.new) }
         ensures saved { (w : WriterSeen) → open_file_at self.old fd ≡ Some (OpenFile.Writing w) → ChangesWriterAt self.old fd (λ v. OnOk result (IsSavedWriter tree.new (synced_writer (writer_view tree.old w)) v)) self.new }
         ensures broken { OnErr result (IsFailedTree tree.old tree.new) }
         ensures errors { IfErr result (HasErrorCause tree.old tree.new) }
-        ensures survives { (w : WriterSeen) → open_file_at self.old fd ≡ Some (OpenFile.Writing w) → SurvivesStops tree.old tree.new (tree_with_change w.path (node_with_bytes (unsaved_or_tree tree.old w.path w.unsaved)) (shown_tree tree.old)) }
+        ensures survives { (w : WriterSeen) → open_file_at self.old fd ≡ Some (OpenFile.Writing w) → PowerLossesLeaveEither tree.old tree.new (tree_with_change w.path (node_with_bytes (draft_or_stored_bytes tree.old w.path w.unsaved)) (visible_tree tree.old)) }
     {
         save_in_table(alloc, tree, &mut self.entries, fd as usize)
     }
@@ -357,7 +357,7 @@ impl Files {
 
     /// Returns whether the open file `fd` has changes that aren't synced.
     pub fn is_unsaved_at(&self, fd: u32) -> bool
-        ensures { result ≡ is_unsaved_writer (open_file_at self.now fd) }
+        ensures { result ≡ is_writer_with_draft (open_file_at self.now fd) }
     {
         match self.entries.get(fd as usize) {
             Some(entry) => is_unsaved(entry),
@@ -402,11 +402,11 @@ impl Files {
     }
 
     /// Stores which blocks of its CTZ skip-list an open reader has found.
-    pub fn note_known(&mut self, fd: u32, known: KnownBlocks)
+    pub fn set_index_cache(&mut self, fd: u32, known: IndexCache)
         requires { is_some (open_file_at self.old fd) ≡ true }
-        ensures { self.new ≡ slice_set self.old fd (option_map (file_with_known known) (open_file_at self.old fd)) }
+        ensures { self.new ≡ slice_set self.old fd (option_map (file_with_index_cache known) (open_file_at self.old fd)) }
     {
-        note_in_table(&mut self.entries, fd as usize, known);
+        set_table_cache(&mut self.entries, fd as usize, known);
     }
 
     /// Closes an open file.
@@ -437,9 +437,9 @@ fn seek_in_table(entries: &mut Vec<Option<OpenFile>>, index: usize, position: u3
     }
 }
 
-fn note_in_table(entries: &mut Vec<Option<OpenFile>>, index: usize, known: KnownBlocks)
+fn set_table_cache(entries: &mut Vec<Option<OpenFile>>, index: usize, known: IndexCache)
     requires { index < vec_len entries.old }
-    ensures files { entries.new.items ≡ slice_set entries.old.items index (option_map (file_with_known known) (option_flatten (slice_get entries.old.items index))) }
+    ensures files { entries.new.items ≡ slice_set entries.old.items index (option_map (file_with_index_cache known) (option_flatten (slice_get entries.old.items index))) }
     ensures len { vec_len entries.new ≡ vec_len entries.old }
 {
     if let Some(OpenFile::Reading(reader)) = &mut entries[index] {
@@ -456,16 +456,16 @@ fn write_in_table<D: BlockDevice>(
     index: usize,
     bytes: &[u8],
 ) -> Result<(), Error>
-    requires { (w : WriterSeen) × (open_file_at entries.old.items index ≡ Some (OpenFile.Writing w)) × CanWriteBy tree.old w bytes.now }
-    ensures written { (w : WriterSeen) → open_file_at entries.old.items index ≡ Some (OpenFile.Writing w) → ChangesWriterAt entries.old.items index (λ v. OnOk result (IsChangedWriter tree.new (written_writer (writer_view tree.old w) bytes.now) v)) entries.new.items }
+    requires { (w : WriterSeen) × (open_file_at entries.old.items index ≡ Some (OpenFile.Writing w)) × CanWriteBytes tree.old w bytes.now }
+    ensures written { (w : WriterSeen) → open_file_at entries.old.items index ≡ Some (OpenFile.Writing w) → ChangesWriterAt entries.old.items index (λ v. OnOk result (IsChangedWriter tree.new (writer_after_write (writer_view tree.old w) bytes.now) v)) entries.new.items }
     ensures len { vec_len entries.new ≡ vec_len entries.old }
     ensures beside { OnOk result (KeepsImage tree.old tree.new) }
     ensures broken { OnErr result (IsFailedTree tree.old tree.new) }
     ensures errors { IfErr result (HasErrorCause tree.old tree.new) }
-    ensures survives { IsSoundState tree.old → SurvivesStops tree.old tree.new (shown_tree tree.old) }
+    ensures survives { IsSoundState tree.old → PowerLossesLeaveEither tree.old tree.new (visible_tree tree.old) }
 {
     match &mut entries[index] {
-        Some(OpenFile::Writing(writer)) => write_by_writer(alloc, tree, writer, bytes),
+        Some(OpenFile::Writing(writer)) => write_to_draft(alloc, tree, writer, bytes),
         _ => unreachable!(),
     }
 }
@@ -479,13 +479,13 @@ fn truncate_in_table<D: BlockDevice>(
     index: usize,
     new_size: u32,
 ) -> Result<(), Error>
-    requires { (w : WriterSeen) × (open_file_at entries.old.items index ≡ Some (OpenFile.Writing w)) × CanTruncateBy tree.old w new_size }
+    requires { (w : WriterSeen) × (open_file_at entries.old.items index ≡ Some (OpenFile.Writing w)) × CanTruncateTo tree.old w new_size }
     ensures written { (w : WriterSeen) → open_file_at entries.old.items index ≡ Some (OpenFile.Writing w) → ChangesWriterAt entries.old.items index (λ v. OnOk result (IsChangedWriter tree.new (truncated_writer (writer_view tree.old w) new_size) v)) entries.new.items }
     ensures len { vec_len entries.new ≡ vec_len entries.old }
     ensures beside { OnOk result (KeepsImage tree.old tree.new) }
     ensures broken { OnErr result (IsFailedTree tree.old tree.new) }
     ensures errors { IfErr result (HasErrorCause tree.old tree.new) }
-    ensures survives { IsSoundState tree.old → SurvivesStops tree.old tree.new (shown_tree tree.old) }
+    ensures survives { IsSoundState tree.old → PowerLossesLeaveEither tree.old tree.new (visible_tree tree.old) }
 {
     match &mut entries[index] {
         Some(OpenFile::Writing(writer)) => truncate_writer(alloc, tree, writer, new_size),
@@ -501,12 +501,12 @@ fn save_in_table<D: BlockDevice>(
     index: usize,
 ) -> Result<(), Error>
     requires { (w : WriterSeen) × (open_file_at entries.old.items index ≡ Some (OpenFile.Writing w)) × CanSaveWriter tree.old w }
-    ensures stored { (w : WriterSeen) → open_file_at entries.old.items index ≡ Some (OpenFile.Writing w) → OnOk result (AreBytesStored tree.old w.path (unsaved_or_tree tree.old w.path w.unsaved) tree.new) }
+    ensures stored { (w : WriterSeen) → open_file_at entries.old.items index ≡ Some (OpenFile.Writing w) → OnOk result (IsStoreApplied tree.old w.path (draft_or_stored_bytes tree.old w.path w.unsaved) tree.new) }
     ensures saved { (w : WriterSeen) → open_file_at entries.old.items index ≡ Some (OpenFile.Writing w) → ChangesWriterAt entries.old.items index (λ v. OnOk result (IsSavedWriter tree.new (synced_writer (writer_view tree.old w)) v)) entries.new.items }
     ensures len { vec_len entries.new ≡ vec_len entries.old }
     ensures broken { OnErr result (IsFailedTree tree.old tree.new) }
     ensures errors { IfErr result (HasErrorCause tree.old tree.new) }
-    ensures survives { (w : WriterSeen) → open_file_at entries.old.items index ≡ Some (OpenFile.Writing w) → SurvivesStops tree.old tree.new (tree_with_change w.path (node_with_bytes (unsaved_or_tree tree.old w.path w.unsaved)) (shown_tree tree.old)) }
+    ensures survives { (w : WriterSeen) → open_file_at entries.old.items index ≡ Some (OpenFile.Writing w) → PowerLossesLeaveEither tree.old tree.new (tree_with_change w.path (node_with_bytes (draft_or_stored_bytes tree.old w.path w.unsaved)) (visible_tree tree.old)) }
 {
     match &mut entries[index] {
         Some(OpenFile::Writing(writer)) => save_writer(alloc, tree, writer),
@@ -531,9 +531,9 @@ fn close_in_table(entries: &mut Vec<Option<OpenFile>>, index: usize)
 }
 
 // Returns the number of free blocks that are reserved for the writer, or 0 if there is no writer.
-fn blocks_reserved_among(entries: &[Option<OpenFile>], geometry: Geometry) -> u64
+fn count_reserved_blocks(entries: &[Option<OpenFile>], geometry: Geometry) -> u64
     requires { length (writers_among entries.now) ≤ 1 }
-    ensures held { result ≡ writers_reserve geometry.profile geometry.block_size entries.now }
+    ensures held { result ≡ writers_block_reserve geometry.profile geometry.block_size entries.now }
     ensures few { result < 2 ^ 34 }
 {
     for entry in entries {
@@ -545,8 +545,8 @@ fn blocks_reserved_among(entries: &[Option<OpenFile>], geometry: Geometry) -> u6
 }
 
 // Returns the number of free blocks that are reserved for unsynced contents of `size` bytes.
-pub(crate) fn reserved_for_bytes(geometry: Geometry, has_turned: bool, size: u32) -> u64
-    ensures held { result ≡ contents_reserve geometry.profile geometry.block_size has_turned size }
+pub(crate) fn draft_blocks_reserved(geometry: Geometry, has_turned: bool, size: u32) -> u64
+    ensures held { result ≡ draft_block_reserve geometry.profile geometry.block_size has_turned size }
     ensures few { result < 2 ^ 34 }
 {
     if size <= geometry.inline_limit() {
@@ -561,7 +561,7 @@ pub(crate) fn reserved_for_bytes(geometry: Geometry, has_turned: bool, size: u32
 }
 
 fn is_unsaved(entry: &Option<OpenFile>) -> bool
-    ensures { result ≡ is_unsaved_writer entry.now }
+    ensures { result ≡ is_writer_with_draft entry.now }
 {
     match entry {
         Some(OpenFile::Writing(writer)) => writer.unsaved.is_some(),
@@ -640,14 +640,14 @@ fn reader_count(entries: &[Option<OpenFile>]) -> usize
 }
 
 fn is_reader(entry: &Option<OpenFile>) -> bool
-    ensures { result ≡ is_some (reader_if_any entry.now) }
+    ensures { result ≡ is_some (as_reader entry.now) }
 {
     matches!(entry, Some(OpenFile::Reading(_)))
 }
 
 // Returns the lowest free number.
 fn free_number(entries: &[Option<OpenFile>]) -> usize
-    ensures { result ≡ lowest_free entries.now }
+    ensures { result ≡ lowest_free_fd entries.now }
 {
     let mut number = 0;
     for entry in entries {
@@ -665,7 +665,7 @@ fn reserve_in_table(entries: &mut Vec<Option<OpenFile>>, number: usize) -> Resul
     requires few { number < 17 }
     requires free { open_file_at entries.old.items number ≡ None }
     ensures few { vec_len entries.old ≤ 17 → vec_len entries.new ≤ 17 }
-    ensures put { OnOk result (entries.new.items ≡ runtime_files_with entries.old.items number None) }
+    ensures put { OnOk result (entries.new.items ≡ files_with_entry entries.old.items number None) }
     ensures same { OnErr result (entries.new.items ≡ entries.old.items) }
     ensures error { IfErr result (λ e. e ≡ Error.NoMemory) }
 {
@@ -684,7 +684,7 @@ fn set_table_entry(
     requires inside { number ≤ vec_len entries.old }
     requires few { number < 17 }
     ensures few { vec_len entries.old ≤ 17 → vec_len entries.new ≤ 17 }
-    ensures put { OnOk result (entries.new.items ≡ runtime_files_with entries.old.items number entry) }
+    ensures put { OnOk result (entries.new.items ≡ files_with_entry entries.old.items number entry) }
     ensures same { OnErr result (entries.new.items ≡ entries.old.items) }
     ensures error { IfErr result (λ e. e ≡ Error.NoMemory) }
 {

@@ -2,7 +2,7 @@
 
 ghost use Rattle.std.specs.Prelude.{◌≡◌};
 ghost use Rattle.lfs_tag.specs.FieldsView.{move_view};
-ghost use Rattle.lfs_fs.specs.GstateView.{returned_gstate_reply, disk_reply_gstate};
+ghost use Rattle.lfs_fs.specs.GstateView.{returned_gstate_reply, gstate_reply_from_disk};
 
 use lfs_tag::MoveState;
 use lfs_tag::kinds::DELETE;
@@ -19,7 +19,7 @@ pub struct Gstate {
 }
 
 pub(crate) fn gstate_from_move(state: &MoveState) -> Gstate
-    ensures { returned_gstate_reply result ≡ disk_reply_gstate (move_view state.now) }
+    ensures { returned_gstate_reply result ≡ gstate_reply_from_disk (move_view state.now) }
 {
     let moving = if state.kind == DELETE {
         Some((state.pair, state.id))

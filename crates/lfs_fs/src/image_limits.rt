@@ -1,15 +1,15 @@
 // A mount that adopts the image's limits.
 
 ghost use Rattle.std.specs.Prelude.{◌≡◌, ◌↔◌, ◌⊎◌, IsTrue, List, IfErr, IfOk};
-ghost use Rattle.lfs_device.specs.DeviceDisk.{profiled_disk};
-ghost use Rattle.lfs_model.specs.format.Disk.{ordered_disk};
-ghost use Rattle.lfs_model.specs.crash.RepeatedPowerLoss.{IsMounted};
+ghost use Rattle.lfs_device.specs.DeviceDisk.{disk_with_profile};
+ghost use Rattle.lfs_model.specs.format.Disk.{disk_with_order};
+ghost use Rattle.lfs_model.specs.crash.RepeatedPowerLoss.{IsJustMounted};
 ghost use Rattle.lfs_model.specs.format.Thread.{Pair};
 ghost use Rattle.lfs_model.specs.tree.View.{IsAccepted};
 ghost use Rattle.lfs_model.specs.declared.order.NameOrder.{NameOrder};
 ghost use Rattle.lfs_model.specs.declared.order.NameOrder.TheVariants.{LongerFirst, ShorterFirst};
 ghost use Rattle.lfs_thread.specs.Kept.{disk_of_device};
-ghost use Rattle.lfs_fs.specs.ImageLimits.{BeginsLimited, ReturnsUnchangedDevice};
+ghost use Rattle.lfs_fs.specs.ImageLimits.{BeginsWithImageLimits, ReturnsUnchangedDevice};
 ghost use Rattle.lfs_fs.specs.SessionView.{BeginsByMount, system_state};
 
 use crate::session::{Session, mount};
@@ -31,10 +31,10 @@ fn mount_with_profile<D: BlockDevice>(
     device: D,
     profile: Profile,
 ) -> Result<Session<Profiled<D>>, (D, Error)>
-    ensures begun { IfOk result (λ s. BeginsByMount (ordered_disk s.tree.disk.order (profiled_disk profile (disk_of_device D.BlockDevice device))) (D.history device) s) }
-    ensures state { IfOk result (λ s. IsMounted (ordered_disk s.tree.disk.order (profiled_disk profile (disk_of_device D.BlockDevice device))) (system_state s)) }
-    ensures longer { IfOk result (λ s. s.tree.disk.order ≡ ShorterFirst → (ps : List Pair) → ¬ IsAccepted (ordered_disk LongerFirst (profiled_disk profile (disk_of_device D.BlockDevice device))) ps) }
-    ensures corrupt { IfErr result (λ e. e.1 ≡ Error.Corrupt → (order : NameOrder) (ps : List Pair) → ¬ IsAccepted (ordered_disk order (profiled_disk profile (disk_of_device D.BlockDevice device))) ps) }
+    ensures begun { IfOk result (λ s. BeginsByMount (disk_with_order s.tree.disk.order (disk_with_profile profile (disk_of_device D.BlockDevice device))) (D.history device) s) }
+    ensures state { IfOk result (λ s. IsJustMounted (disk_with_order s.tree.disk.order (disk_with_profile profile (disk_of_device D.BlockDevice device))) (system_state s)) }
+    ensures longer { IfOk result (λ s. s.tree.disk.order ≡ ShorterFirst → (ps : List Pair) → ¬ IsAccepted (disk_with_order LongerFirst (disk_with_profile profile (disk_of_device D.BlockDevice device))) ps) }
+    ensures corrupt { IfErr result (λ e. e.1 ≡ Error.Corrupt → (order : NameOrder) (ps : List Pair) → ¬ IsAccepted (disk_with_order order (disk_with_profile profile (disk_of_device D.BlockDevice device))) ps) }
     ensures errors { IfErr result (λ e. (e.1 ≡ Error.Io) ⊎ (e.1 ≡ Error.Corrupt) ⊎ (e.1 ≡ Error.NoMemory)) }
     ensures back { IfErr result (λ e. ReturnsUnchangedDevice D.BlockDevice device e.0 e.1) }
 {
@@ -61,10 +61,10 @@ pub fn mount_with_limits<D: BlockDevice>(
     device: D,
     profile: Profile,
 ) -> Result<Session<Profiled<D>>, (D, Error)>
-    ensures begun { IfOk result (BeginsLimited (disk_of_device D.BlockDevice device) (D.history device) profile) }
-    ensures state { IfOk result (λ s. IsMounted (ordered_disk s.tree.disk.order (profiled_disk s.tree.disk.profile (disk_of_device D.BlockDevice device))) (system_state s)) }
-    ensures longer { IfOk result (λ s. s.tree.disk.order ≡ ShorterFirst → (ps : List Pair) → ¬ IsAccepted (ordered_disk LongerFirst (profiled_disk s.tree.disk.profile (disk_of_device D.BlockDevice device))) ps) }
-    ensures corrupt { IfErr result (λ e. e.1 ≡ Error.Corrupt → (order : NameOrder) (ps : List Pair) → ¬ IsAccepted (ordered_disk order (profiled_disk profile (disk_of_device D.BlockDevice device))) ps) }
+    ensures begun { IfOk result (BeginsWithImageLimits (disk_of_device D.BlockDevice device) (D.history device) profile) }
+    ensures state { IfOk result (λ s. IsJustMounted (disk_with_order s.tree.disk.order (disk_with_profile s.tree.disk.profile (disk_of_device D.BlockDevice device))) (system_state s)) }
+    ensures longer { IfOk result (λ s. s.tree.disk.order ≡ ShorterFirst → (ps : List Pair) → ¬ IsAccepted (disk_with_order LongerFirst (disk_with_profile s.tree.disk.profile (disk_of_device D.BlockDevice device))) ps) }
+    ensures corrupt { IfErr result (λ e. e.1 ≡ Error.Corrupt → (order : NameOrder) (ps : List Pair) → ¬ IsAccepted (disk_with_order order (disk_with_profile profile (disk_of_device D.BlockDevice device))) ps) }
     ensures errors { IfErr result (λ e. (e.1 ≡ Error.Io) ⊎ (e.1 ≡ Error.Corrupt) ⊎ (e.1 ≡ Error.NoMemory)) }
     ensures back { IfErr result (λ e. ReturnsUnchangedDevice D.BlockDevice device e.0 e.1) }
 {

@@ -27,6 +27,9 @@ pub use lfs_device::{AcceptedVersions, Profile, Profiled};
 pub use lfs_lookup::{Kind, ListItem as Item, Stat};
 pub use lfs_model::{NameOrder, OtherLimit, ProfileBreach};
 pub use lfs_tag::Superblock;
-pub use lives::{calls_are_performed, calls_are_turns, lives_begin_by_mount};
+pub use lives::{
+    answered_calls_keep_read_bounds, calls_make_session_histories,
+    power_loss_in_mount_changes_nothing,
+};
 pub use run::{Op, Reply};
 pub use session::{Session, format, format_ordered, mount};

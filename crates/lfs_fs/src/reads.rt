@@ -8,11 +8,11 @@ ghost use Rattle.lfs_file.specs.Known.{AreKnownBlocks, ReadsKnownList};
 ghost use Rattle.lfs_lookup.specs.FileContents.{contents_struct};
 ghost use Rattle.lfs_model.specs.tree.Shown.{struct_blocks};
 ghost use Rattle.lfs_model.specs.format.Slots.{Ctz, Inline};
-ghost use Rattle.lfs_tree.specs.TreeState.{ReadsTreeOrFails, shown_tree};
+ghost use Rattle.lfs_tree.specs.TreeState.{ReadsTreeOrFails, visible_tree};
 
 use crate::files::Reader;
 use lfs_device::{BlockDevice, Error};
-use lfs_file::KnownBlocks;
+use lfs_file::IndexCache;
 use lfs_tree::Tree;
 use std::alloc::Global;
 
@@ -23,14 +23,14 @@ pub(crate) fn bytes_for_reader<D: BlockDevice>(
     alloc: Global,
     tree: &mut Tree<D>,
     reader: &Reader,
-    known: &mut KnownBlocks,
+    known: &mut IndexCache,
     count: u32,
 ) -> Result<Vec<u8>, Error>
     requires works { tree.old.failed ≡ false }
     requires kept { (written : List Path) × IsCurrentReader tree.old.pairs written reader.now }
     requires blocks { AreKnownBlocks (struct_blocks tree.old.disk (contents_struct reader.now.contents)) known.old }
     ensures reading { ReadsTreeOrFails tree.old result tree.new }
-    ensures bytes { IfOk result (λ v. v.items ≡ take count (drop reader.now.position (file_bytes (shown_tree tree.old reader.now.path)))) }
+    ensures bytes { IfOk result (λ v. v.items ≡ take count (drop reader.now.position (file_bytes (visible_tree tree.old reader.now.path)))) }
     ensures end { IfOk result (λ v. reader.now.position + vec_len v < 2 ^ 32) }
     ensures blocks { AreKnownBlocks (struct_blocks tree.old.disk (contents_struct reader.now.contents)) known.new }
     ensures none { (own : List ℕ) → contents_struct reader.now.contents ≡ Inline own → tree.new.history ≡ tree.old.history }

@@ -7,18 +7,18 @@ ghost use Rattle.lfs_model.specs.session.Operations.{parse_path};
 ghost use Rattle.lfs_model.specs.session.Refusals.{path_or_root, path_unusable};
 ghost use Rattle.lfs_model.specs.session.Session.{refuse_if};
 ghost use Rattle.lfs_lookup.specs.RefusalErrors.{is_refusal, error_refusal};
-ghost use Rattle.lfs_tree.specs.RenameFindings.{AreRenameFindings};
-ghost use Rattle.lfs_tree.specs.TreeState.{shown_tree};
+ghost use Rattle.lfs_tree.specs.RenameLookup.{AreRenameFindings};
+ghost use Rattle.lfs_tree.specs.TreeState.{visible_tree};
 ghost use Rattle.lfs_fs.specs.SessionView.{IsChecksResult, IsReady, refusal_by_checks, session_view};
-ghost use Rattle.lfs_fs.specs.RenamePaths.{IsRefusedAnyway, IsPermittedRename, PassesRename, is_path_prefix};
+ghost use Rattle.lfs_fs.specs.RenamePaths.{IsFileIndependentRefusal, IsPermittedRename, PassesRenameWithoutLookup, is_path_prefix};
 
 use crate::check_order::{are_both_true, find_first_refusal, value_or_refusal};
-use crate::checks::{entry_overflows, lacks_blocks, name_is_long, parse_entry_path};
+use crate::checks::{exceeds_entry_limit, exceeds_name_max, lacks_free_blocks, parse_entry_path};
 use crate::files::Files;
 use crate::owned_path::same_path_bytes;
 use lfs_device::{BlockDevice, Error};
 use lfs_lookup::{Path, Refusal, refuse_if};
-use lfs_tree::{RenameFindings, RenameTargets, Tree};
+use lfs_tree::{RenameLookup, RenameTargets, Tree};
 use std::alloc::Global;
 
 // Returns whether `other` begins with `bytes`, and ends there or continues with a slash.
@@ -60,7 +60,7 @@ fn is_strictly_beneath(bytes: &[u8], other: &[u8]) -> bool
 
 // Returns the refusal `error` if the entry at the new path can't be replaced. Never refuses a
 // rename to the same path.
-fn check_replacement(is_same: bool, is_bad: bool, error: Error) -> Option<Refusal>
+fn replaced_entry_refusal(is_same: bool, is_bad: bool, error: Error) -> Option<Refusal>
     requires { is_refusal error ≡ true }
     ensures { result ≡ refuse_if (not is_same && is_bad) (error_refusal error) }
 {
@@ -96,8 +96,8 @@ fn check_rename_paths<'a, D: BlockDevice>(
     old: &'a [u8],
     new: &'a [u8],
 ) -> Result<RenamePaths<'a>, Error>
-    ensures passes { IfOk result (PassesRename tree.now old.now new.now) }
-    ensures refused { IfErr result (IsRefusedAnyway tree.now (ops.Rename old.now new.now)) }
+    ensures passes { IfOk result (PassesRenameWithoutLookup tree.now old.now new.now) }
+    ensures refused { IfErr result (IsFileIndependentRefusal tree.now (ops.Rename old.now new.now)) }
 {
     if tree.has_failed() {
         return Err(Error::Failed);
@@ -126,15 +126,15 @@ fn check_rename_paths<'a, D: BlockDevice>(
 
 // Returns the refusal of a rename, if any. The checks concern the entries at the two paths, the
 // open files and the free blocks.
-fn rename_refusal_of<D: BlockDevice>(
+fn find_rename_refusal<D: BlockDevice>(
     tree: &Tree<D>,
     files: &Files,
     paths: &RenamePaths<'_>,
-    found: &RenameFindings,
+    found: &RenameLookup,
 ) -> Option<Refusal>
     requires ready { IsReady tree.now files.now }
-    requires passes { PassesRename tree.now paths.now.old.now paths.now.new.now paths.now }
-    requires found { AreRenameFindings (shown_tree tree.now) paths.now.from paths.now.to found.now }
+    requires passes { PassesRenameWithoutLookup tree.now paths.now.old.now paths.now.new.now paths.now }
+    requires found { AreRenameFindings (visible_tree tree.now) paths.now.from paths.now.to found.now }
     ensures { result ≡ refusal_by_checks (session_view tree.now files.now) (ops.Rename paths.now.old.now paths.now.new.now) }
 {
     let is_same = paths.is_same;
@@ -143,18 +143,18 @@ fn rename_refusal_of<D: BlockDevice>(
     let name_len = paths.to.name_len();
     let puts_directory = are_both_true(entry.is_directory(), replaces.is_file());
     let puts_file = are_both_true(entry.is_file(), replaces.is_directory());
-    let overfills = entry_overflows(tree, name_len, found.attributes_size);
+    let overfills = exceeds_entry_limit(tree, name_len, found.attributes_size);
     let checks = [
         found.entry.fault,
         found.target.finding.fault,
-        refuse_if(name_is_long(tree, name_len), Error::NameTooLong),
+        refuse_if(exceeds_name_max(tree, name_len), Error::NameTooLong),
         refuse_if(entry.is_nothing(), Error::NoEnt),
-        check_replacement(is_same, puts_directory, Error::NotDir),
-        check_replacement(is_same, puts_file, Error::IsDir),
-        check_replacement(is_same, found.target.has_entries, Error::NotEmpty),
+        replaced_entry_refusal(is_same, puts_directory, Error::NotDir),
+        replaced_entry_refusal(is_same, puts_file, Error::IsDir),
+        replaced_entry_refusal(is_same, found.target.has_entries, Error::NotEmpty),
         refuse_if(files.prevents_rename_of(paths.old, paths.new), Error::Busy),
-        check_replacement(is_same, overfills, Error::EntryFull),
-        refuse_if(lacks_blocks(tree, files, 2), Error::NoSpace),
+        replaced_entry_refusal(is_same, overfills, Error::EntryFull),
+        refuse_if(lacks_free_blocks(tree, files, 2), Error::NoSpace),
     ];
     find_first_refusal(&checks)
 }
@@ -172,7 +172,7 @@ pub fn check_rename<'a, D: BlockDevice>(
 {
     let paths = check_rename_paths(tree, old, new)?;
     let found = tree.look_up_rename(alloc, &paths.from, &paths.to)?;
-    let refusal = rename_refusal_of(tree, files, &paths, &found);
+    let refusal = find_rename_refusal(tree, files, &paths, &found);
     let RenamePaths {
         from,
         to,

@@ -91,7 +91,7 @@ fn is_refusal(error: Error) -> bool
     !matches!(error, Error::Io | Error::NoMemory | Error::Corrupt)
 }
 
-fn refused_reply(error: Error) -> Result<Reply, Error>
+fn refusal_as_reply(error: Error) -> Result<Reply, Error>
     ensures seen { result_view result ≡ reply_from (λ r. r) (Err error) }
     ensures named { IfOk result HasRefusalError }
 {
@@ -108,7 +108,7 @@ pub(crate) fn reply_of_unit(answer: Result<(), Error>) -> Result<Reply, Error>
 {
     match answer {
         Ok(()) => Ok(Reply::Done),
-        Err(error) => refused_reply(error),
+        Err(error) => refusal_as_reply(error),
     }
 }
 
@@ -118,7 +118,7 @@ pub(crate) fn reply_of_fd(answer: Result<Fd, Error>) -> Result<Reply, Error>
 {
     match answer {
         Ok(fd) => Ok(Reply::Fd(fd)),
-        Err(error) => refused_reply(error),
+        Err(error) => refusal_as_reply(error),
     }
 }
 
@@ -128,7 +128,7 @@ pub(crate) fn reply_of_bytes(answer: Result<Vec<u8>, Error>) -> Result<Reply, Er
 {
     match answer {
         Ok(bytes) => Ok(Reply::Bytes(bytes)),
-        Err(error) => refused_reply(error),
+        Err(error) => refusal_as_reply(error),
     }
 }
 
@@ -138,7 +138,7 @@ pub(crate) fn reply_of_count(answer: Result<u32, Error>) -> Result<Reply, Error>
 {
     match answer {
         Ok(count) => Ok(Reply::Count(count)),
-        Err(error) => refused_reply(error),
+        Err(error) => refusal_as_reply(error),
     }
 }
 
@@ -148,7 +148,7 @@ pub(crate) fn reply_of_items(answer: Result<Vec<Item>, Error>) -> Result<Reply, 
 {
     match answer {
         Ok(items) => Ok(Reply::Items(items)),
-        Err(error) => refused_reply(error),
+        Err(error) => refusal_as_reply(error),
     }
 }
 
@@ -158,7 +158,7 @@ pub(crate) fn reply_of_stat(answer: Result<Stat, Error>) -> Result<Reply, Error>
 {
     match answer {
         Ok(stat) => Ok(Reply::Stat(stat)),
-        Err(error) => refused_reply(error),
+        Err(error) => refusal_as_reply(error),
     }
 }
 
@@ -168,7 +168,7 @@ pub(crate) fn reply_of_gstate(answer: Result<Gstate, Error>) -> Result<Reply, Er
 {
     match answer {
         Ok(gstate) => Ok(Reply::Gstate(gstate)),
-        Err(error) => refused_reply(error),
+        Err(error) => refusal_as_reply(error),
     }
 }
 
@@ -178,6 +178,6 @@ pub(crate) fn reply_of_bool(answer: Result<bool, Error>) -> Result<Reply, Error>
 {
     match answer {
         Ok(yes) => Ok(Reply::Yes(yes)),
-        Err(error) => refused_reply(error),
+        Err(error) => refusal_as_reply(error),
     }
 }

@@ -2,38 +2,38 @@ ghost use Rattle.lfs_model.specs.session.Operations as ops;
 ghost use Rattle.lfs_model.specs.session.Operations.{Operation, Reply as Answer};
 ghost use Rattle.lfs_fs.specs.Replies.{reply_from};
 ghost use Rattle.std.specs.Prelude.{◌≡◌, ◌⊎◌, ◌↔◌, ◌++◌, ◌+◌, ◌≤◌, None, Some, false, true, List, [], drop, length, map, take, All, IfOk, IfErr, IsTrue, MatchResult, OnOk};
-ghost use Rattle.lfs_model.specs.format.Disk.{SameGeometry, ordered_disk};
+ghost use Rattle.lfs_model.specs.format.Disk.{SameGeometry, disk_with_order};
 ghost use Rattle.lfs_model.specs.format.Thread.{Pair, address_blocks};
 ghost use Rattle.lfs_model.specs.tree.Fresh.{empty_tree};
 ghost use Rattle.lfs_model.specs.session.Headline.{HasDiskTree, SessionMatchesDisk};
 ghost use Rattle.lfs_model.specs.session.History.{fault_count, read_count};
-ghost use Rattle.lfs_model.specs.tree.Profile.{image_fields};
+ghost use Rattle.lfs_model.specs.tree.Profile.{image_superblock_fields};
 ghost use Rattle.lfs_model.specs.session.State.{Healthy, mounted_session};
 ghost use Rattle.lfs_model.specs.session.Run.{AreSteps, SystemState};
 ghost use Rattle.lfs_model.specs.crash.Performed.{ArePerformed};
-ghost use Rattle.lfs_model.specs.crash.RepeatedPowerLoss.{IsMounted, MeetsRunPremises};
+ghost use Rattle.lfs_model.specs.crash.RepeatedPowerLoss.{IsJustMounted, MeetsCrashSafetyPremises};
 ghost use Rattle.lfs_model.specs.crash.PowerLoss.{SurvivesPowerLoss};
 ghost use Rattle.lfs_model.specs.declared.order.NameOrder.{NameOrder};
 ghost use Rattle.lfs_model.specs.declared.order.NameOrder.TheVariants.{LongerFirst, ShorterFirst};
 ghost use Rattle.lfs_thread.specs.ThreadDevice.{GivesDeviceBack};
 ghost use Rattle.lfs_thread.specs.Kept.{disk_of_device, kept_in_order};
-ghost use Rattle.lfs_model.specs.format.Thread.{anchor_address};
+ghost use Rattle.lfs_model.specs.format.Thread.{superblock_pair_address};
 ghost use Rattle.lfs_model.specs.tree.View.{IsAccepted};
 ghost use Rattle.lfs_lookup.specs.Finds.{listed_item_view, stat_view};
 ghost use Rattle.lfs_lookup.specs.RefusalErrors.{is_refusal};
 ghost use Rattle.lfs_tag.specs.FieldsView.{superblock_view};
-ghost use Rattle.lfs_tree.specs.Formats.{IsFormatError, IsFormatted, WritesFirstTwo};
+ghost use Rattle.lfs_tree.specs.Formats.{IsFormatError, IsFreshlyFormatted, WritesOnlyFirstTwoBlocks};
 ghost use Rattle.lfs_tree.specs.TreeState.{kept_thread};
 ghost use Rattle.lfs_fs.specs.GstateView.{returned_gstate_reply};
 ghost use Rattle.lfs_fs.specs.ImageLimits.{FailedByRead, OnlyReadsSession};
-ghost use Rattle.lfs_fs.specs.ReadOnly.{IsReadOnlyReason, MayWrite};
-ghost use Rattle.lfs_fs.specs.Turns.{IsSafeRun};
+ghost use Rattle.lfs_fs.specs.ReadOnly.{IsReadOnlyReason, IsWritableSession};
+ghost use Rattle.lfs_fs.specs.Turns.{IsCrashSafeRun};
 ghost use Rattle.lfs_fs.specs.SessionView.{BeginsByMount, FailsRun, system_state};
 ghost use Rattle.lfs_fs.specs.FlagsView.{flags_view};
 ghost use Rattle.lfs_fs.specs.OpView.{HasRefusalError, op_view, result_view, reply_view};
 ghost use Rattle.lfs_fs.specs.CallEffects.{IsCall};
-ghost use Rattle.lfs_fs.specs.ReaderReads.{ReadsFew};
-ghost use Rattle.lfs_fs.specs.FileAnswers.{FileAnswersOf, file_position, file_size};
+ghost use Rattle.lfs_fs.specs.ReaderReads.{BoundsFileReads};
+ghost use Rattle.lfs_fs.specs.FileAnswers.{IsFileQueryResult, file_position, file_size};
 
 use crate::checks::{
     check_and_list, check_and_stat, check_get_attr, check_is_open, check_mkdir, check_open_reader,
@@ -448,7 +448,7 @@ impl<D: BlockDevice> Session<D> {
     /// `BadFile` if no file is open for reading under the number `fd`.
     pub fn read(&mut self, alloc: Global, fd: Fd, count: u32) -> Result<Vec<u8>, Error>
         ensures call { IsCall self.old (ops.Read fd count) (reply_from (λ v. ops.Bytes v.items) result) self.new }
-        ensures few { OnOk result (ReadsFew self.old fd count self.new) }
+        ensures few { OnOk result (BoundsFileReads self.old fd count self.new) }
     {
         if self.tree.has_failed() {
             return Err(Error::Failed);
@@ -459,7 +459,7 @@ impl<D: BlockDevice> Session<D> {
         let mut known = reader.known;
         let bytes = bytes_for_reader(alloc, &mut self.tree, reader, &mut known, count)?;
         let position = reader.position + bytes.len() as u32;
-        self.files.note_known(fd, known);
+        self.files.set_index_cache(fd, known);
         self.files.seek(fd, position);
         Ok(bytes)
     }
@@ -477,7 +477,7 @@ impl<D: BlockDevice> Session<D> {
     pub fn read_into(&mut self, fd: Fd, buf: &mut [u8]) -> Result<usize, Error>
         ensures call { IsCall self.old (ops.Read fd (length buf.old)) (reply_from (λ n. ops.Bytes (take n buf.new)) result) self.new }
         ensures stays { MatchResult result (λ n. (n ≤ length buf.old) × (drop n buf.new ≡ drop n buf.old)) (λ e. is_refusal e ≡ true → buf.new ≡ buf.old) }
-        ensures few { OnOk result (ReadsFew self.old fd (length buf.old) self.new) }
+        ensures few { OnOk result (BoundsFileReads self.old fd (length buf.old) self.new) }
     {
         if self.tree.has_failed() {
             return Err(Error::Failed);
@@ -490,7 +490,7 @@ impl<D: BlockDevice> Session<D> {
             .tree
             .read(&reader.contents, &mut known, reader.position, buf)?;
         let position = reader.position + count as u32;
-        self.files.note_known(fd, known);
+        self.files.set_index_cache(fd, known);
         self.files.seek(fd, position);
         Ok(count)
     }
@@ -517,7 +517,7 @@ impl<D: BlockDevice> Session<D> {
     ///
     /// `BadFile` if no file is open under the number `fd`.
     pub fn position(&self, fd: Fd) -> Result<u32, Error>
-        ensures { FileAnswersOf file_position self.now fd result }
+        ensures { IsFileQueryResult file_position self.now fd result }
     {
         if self.tree.has_failed() {
             return Err(Error::Failed);
@@ -535,7 +535,7 @@ impl<D: BlockDevice> Session<D> {
     ///
     /// `BadFile` if no file is open under the number `fd`.
     pub fn size(&self, fd: Fd) -> Result<u32, Error>
-        ensures { FileAnswersOf file_size self.now fd result }
+        ensures { IsFileQueryResult file_size self.now fd result }
     {
         if self.tree.has_failed() {
             return Err(Error::Failed);
@@ -587,7 +587,7 @@ impl<D: BlockDevice> Session<D> {
 
     /// Returns a reference to the device in the state that the last call left.
     pub fn device(&self) -> &D
-        ensures disk { ordered_disk self.now.tree.disk.order (disk_of_device D.BlockDevice result.now) ≡ self.now.tree.disk }
+        ensures disk { disk_with_order self.now.tree.disk.order (disk_of_device D.BlockDevice result.now) ≡ self.now.tree.disk }
         ensures history { D.history result.now ≡ self.now.tree.history }
     {
         self.tree.device()
@@ -596,7 +596,7 @@ impl<D: BlockDevice> Session<D> {
     /// Ends the session and returns the device. Writes nothing, so changes that aren't synced are
     /// lost.
     pub fn unmount(self) -> D
-        ensures disk { ordered_disk self.tree.disk.order (disk_of_device D.BlockDevice result) ≡ self.tree.disk }
+        ensures disk { disk_with_order self.tree.disk.order (disk_of_device D.BlockDevice result) ≡ self.tree.disk }
         ensures history { D.history result ≡ self.tree.history }
     {
         self.tree.into_device()
@@ -621,7 +621,7 @@ impl<D: BlockDevice> Session<D> {
     /// `Io` if the read fails. `NoMemory` if memory can't be allocated. After an error the session
     /// has failed.
     pub fn superblock(&mut self, alloc: Global) -> Result<Superblock, Error>
-        ensures is { IfOk result (λ f. image_fields self.old.tree.pairs ≡ Some (superblock_view f)) }
+        ensures is { IfOk result (λ f. image_superblock_fields self.old.tree.pairs ≡ Some (superblock_view f)) }
         ensures read { OnOk result (OnlyReadsSession self.old self.new) }
         ensures failed { IfErr result (FailedByRead self.old self.new) }
         ensures few { read_count self.new.tree.history ≤ read_count self.old.tree.history + 1 }
@@ -646,7 +646,7 @@ impl<D: BlockDevice> Session<D> {
     /// the writing profile. If the session may write, no operation is refused as `ReadOnly`, and
     /// [`run`](Session::run) survives a power loss. Doesn't access the device.
     pub fn is_writable(&self) -> bool
-        ensures { IsTrue result ↔ MayWrite self.now }
+        ensures { IsTrue result ↔ IsWritableSession self.now }
     {
         if self.tree.has_failed() {
             return false;
@@ -669,7 +669,7 @@ impl<D: BlockDevice> Session<D> {
         ensures is { IfOk result (IsReadOnlyReason self.old) }
         ensures read { OnOk result (OnlyReadsSession self.old self.new) }
         ensures failed { IfErr result (FailedByRead self.old self.new) }
-        ensures silent { MayWrite self.old → self.new ≡ self.old }
+        ensures silent { IsWritableSession self.old → self.new ≡ self.old }
     {
         if self.tree.has_failed() {
             return Err(Error::Failed);
@@ -733,7 +733,7 @@ impl<D: BlockDevice> Session<D> {
         ensures no_fault { OnOk result (fault_count self.new.tree.history ≡ fault_count self.old.tree.history) }
         ensures headline { IfOk result (λ replies. (from : SystemState) (done : List Operation) (answers : List Answer) → HasDiskTree from → AreSteps from done answers (system_state self.old)
             → SessionMatchesDisk from (done ++ map op_view ops.now) (answers ++ map reply_view replies.items) (system_state self.new)) }
-        ensures survives { MeetsRunPremises (system_state self.old) (system_state self.new) → IsSafeRun (system_state self.old) (map op_view ops.now) (system_state self.new) }
+        ensures survives { MeetsCrashSafetyPremises (system_state self.old) (system_state self.new) → IsCrashSafeRun (system_state self.old) (map op_view ops.now) (system_state self.new) }
         ensures ended { IfErr result (λ e. FailsRun e (system_state self.old) (map op_view ops.now) (system_state self.new)) }
     {
         let mut replies = Vec::new(alloc);
@@ -762,10 +762,10 @@ impl<D: BlockDevice> Session<D> {
 /// `Corrupt` if the device has no accepted image in either order of names. `Io` if a read fails.
 /// `NoMemory` if memory can't be allocated. An error also returns the device.
 pub fn mount<D: BlockDevice>(alloc: Global, device: D) -> Result<Session<D>, (D, Error)>
-    ensures begun { IfOk result (λ s. BeginsByMount (ordered_disk s.tree.disk.order (disk_of_device D.BlockDevice device)) (D.history device) s) }
-    ensures state { IfOk result (λ s. IsMounted (ordered_disk s.tree.disk.order (disk_of_device D.BlockDevice device)) (system_state s)) }
-    ensures longer { IfOk result (λ s. s.tree.disk.order ≡ ShorterFirst → (ps : List Pair) → ¬ IsAccepted (ordered_disk LongerFirst (disk_of_device D.BlockDevice device)) ps) }
-    ensures corrupt { IfErr result (λ e. e.1 ≡ Error.Corrupt → (order : NameOrder) (ps : List Pair) → ¬ IsAccepted (ordered_disk order (disk_of_device D.BlockDevice device)) ps) }
+    ensures begun { IfOk result (λ s. BeginsByMount (disk_with_order s.tree.disk.order (disk_of_device D.BlockDevice device)) (D.history device) s) }
+    ensures state { IfOk result (λ s. IsJustMounted (disk_with_order s.tree.disk.order (disk_of_device D.BlockDevice device)) (system_state s)) }
+    ensures longer { IfOk result (λ s. s.tree.disk.order ≡ ShorterFirst → (ps : List Pair) → ¬ IsAccepted (disk_with_order LongerFirst (disk_of_device D.BlockDevice device)) ps) }
+    ensures corrupt { IfErr result (λ e. e.1 ≡ Error.Corrupt → (order : NameOrder) (ps : List Pair) → ¬ IsAccepted (disk_with_order order (disk_of_device D.BlockDevice device)) ps) }
     ensures errors { IfErr result (λ e. (e.1 ≡ Error.Io) ⊎ (e.1 ≡ Error.Corrupt) ⊎ (e.1 ≡ Error.NoMemory)) }
     ensures back { IfErr result (λ e. GivesDeviceBack D.BlockDevice device e.0 e.1) }
 {
@@ -788,11 +788,11 @@ pub fn mount<D: BlockDevice>(alloc: Global, device: D) -> Result<Session<D>, (D,
 ///
 /// Returns the same errors as [`format_ordered`].
 pub fn format<D: BlockDevice>(alloc: Global, device: D) -> Result<Session<D>, (D, Error)>
-    ensures formatted { IfOk result (λ s. IsFormatted (kept_thread s.tree)) }
+    ensures formatted { IfOk result (λ s. IsFreshlyFormatted (kept_thread s.tree)) }
     ensures state { IfOk result (λ s. (system_state s).state ≡ Healthy (mounted_session empty_tree)) }
-    ensures geometry { IfOk result (λ s. SameGeometry (ordered_disk LongerFirst (disk_of_device D.BlockDevice device)) s.tree.disk) }
-    ensures calls { IfOk result (λ s. WritesFirstTwo (kept_in_order D.BlockDevice LongerFirst device [] []) (kept_thread s.tree)) }
-    ensures back { IfErr result (λ e. IsFormatError D.BlockDevice (address_blocks anchor_address) device e.0 e.1) }
+    ensures geometry { IfOk result (λ s. SameGeometry (disk_with_order LongerFirst (disk_of_device D.BlockDevice device)) s.tree.disk) }
+    ensures calls { IfOk result (λ s. WritesOnlyFirstTwoBlocks (kept_in_order D.BlockDevice LongerFirst device [] []) (kept_thread s.tree)) }
+    ensures back { IfErr result (λ e. IsFormatError D.BlockDevice (address_blocks superblock_pair_address) device e.0 e.1) }
 {
     format_ordered(alloc, device, NameOrder::LongerFirst)
 }
@@ -811,11 +811,11 @@ pub fn format_ordered<D: BlockDevice>(
     device: D,
     order: NameOrder,
 ) -> Result<Session<D>, (D, Error)>
-    ensures formatted { IfOk result (λ s. IsFormatted (kept_thread s.tree)) }
+    ensures formatted { IfOk result (λ s. IsFreshlyFormatted (kept_thread s.tree)) }
     ensures state { IfOk result (λ s. (system_state s).state ≡ Healthy (mounted_session empty_tree)) }
-    ensures geometry { IfOk result (λ s. SameGeometry (ordered_disk order (disk_of_device D.BlockDevice device)) s.tree.disk) }
-    ensures calls { IfOk result (λ s. WritesFirstTwo (kept_in_order D.BlockDevice order device [] []) (kept_thread s.tree)) }
-    ensures back { IfErr result (λ e. IsFormatError D.BlockDevice (address_blocks anchor_address) device e.0 e.1) }
+    ensures geometry { IfOk result (λ s. SameGeometry (disk_with_order order (disk_of_device D.BlockDevice device)) s.tree.disk) }
+    ensures calls { IfOk result (λ s. WritesOnlyFirstTwoBlocks (kept_in_order D.BlockDevice order device [] []) (kept_thread s.tree)) }
+    ensures back { IfErr result (λ e. IsFormatError D.BlockDevice (address_blocks superblock_pair_address) device e.0 e.1) }
 {
     match Tree::format(alloc, device, order) {
         Ok(tree) => {

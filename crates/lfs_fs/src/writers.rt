@@ -1,12 +1,12 @@
 // The calls of a writer, which is a file that is open for writing.
 
 ghost use Rattle.std.specs.Prelude.{ℕ, List, [], true, ◌≡◌, length, IfErr, IfOk, IfSome, IsSome, OnErr, OnOk};
-ghost use Rattle.lfs_model.specs.session.Writers.{opened_writer, synced_writer, truncated_writer, written_writer};
-ghost use Rattle.lfs_tree.specs.OpenContents.{AreTreeContents, AreBytesStored, KeepsImage, writer_contents_bytes, kept_thread};
-ghost use Rattle.lfs_tree.specs.TreeState.{shown_tree, OnlyReadsTree, IsFailedTree, IsApplied, FailedByReading, HasErrorCause, IsSoundState, KeepsOthersIfRecovered, SurvivesStops};
+ghost use Rattle.lfs_model.specs.session.Writers.{opened_writer, synced_writer, truncated_writer, writer_after_write};
+ghost use Rattle.lfs_tree.specs.OpenContents.{AreTreeContents, IsStoreApplied, KeepsImage, writer_contents_bytes, kept_thread};
+ghost use Rattle.lfs_tree.specs.TreeState.{visible_tree, OnlyReadsTree, IsFailedTree, IsOperationApplied, FailedByReading, HasErrorCause, IsSoundState, KeepsOthersIfRecovered, PowerLossesLeaveEither};
 ghost use Rattle.lfs_file.specs.Contents.{contents_form};
-ghost use Rattle.lfs_fs.specs.WriterChanges.{CanOpenWriter, IsOpenedWriter, CanSaveWriter, CanTruncateBy, CanWriteBy, HasWriterFile, IsUnsavedForm, IsSavedWriter, IsChangedWriter};
-ghost use Rattle.lfs_fs.specs.FileView.{unsaved_or_tree, writer_view};
+ghost use Rattle.lfs_fs.specs.WriterChanges.{CanOpenWriter, IsOpenedWriter, CanSaveWriter, CanTruncateTo, CanWriteBytes, IsWritablePath, IsDraftOrFileForm, IsSavedWriter, IsChangedWriter};
+ghost use Rattle.lfs_fs.specs.FileView.{draft_or_stored_bytes, writer_view};
 ghost use Rattle.lfs_fs.specs.FlagsView.{flags_view};
 ghost use Rattle.lfs_model.specs.session.TreeEdits.{tree_creating, file_bytes, tree_with_change};
 ghost use Rattle.lfs_model.specs.session.Operations as ops;
@@ -38,12 +38,12 @@ fn contents_of_writer<D: BlockDevice>(
     size: u32,
     unsaved: Option<UnsavedContents>,
 ) -> Result<WriterContents, Error>
-    requires file { HasWriterFile tree.old path.now unsaved }
-    requires size { length (unsaved_or_tree tree.old path.now unsaved) ≡ size }
+    requires file { IsWritablePath tree.old path.now unsaved }
+    requires size { length (draft_or_stored_bytes tree.old path.now unsaved) ≡ size }
     ensures asked { OnOk result (OnlyReadsTree tree.old tree.new) }
     ensures over { IfOk result (AreTreeContents tree.new path.now) }
-    ensures bytes { IfOk result (λ c. writer_contents_bytes (kept_thread tree.new) c ≡ unsaved_or_tree tree.old path.now unsaved) }
-    ensures form { IfOk result (λ c. IsUnsavedForm tree.old.disk.profile tree.old.disk.block_size unsaved (length (unsaved_or_tree tree.old path.now unsaved)) (contents_form c)) }
+    ensures bytes { IfOk result (λ c. writer_contents_bytes (kept_thread tree.new) c ≡ draft_or_stored_bytes tree.old path.now unsaved) }
+    ensures form { IfOk result (λ c. IsDraftOrFileForm tree.old.disk.profile tree.old.disk.block_size unsaved (length (draft_or_stored_bytes tree.old path.now unsaved)) (contents_form c)) }
     ensures broken { OnErr result (FailedByReading tree.old tree.new) }
     ensures errors { IfErr result (HasErrorCause tree.old tree.new) }
 {
@@ -55,23 +55,23 @@ fn contents_of_writer<D: BlockDevice>(
 }
 
 // Writes bytes, at least one, by a writer. After an error the writer can't be used.
-pub(crate) fn write_by_writer<D: BlockDevice>(
+pub(crate) fn write_to_draft<D: BlockDevice>(
     alloc: Global,
     tree: &mut Tree<D>,
     writer: &mut Writer,
     bytes: &[u8],
 ) -> Result<(), Error>
-    requires { CanWriteBy tree.old writer.old bytes.now }
-    ensures written { OnOk result (IsChangedWriter tree.new (written_writer (writer_view tree.old writer.old) bytes.now) writer.new) }
+    requires { CanWriteBytes tree.old writer.old bytes.now }
+    ensures written { OnOk result (IsChangedWriter tree.new (writer_after_write (writer_view tree.old writer.old) bytes.now) writer.new) }
     ensures beside { OnOk result (KeepsImage tree.old tree.new) }
     ensures broken { OnErr result (IsFailedTree tree.old tree.new) }
     ensures errors { IfErr result (HasErrorCause tree.old tree.new) }
-    ensures survives { IsSoundState tree.old → SurvivesStops tree.old tree.new (shown_tree tree.old) }
+    ensures survives { IsSoundState tree.old → PowerLossesLeaveEither tree.old tree.new (visible_tree tree.old) }
 {
     lemma_forms_fit();
     lemma_reserve_suffices();
     let place = writer.place();
-    let has_turned = writer.turns_by_change(place.min(writer.size));
+    let has_turned = writer.nonsequential_after_change(place.min(writer.size));
     let end = place + bytes.len() as u32;
     let unsaved = writer.unsaved.take();
     let contents = contents_of_writer(alloc, tree, &writer.path, writer.size, unsaved)?;
@@ -93,17 +93,17 @@ pub(crate) fn truncate_writer<D: BlockDevice>(
     writer: &mut Writer,
     new_size: u32,
 ) -> Result<(), Error>
-    requires { CanTruncateBy tree.old writer.old new_size }
+    requires { CanTruncateTo tree.old writer.old new_size }
     ensures written { OnOk result (IsChangedWriter tree.new (truncated_writer (writer_view tree.old writer.old) new_size) writer.new) }
     ensures beside { OnOk result (KeepsImage tree.old tree.new) }
     ensures broken { OnErr result (IsFailedTree tree.old tree.new) }
     ensures errors { IfErr result (HasErrorCause tree.old tree.new) }
-    ensures survives { IsSoundState tree.old → SurvivesStops tree.old tree.new (shown_tree tree.old) }
+    ensures survives { IsSoundState tree.old → PowerLossesLeaveEither tree.old tree.new (visible_tree tree.old) }
 {
     lemma_forms_fit();
     lemma_reserve_suffices();
-    let has_turned = writer.turns_by_resize();
-    let last_end = writer.change_end_resized(new_size);
+    let has_turned = writer.nonsequential_after_resize();
+    let last_end = writer.end_after_resize(new_size);
     let unsaved = writer.unsaved.take();
     let contents = contents_of_writer(alloc, tree, &writer.path, writer.size, unsaved)?;
     let contents = tree.truncate(alloc, contents, new_size)?;
@@ -123,11 +123,11 @@ pub(crate) fn save_writer<D: BlockDevice>(
     writer: &mut Writer,
 ) -> Result<(), Error>
     requires { CanSaveWriter tree.old writer.old }
-    ensures stored { OnOk result (AreBytesStored tree.old writer.old.path (unsaved_or_tree tree.old writer.old.path writer.old.unsaved) tree.new) }
+    ensures stored { OnOk result (IsStoreApplied tree.old writer.old.path (draft_or_stored_bytes tree.old writer.old.path writer.old.unsaved) tree.new) }
     ensures saved { OnOk result (IsSavedWriter tree.new (synced_writer (writer_view tree.old writer.old)) writer.new) }
     ensures broken { OnErr result (IsFailedTree tree.old tree.new) }
     ensures errors { IfErr result (HasErrorCause tree.old tree.new) }
-    ensures survives { SurvivesStops tree.old tree.new (tree_with_change writer.old.path (node_with_bytes (unsaved_or_tree tree.old writer.old.path writer.old.unsaved)) (shown_tree tree.old)) }
+    ensures survives { PowerLossesLeaveEither tree.old tree.new (tree_with_change writer.old.path (node_with_bytes (draft_or_stored_bytes tree.old writer.old.path writer.old.unsaved)) (visible_tree tree.old)) }
 {
     lemma_reserve_suffices();
     let Some(unsaved) = writer.unsaved.take() else {
@@ -146,11 +146,11 @@ pub(crate) fn open_existing_file<D: BlockDevice>(
     flags: OpenFlags,
 ) -> Result<Writer, Error>
     requires { CanOpenWriter tree.old path size (flags_view flags).truncate }
-    ensures recovered { OnOk result (IsApplied tree.old ops.Recover tree.new) }
-    ensures begun { IfOk result (IsOpenedWriter tree.new (opened_writer path (flags_view flags) (file_bytes (shown_tree tree.old path)))) }
+    ensures recovered { OnOk result (IsOperationApplied tree.old ops.Recover tree.new) }
+    ensures begun { IfOk result (IsOpenedWriter tree.new (opened_writer path (flags_view flags) (file_bytes (visible_tree tree.old path)))) }
     ensures broken { OnErr result (IsFailedTree tree.old tree.new) }
     ensures errors { IfErr result (HasErrorCause tree.old tree.new) }
-    ensures survives { SurvivesStops tree.old tree.new (shown_tree tree.old) }
+    ensures survives { PowerLossesLeaveEither tree.old tree.new (visible_tree tree.old) }
 {
     lemma_few_blocks();
     lemma_contents_stay();
@@ -192,11 +192,11 @@ pub(crate) fn create_and_open<D: BlockDevice>(
     requires can { CanCreateFile tree.old path }
     requires known { IfSome known (IsCreationResult (kept_thread tree.old) path) }
     requires looked_up { pairs_gstate tree.old.pairs ≡ zero_gstate → IsSome known }
-    ensures made { OnOk result ((bytes : List ℕ) (flags : FlagsOfOpen) → path_or_root bytes ≡ path → flags.write ≡ true → IsApplied tree.old (ops.Open bytes flags) tree.new × KeepsOthersIfRecovered tree.old (ops.Open bytes flags) tree.new) }
+    ensures made { OnOk result ((bytes : List ℕ) (flags : FlagsOfOpen) → path_or_root bytes ≡ path → flags.write ≡ true → IsOperationApplied tree.old (ops.Open bytes flags) tree.new × KeepsOthersIfRecovered tree.old (ops.Open bytes flags) tree.new) }
     ensures begun { IfOk result (IsOpenedWriter tree.new (opened_writer path (flags_view flags) [])) }
     ensures broken { OnErr result (IsFailedTree tree.old tree.new) }
     ensures errors { IfErr result (HasErrorCause tree.old tree.new) }
-    ensures survives { SurvivesStops tree.old tree.new (tree_creating path (FileNode [] []) (shown_tree tree.old)) }
+    ensures survives { PowerLossesLeaveEither tree.old tree.new (tree_creating path (FileNode [] []) (visible_tree tree.old)) }
 {
     tree.create(alloc, &path.lend(), known)?;
     Ok(Writer {

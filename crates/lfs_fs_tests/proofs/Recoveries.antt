@@ -12,8 +12,8 @@ use Rattle.lfs_model.specs.session.History.{CallEvent}
 use Rattle.lfs_model.specs.session.Operations as ops
 use Rattle.lfs_model.specs.session.Operations.{Operation, Reply, ReadOnly}
 use Rattle.lfs_model.specs.crash.PowerLoss.{IsHealthySession, HasEitherTree}
-use Rattle.lfs_model.specs.crash.Premises.{MeetsPremises}
-use Rattle.lfs_model.specs.crash.RepeatedPowerLoss.{IsMounted, KeepsTree, SameBytes}
+use Rattle.lfs_model.specs.crash.Premises.{MeetsPowerLossPremises}
+use Rattle.lfs_model.specs.crash.RepeatedPowerLoss.{IsJustMounted, KeepsTree, SameBytes}
 use Rattle.lfs_model.specs.session.Run.{SystemState, IsStep, ShowsTree}
 use Rattle.lfs_model.specs.session.Session.{Session, DiskSummary, refuse_if}
 use Rattle.lfs_model.specs.session.State.{SessionHealth, Healthy, nonremount_result, is_remount, mounted_session}
@@ -33,7 +33,7 @@ state_stays around s = go around.writable refl
     go true e = ap (λ b. Healthy (unless_refused (refuse_if (not b) ReadOnly) s (ops.Done, s)).1) e
     go false e = ap (λ b. Healthy (unless_refused (refuse_if (not b) ReadOnly) s (ops.Done, s)).1) e
 
-pub shown_after : (before after tree : Tree) (left other : Disk) (from to : SystemState) → (tree ≡ before) ⊎ (tree ≡ after) → KeepsTree tree left → SameBytes left other → IsMounted other from
+pub shown_after : (before after tree : Tree) (left other : Disk) (from to : SystemState) → (tree ≡ before) ⊎ (tree ≡ after) → KeepsTree tree left → SameBytes left other → IsJustMounted other from
     → IsStep from ops.Recover ops.Done to → IsRecoveredWithEither before after to
 shown_after before after tree left other from to either safe same mount step =
     let a = step.answered in
@@ -62,7 +62,7 @@ called_in old new op (Err e) by = (by.fails.calls, by.fails.called)
 
 -- what a call leaves, however it ended, where the device met what is supposed of it
 pub left_by_call : (old new : SessionView) (op : Operation) (r : Result Reply Error) → IsCall old op r new → (s : Session) (ps : List Pair) (around : DiskSummary)
-    → IsHealthySession (system_state old) s ps around → MeetsPremises new.tree.history → HasEitherTree new.tree.disk s.tree (operation_result around s op).1.tree
+    → IsHealthySession (system_state old) s ps around → MeetsPowerLossPremises new.tree.history → HasEitherTree new.tree.disk s.tree (operation_result around s op).1.tree
 left_by_call old new op r call s ps around work met =
     let since = called_in old new op r call.answers in
     call.survives_loss.stands s ps around work (since_of_each since.0 since.1 met.erases) (since_of_each since.0 since.1 met.failed)

@@ -27,6 +27,6 @@ pub record RecoversEitherTree (before after : Tree) (result : Result SessionView
   pub accepted : IfErr result (λ e. e ≢ Corrupt)
 
 -- The operation of a session at work was cut, and the session that follows has the tree from before the operation or from after it.
-abbrev pub RecoversFromStop : SystemState → Operation → Result SessionView Error → Type 0
-RecoversFromStop from op result =
+abbrev pub RecoversFromPowerLoss : SystemState → Operation → Result SessionView Error → Type 0
+RecoversFromPowerLoss from op result =
     (s : Session) (ps : List Pair) (around : DiskSummary) → IsHealthySession from s ps around → RecoversEitherTree s.tree (operation_result around s op).1.tree result

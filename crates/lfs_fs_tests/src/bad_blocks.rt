@@ -2,7 +2,7 @@
 
 use crate::answers::ExpectedReply::{Bytes, Count, Done, Fd, Items};
 use crate::answers::Row;
-use crate::failed_sessions::Faulty;
+use crate::failed_sessions::FaultyRamDevice;
 use crate::row_runs::first_operation_with_wrong_reply;
 use crate::starts::{Start, copy_device, device_with_start_image, mount_image};
 use lfs_device::{Error, FaultDevice, RamDevice};
@@ -55,7 +55,7 @@ fn steps() -> [Step; 5] {
 // failed tries, at most two.
 fn count_failed_tries(
     alloc: Global,
-    session: &mut Session<Faulty>,
+    session: &mut Session<FaultyRamDevice>,
     step: &Step,
 ) -> Result<u32, Error> {
     for failed in 0..2u32 {
@@ -71,7 +71,7 @@ fn count_failed_tries(
 
 // Performs the steps `rounds` times on a device with a bad block. Returns the number of failed
 // tries, and whether each step succeeded at the latest on its second try.
-fn count_failures(
+fn count_failed_rounds(
     alloc: Global,
     empty: &RamDevice,
     bad_block: u32,
@@ -98,7 +98,7 @@ fn count_failures(
 fn steps_succeed_beside_a_bad_block(rt: HostRuntime) -> Result<(), Fail> {
     let empty = device_with_start_image(rt.alloc(), Start::Fresh(1024, 128, BLOCKS))?;
     for block in 2..BLOCKS {
-        let (failures, succeeds) = count_failures(rt.alloc(), &empty, block, 6)?;
+        let (failures, succeeds) = count_failed_rounds(rt.alloc(), &empty, block, 6)?;
         assert!(rt; succeeds && failures > 0, "{block}: {failures}");
     }
     Ok(())
@@ -109,7 +109,7 @@ fn steps_succeed_beside_a_bad_block(rt: HostRuntime) -> Result<(), Fail> {
 fn steps_end_at_a_bad_block_of_the_root(rt: HostRuntime) -> Result<(), Fail> {
     let empty = device_with_start_image(rt.alloc(), Start::Fresh(1024, 128, BLOCKS))?;
     for block in 0..2u32 {
-        let (_, succeeds) = count_failures(rt.alloc(), &empty, block, 6)?;
+        let (_, succeeds) = count_failed_rounds(rt.alloc(), &empty, block, 6)?;
         assert!(rt; !succeeds, "{block}");
     }
     Ok(())

@@ -11,7 +11,7 @@ use lfs_fs::{OpenFlags, Session};
 use std::alloc::Global;
 
 /// A device in memory that fails in one of its calls.
-pub type Faulty = FaultDevice<RamDevice>;
+pub type FaultyRamDevice = FaultDevice<RamDevice>;
 
 const FAILED: ExpectedReply<'static> = Refused(Error::Failed);
 
@@ -33,7 +33,10 @@ const AFTER: [Row<'static>; 13] = [
 ];
 
 /// Returns whether a session replies that it has failed, without calling the device.
-pub fn has_session_failed(alloc: Global, session: &mut Session<Faulty>) -> Result<bool, Error> {
+pub fn has_session_failed(
+    alloc: Global,
+    session: &mut Session<FaultyRamDevice>,
+) -> Result<bool, Error> {
     let before = session.device().calls(CountedCalls::Any);
     let wrong = first_operation_with_wrong_reply(alloc, session, &AFTER)?;
     Ok(wrong.is_none() && session.device().calls(CountedCalls::Any) == before)

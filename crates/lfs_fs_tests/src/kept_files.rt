@@ -4,13 +4,13 @@ use crate::starts::copy_device;
 use lfs_device::{BlockDevice, CountedCalls, Error, FaultDevice, Geometry, RamDevice};
 use lfs_fs::{OpenFlags, Session, mount};
 use saved_files::{
-    append_to_log, format_and_save, raise_counter, read_counter, read_settings, save_settings,
+    append_to_log, format_and_save, increment_counter, read_counter, read_settings, save_settings,
     set_counter, start,
 };
 use std::alloc::Global;
 use std::test::Fail;
 
-type Stopping = FaultDevice<RamDevice>;
+type PowerLossDevice = FaultDevice<RamDevice>;
 
 // What the application changes.
 #[derive(Clone, Copy, Debug)]
@@ -36,7 +36,7 @@ fn make_change<D: BlockDevice>(
 ) -> Result<(), Error> {
     match change {
         Change::Settings => save_settings(session, alloc, b"new"),
-        Change::Counter => match raise_counter(session, alloc) {
+        Change::Counter => match increment_counter(session, alloc) {
             Ok(_) => Ok(()),
             Err(error) => Err(error),
         },
@@ -54,11 +54,7 @@ fn read_log(session: &mut Session<RamDevice>, alloc: Global) -> Result<Vec<u8>, 
 
 // Returns whether the next start finds the new state: true for the new state, false for the old
 // one. Returns None if it finds neither.
-fn is_change_found(
-    alloc: Global,
-    device: RamDevice,
-    change: Change,
-) -> Result<Option<bool>, Error> {
+fn has_new_state(alloc: Global, device: RamDevice, change: Change) -> Result<Option<bool>, Error> {
     let mut session = start(alloc, device)?;
     let settings = read_settings(&mut session, alloc)?;
     let number = read_counter(&mut session, alloc)?;
@@ -80,7 +76,7 @@ fn is_change_found(
 // state the next start finds.
 fn outcome_of_change(
     alloc: Global,
-    device: Stopping,
+    device: PowerLossDevice,
     change: Change,
 ) -> Result<(bool, Option<bool>), Error> {
     let (is_done, left) = match mount(alloc, device) {
@@ -90,11 +86,15 @@ fn outcome_of_change(
         }
         Err((device, _)) => (false, device.into_inner()),
     };
-    Ok((is_done, is_change_found(alloc, left, change)?))
+    Ok((is_done, has_new_state(alloc, left, change)?))
 }
 
 // Returns copies of a device that lose power before, during and after the `nth` call.
-fn stopping_copies(alloc: Global, device: &RamDevice, nth: u64) -> Result<[Stopping; 3], Error> {
+fn copies_losing_power(
+    alloc: Global,
+    device: &RamDevice,
+    nth: u64,
+) -> Result<[PowerLossDevice; 3], Error> {
     let before = FaultDevice::new(copy_device(alloc, device)?, CountedCalls::Any, nth, true);
     let within = FaultDevice::new(copy_device(alloc, device)?, CountedCalls::Any, nth, true);
     let behind = FaultDevice::new(copy_device(alloc, device)?, CountedCalls::Any, nth, true);
@@ -103,12 +103,12 @@ fn stopping_copies(alloc: Global, device: &RamDevice, nth: u64) -> Result<[Stopp
 
 // Returns the number of power losses after which a start finds the old state, and the number after
 // which it finds the new one. Returns None if a start finds neither.
-fn count_found_states(alloc: Global, change: Change) -> Result<Option<(u64, u64)>, Error> {
+fn count_old_new(alloc: Global, change: Change) -> Result<Option<(u64, u64)>, Error> {
     let device = device_with_files(alloc)?;
     let (mut old, mut new) = (0u64, 0u64);
     for nth in 1..200u64 {
         let mut are_done = true;
-        for copy in stopping_copies(alloc, &device, nth)? {
+        for copy in copies_losing_power(alloc, &device, nth)? {
             let (is_done, found) = outcome_of_change(alloc, copy, change)?;
             are_done &= is_done;
             match found {
@@ -126,25 +126,28 @@ fn count_found_states(alloc: Global, change: Change) -> Result<Option<(u64, u64)
 
 // Returns whether a start after each power loss finds the old state or the new one, and finds each
 // of them more than three times.
-fn is_change_safe(alloc: Global, change: Change) -> Result<bool, Error> {
-    Ok(count_found_states(alloc, change)?.is_some_and(|(old, new)| old > 3 && new > 3))
+fn change_survives_loss(alloc: Global, change: Change) -> Result<bool, Error> {
+    Ok(count_old_new(alloc, change)?.is_some_and(|(old, new)| old > 3 && new > 3))
 }
 
 #[test]
 fn settings_are_old_or_new_after_a_stop(rt: HostRuntime) -> Result<(), Fail> {
-    assert_eq!(rt; is_change_safe(rt.alloc(), Change::Settings), Ok(true));
+    assert_eq!(rt;
+        change_survives_loss(rt.alloc(), Change::Settings),
+        Ok(true)
+    );
     Ok(())
 }
 
 #[test]
 fn counter_is_old_or_new_after_a_stop(rt: HostRuntime) -> Result<(), Fail> {
-    assert_eq!(rt; is_change_safe(rt.alloc(), Change::Counter), Ok(true));
+    assert_eq!(rt; change_survives_loss(rt.alloc(), Change::Counter), Ok(true));
     Ok(())
 }
 
 #[test]
 fn log_has_whole_entries_after_a_stop(rt: HostRuntime) -> Result<(), Fail> {
-    assert_eq!(rt; is_change_safe(rt.alloc(), Change::Log), Ok(true));
+    assert_eq!(rt; change_survives_loss(rt.alloc(), Change::Log), Ok(true));
     Ok(())
 }
 

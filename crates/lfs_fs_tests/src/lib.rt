@@ -5,7 +5,7 @@
 
 mod recovery;
 
-pub use recovery::{recover_from_stop, rename_despite_stop};
+pub use recovery::{recover_after_loss, rename_and_recover};
 
 #[cfg(test)]
 mod answers;
@@ -28,9 +28,9 @@ mod orders;
 #[cfg(test)]
 mod row_runs;
 #[cfg(test)]
-mod scenes;
-#[cfg(test)]
 mod scripts;
+#[cfg(test)]
+mod short_scripts;
 #[cfg(test)]
 mod starts;
 #[cfg(test)]

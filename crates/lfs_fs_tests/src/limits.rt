@@ -38,13 +38,13 @@ fn name_max_and_wrong_reply<D: BlockDevice>(
     Ok((superblock.name_max, wrong))
 }
 
-fn outcome_without_its_limits(alloc: Global) -> Result<(u32, Option<usize>), Error> {
+fn mount_without_limits(alloc: Global) -> Result<(u32, Option<usize>), Error> {
     let mut session = mount(alloc, device_with_short_names(alloc)?).map_err(|(_, error)| error)?;
     let rows = [(Mkdir(b"/d"), Refused(Error::ReadOnly))];
     name_max_and_wrong_reply(alloc, &mut session, &rows)
 }
 
-fn outcome_with_its_limits(alloc: Global) -> Result<(u32, Option<usize>), Error> {
+fn mount_within_limits(alloc: Global) -> Result<(u32, Option<usize>), Error> {
     let device = device_with_short_names(alloc)?;
     let mut session = mount_with_limits(alloc, device, Profile::new()).map_err(|(_, error)| error)?;
     let rows = [
@@ -60,7 +60,7 @@ fn outcome_with_its_limits(alloc: Global) -> Result<(u32, Option<usize>), Error>
 
 #[test]
 fn an_image_is_written_within_its_limits(rt: HostRuntime) -> Result<(), Fail> {
-    assert_eq!(rt; outcome_without_its_limits(rt.alloc()), Ok((32, None)));
-    assert_eq!(rt; outcome_with_its_limits(rt.alloc()), Ok((32, None)));
+    assert_eq!(rt; mount_without_limits(rt.alloc()), Ok((32, None)));
+    assert_eq!(rt; mount_within_limits(rt.alloc()), Ok((32, None)));
     Ok(())
 }

@@ -219,7 +219,7 @@ fn line_verdict(alloc: Global, line: &str) -> Result<String, AllocError> {
 }
 
 #[test]
-fn lines_are_read(rt: HostRuntime) -> Result<(), Fail> {
+fn script_lines_are_parsed(rt: HostRuntime) -> Result<(), Fail> {
     for (line, verdict) in LINES {
         assert_eq!(rt; line_verdict(rt.alloc(), line)?.as_str(), verdict, "{line}");
     }

@@ -4,7 +4,8 @@
 use crate::answers::ExpectedReply::Done;
 use crate::row_runs::first_operation_with_wrong_reply;
 use crate::scripts::{
-    LENGTH, has_lost_nothing, long_script, operations_of_long_script, perform_expected_operations,
+    LENGTH, has_consistent_tree, long_script, operations_of_long_script,
+    perform_expected_operations,
 };
 use crate::starts::{Start, device_with_start_image, mount_image};
 use lfs_device::Error;
@@ -31,7 +32,7 @@ fn is_tree_kept_without_memory(alloc: Global) -> Result<bool, Error> {
                     &mut session,
                     &[(Remount, Done)],
                 )?.is_none()
-                && has_lost_nothing(alloc, &mut session, &script, done)?,
+                && has_consistent_tree(alloc, &mut session, &script, done)?,
         ),
     }
 }

@@ -1,17 +1,17 @@
 // Functions that mount and recover a device after a power loss, with a proof of what they find.
 
 ghost use Rattle.std.specs.Prelude.{◌≡◌};
-ghost use Rattle.lfs_model.specs.format.Disk.{Disk, ordered_disk};
+ghost use Rattle.lfs_model.specs.format.Disk.{Disk, disk_with_order};
 ghost use Rattle.lfs_model.specs.session.Operations as ops;
 ghost use Rattle.lfs_model.specs.crash.PowerLoss.{HasEitherTree};
-ghost use Rattle.lfs_model.specs.crash.Premises.{MeetsPremises};
-ghost use Rattle.lfs_model.specs.crash.RepeatedPowerLoss.{IsMounted, SameBytes};
+ghost use Rattle.lfs_model.specs.crash.Premises.{MeetsPowerLossPremises};
+ghost use Rattle.lfs_model.specs.crash.RepeatedPowerLoss.{IsJustMounted, SameBytes};
 ghost use Rattle.lfs_model.specs.tree.Tree.{Tree};
 ghost use Rattle.lfs_model.specs.declared.order.NameOrder.{NameOrder};
 ghost use Rattle.lfs_device.specs.RamDevice.{ram_geometry, ram_blocks};
 ghost use Rattle.lfs_device.specs.DeviceDisk.{disk_of_blocks};
 ghost use Rattle.lfs_fs.specs.SessionView.{system_state};
-ghost use Rattle.lfs_fs_tests.specs.Recovered.{RecoversEitherTree, RecoversFromStop};
+ghost use Rattle.lfs_fs_tests.specs.Recovered.{RecoversEitherTree, RecoversFromPowerLoss};
 
 use lfs_device::{Error, FaultDevice, RamDevice, lemma_ram_premises};
 use lfs_fs::{Session, mount};
@@ -23,7 +23,7 @@ fn recover_session(
     alloc: Global,
     mut session: Session<RamDevice>,
 ) -> Result<Session<RamDevice>, Error>
-    ensures { (left other : Disk) (before after : Tree) → HasEitherTree left before after → SameBytes left other → IsMounted other (system_state session)
+    ensures { (left other : Disk) (before after : Tree) → HasEitherTree left before after → SameBytes left other → IsJustMounted other (system_state session)
         → RecoversEitherTree before after result }
 {
     power_loss_leaves_disk_with_safe_tree();
@@ -35,7 +35,7 @@ fn recover_session(
 
 // Mounts a device, and recovers its image.
 fn recover_device(alloc: Global, device: RamDevice) -> Result<Session<RamDevice>, Error>
-    ensures { (order : NameOrder) (before after : Tree) → HasEitherTree (ordered_disk order (disk_of_blocks (ram_geometry device) (ram_blocks device))) before after
+    ensures { (order : NameOrder) (before after : Tree) → HasEitherTree (disk_with_order order (disk_of_blocks (ram_geometry device) (ram_blocks device))) before after
         → RecoversEitherTree before after result }
 {
     match mount(alloc, device) {
@@ -50,15 +50,15 @@ fn recover_device(alloc: Global, device: RamDevice) -> Result<Session<RamDevice>
 ///
 /// Returns `Invalid` if a program of the device may have been torn, because its bytes are then
 /// unknown. Returns `NoMemory` if memory can't be allocated.
-pub fn recover_from_stop(
+pub fn recover_after_loss(
     alloc: Global,
     session: Session<FaultDevice<RamDevice>>,
 ) -> Result<Session<RamDevice>, Error>
-    ensures { (before after : Tree) → (MeetsPremises session.tree.history → HasEitherTree session.tree.disk before after) → RecoversEitherTree before after result }
+    ensures { (before after : Tree) → (MeetsPowerLossPremises session.tree.history → HasEitherTree session.tree.disk before after) → RecoversEitherTree before after result }
 {
     lemma_ram_premises();
     let device = session.unmount();
-    if device.may_tear_program() {
+    if device.may_tear_calls() {
         return Err(Error::Invalid);
     }
     device.lemma_premises_hold();
@@ -70,15 +70,15 @@ pub fn recover_from_stop(
 ///
 /// # Errors
 ///
-/// Returns the errors of [`recover_from_stop`].
-pub fn rename_despite_stop(
+/// Returns the errors of [`recover_after_loss`].
+pub fn rename_and_recover(
     alloc: Global,
     mut session: Session<FaultDevice<RamDevice>>,
     from: &[u8],
     to: &[u8],
 ) -> Result<Session<RamDevice>, Error>
-    ensures { RecoversFromStop (system_state session) (ops.Rename from.now to.now) result }
+    ensures { RecoversFromPowerLoss (system_state session) (ops.Rename from.now to.now) result }
 {
     let _ = session.rename(alloc, from, to);
-    recover_from_stop(alloc, session)
+    recover_after_loss(alloc, session)
 }

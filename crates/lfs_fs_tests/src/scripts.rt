@@ -137,7 +137,7 @@ pub fn perform_expected_operations<D: BlockDevice>(
 }
 
 // Returns whether a session has this tree.
-fn is_tree_seen<D: BlockDevice>(
+fn has_expected_tree<D: BlockDevice>(
     alloc: Global,
     session: &mut Session<D>,
     tree: Option<&ExpectedTree<'_>>,
@@ -188,13 +188,13 @@ fn is_tree_kept_by_recovery<D: BlockDevice>(
     session: &mut Session<D>,
     tree: Option<&ExpectedTree<'_>>,
 ) -> Result<bool, Error> {
-    if !is_tree_seen(alloc, session, tree)? {
+    if !has_expected_tree(alloc, session, tree)? {
         return Ok(false);
     }
     let recovered = first_operation_with_wrong_reply(alloc, session, &[(Recover, Done)])?;
     Ok(
         recovered.is_none()
-            && is_tree_seen(alloc, session, tree)?
+            && has_expected_tree(alloc, session, tree)?
             && leaves_nothing_to_recover(alloc, session, tree)?,
     )
 }
@@ -211,20 +211,20 @@ fn tree_indexes_before_and_after(script: &Script<'_>, done: usize) -> (usize, us
 }
 
 /// Returns the index of the tree that a session has after `done` operations, or after one more.
-pub fn index_of_seen_tree<D: BlockDevice>(
+pub fn current_tree_index<D: BlockDevice>(
     alloc: Global,
     session: &mut Session<D>,
     script: &Script<'_>,
     done: usize,
 ) -> Result<usize, Error> {
     let (before, behind) = tree_indexes_before_and_after(script, done);
-    let is_before = is_tree_seen(alloc, session, script.trees.get(before))?;
+    let is_before = has_expected_tree(alloc, session, script.trees.get(before))?;
     Ok(if is_before { before } else { behind })
 }
 
 /// Returns whether a session has the tree from before or after the operation that ended the script.
 /// The tree must also survive a recovery that leaves nothing to recover.
-pub fn has_lost_nothing<D: BlockDevice>(
+pub fn has_consistent_tree<D: BlockDevice>(
     alloc: Global,
     session: &mut Session<D>,
     script: &Script<'_>,

@@ -1,7 +1,7 @@
 // Devices with a new file system or a given image, and sessions on them.
 
 use lfs_device::{BlockDevice, Error, Geometry, RamDevice};
-use lfs_fixtures::{BlockFilling, FixtureEntries, image_with_commit};
+use lfs_fixtures::{BlockContents, FixtureEntries, image_with_commit};
 use lfs_fs::{Session, format, mount};
 use std::alloc::Global;
 
@@ -12,7 +12,7 @@ pub enum Start<'a> {
     Fresh(u32, u32, u32),
     /// An image of 16 blocks of 4,096 bytes: the entries after the superblock, and the contents of
     /// other blocks.
-    Image(FixtureEntries<'a>, &'a [(usize, BlockFilling<'a>)]),
+    Image(FixtureEntries<'a>, &'a [(usize, BlockContents<'a>)]),
 }
 
 /// Mounts a device, and drops it if the mount fails.

@@ -3,12 +3,14 @@
 
 use crate::answers::ExpectedReply::Done;
 use crate::answers::Row;
-use crate::failed_sessions::{Faulty, has_session_failed};
+use crate::failed_sessions::{FaultyRamDevice, has_session_failed};
 use crate::row_runs::first_operation_with_wrong_reply;
-use crate::scenes::{RECOVERY, RENAMING, device_with_file_to_move, making_and_removing_scripts};
 use crate::scripts::{
-    LENGTH, Script, has_lost_nothing, index_of_seen_tree, long_script, operations_of_long_script,
-    perform_expected_operations,
+    LENGTH, Script, current_tree_index, has_consistent_tree, long_script,
+    operations_of_long_script, perform_expected_operations,
+};
+use crate::short_scripts::{
+    RECOVERY, RENAMING, device_with_file_to_move, making_and_removing_scripts,
 };
 use crate::starts::{Start, copy_device, device_with_start_image, mount_image};
 use lfs_device::{CountedCalls, Erased, Error, FaultDevice, RamDevice};
@@ -29,16 +31,16 @@ fn device_copy_with_fault(
     erased: Erased,
     nth: u64,
     stops: bool,
-) -> Result<Faulty, Error> {
-    let copy = copy_device(alloc, device)?.with_erased(erased);
+) -> Result<FaultyRamDevice, Error> {
+    let copy = copy_device(alloc, device)?.with_erase_behavior(erased);
     Ok(FaultDevice::new(copy, CountedCalls::Any, nth, stops))
 }
 
 // Performs operations until the device loses power. Returns the number of completed operations, and
 // the device.
-fn run_operations_until_stop(
+fn run_until_loss(
     alloc: Global,
-    device: Faulty,
+    device: FaultyRamDevice,
     rows: &[Row<'_>],
 ) -> Result<(usize, RamDevice), Error> {
     let mut session = match mount(alloc, device) {
@@ -62,22 +64,22 @@ fn run_operations_until_stop(
 // whether a mount of what is left shows that nothing was lost.
 fn outcome_of_stopped_script(
     alloc: Global,
-    device: Faulty,
+    device: FaultyRamDevice,
     script: &Script<'_>,
 ) -> Result<(usize, bool), Error> {
-    let (done, left) = run_operations_until_stop(alloc, device, script.rows)?;
+    let (done, left) = run_until_loss(alloc, device, script.rows)?;
     let mut session = mount_image(alloc, left)?;
-    let is_right = has_lost_nothing(alloc, &mut session, script, done)?;
+    let is_right = has_consistent_tree(alloc, &mut session, script, done)?;
     Ok((done, is_right))
 }
 
 // Returns copies of a device that lose power before, during and after the `nth` call.
-fn device_copies_with_stop_planned_at_call(
+fn copies_with_loss(
     alloc: Global,
     device: &RamDevice,
     erased: Erased,
     nth: u64,
-) -> Result<[Faulty; 3], Error> {
+) -> Result<[FaultyRamDevice; 3], Error> {
     let before = device_copy_with_fault(alloc, device, erased, nth, true)?;
     let within = device_copy_with_fault(alloc, device, erased, nth, true)?.torn(20);
     let behind = device_copy_with_fault(alloc, device, erased, nth, true)?.whole();
@@ -86,7 +88,7 @@ fn device_copies_with_stop_planned_at_call(
 
 // Performs a script with a power loss before, during and after the `nth` call. Returns whether
 // nothing was lost in any case, and whether the script was completed in each case.
-fn is_stop_at_call_survived(
+fn survives_power_loss(
     alloc: Global,
     device: &RamDevice,
     erased: Erased,
@@ -95,7 +97,7 @@ fn is_stop_at_call_survived(
 ) -> Result<(bool, bool), Error> {
     let mut are_right = true;
     let mut are_whole = true;
-    for copy in device_copies_with_stop_planned_at_call(alloc, device, erased, nth)? {
+    for copy in copies_with_loss(alloc, device, erased, nth)? {
         let (done, is_right) = outcome_of_stopped_script(alloc, copy, script)?;
         are_right &= is_right;
         are_whole &= done == script.rows.len();
@@ -112,7 +114,7 @@ fn count_survived_calls(
     script: &Script<'_>,
 ) -> Result<Option<u64>, Error> {
     for nth in 1..1000u64 {
-        let (are_right, are_whole) = is_stop_at_call_survived(alloc, device, erased, script, nth)?;
+        let (are_right, are_whole) = survives_power_loss(alloc, device, erased, script, nth)?;
         if !are_right {
             return Ok(None);
         }
@@ -171,14 +173,14 @@ fn nothing_is_lost_in_other_scripts(rt: HostRuntime) -> Result<(), Fail> {
 
 // Makes the device lose power at each call of a recovery. Returns the number of the first call that
 // the recovery doesn't make, or None if a power loss changed the tree.
-fn count_survived_in_recovery(
+fn count_recovery_calls(
     alloc: Global,
     left: &RamDevice,
     script: &Script<'_>,
     done: usize,
 ) -> Result<Option<u64>, Error> {
     let mut session = mount_image(alloc, copy_device(alloc, left)?)?;
-    let tree = index_of_seen_tree(alloc, &mut session, script, done)?;
+    let tree = current_tree_index(alloc, &mut session, script, done)?;
     let recovery = Script {
         rows: &RECOVERY,
         trees: script.trees,
@@ -190,17 +192,12 @@ fn count_survived_in_recovery(
 // Makes the device lose power at each call of a rename, and then at each call of the recovery that
 // follows. Returns the number of the first call that the rename doesn't make, or None if a power
 // loss destroyed something.
-fn count_survived_in_rename(alloc: Global, device: &RamDevice) -> Result<Option<u64>, Error> {
+fn count_rename_calls(alloc: Global, device: &RamDevice) -> Result<Option<u64>, Error> {
     let calls = count_survived_calls(alloc, device, Erased::Fill(0xff), &RENAMING)?;
     for nth in 1..calls.unwrap_or(0) {
-        for copy in device_copies_with_stop_planned_at_call(
-            alloc,
-            device,
-            Erased::Fill(0xff),
-            nth,
-        )? {
-            let (done, left) = run_operations_until_stop(alloc, copy, RENAMING.rows)?;
-            if count_survived_in_recovery(alloc, &left, &RENAMING, done)?.is_none() {
+        for copy in copies_with_loss(alloc, device, Erased::Fill(0xff), nth)? {
+            let (done, left) = run_until_loss(alloc, copy, RENAMING.rows)?;
+            if count_recovery_calls(alloc, &left, &RENAMING, done)?.is_none() {
                 return Ok(None);
             }
         }
@@ -211,7 +208,7 @@ fn count_survived_in_rename(alloc: Global, device: &RamDevice) -> Result<Option<
 #[test]
 fn nothing_is_lost_where_a_recovery_stops(rt: HostRuntime) -> Result<(), Fail> {
     let device = device_with_file_to_move(rt.alloc(), OpenFlags::WRITE | OpenFlags::CREATE)?;
-    let calls = count_survived_in_rename(rt.alloc(), &device)?;
+    let calls = count_rename_calls(rt.alloc(), &device)?;
     assert!(rt; calls.is_some_and(|calls| calls > 4), "{calls:?}");
     Ok(())
 }
@@ -239,7 +236,7 @@ fn outcome_of_script_with_failure(
                     &mut session,
                     &[(Remount, Done)],
                 )?.is_none()
-                && has_lost_nothing(alloc, &mut session, script, done)?;
+                && has_consistent_tree(alloc, &mut session, script, done)?;
             Ok((done, is_right))
         }
     }

@@ -5,7 +5,7 @@ use Rattle.lfs_lookup.proofs.Common.{option_map, option_map_or, sum_by-cons, att
 use Rattle.std.proofs.lemmas.Bool.{eqb-false, ltb-true}
 use Rattle.lfs_model.specs.format.Content.{attributes_with}
 use Rattle.lfs_tag.specs.declared.content.Attribute.{Attribute}
-use Rattle.lfs_lookup.specs.AttributeAt.{PutChangesSize}
+use Rattle.lfs_lookup.specs.AttributeAt.{SettingAttributeChangesSize}
 
 -- there are at most 256, each of at most 1,022 bytes
 pub size_bound : (low : ℕ) (xs : Attributes) → low ≤ 256 → AttributesInOrder low xs → attributes_size xs ≤ (256 - low) * 1026
@@ -27,7 +27,7 @@ absent_below low kind (a ∷ xs) h l = go (a.0 == kind) refl (let m = h.0 in abs
     go true e later = let k = eqb-true a.0 kind e in let m = h.0 in absurd (omega arith)
     go false e later = later
 
-pub takes_place : (low : ℕ) (xs : Attributes) → AttributesInOrder low xs → PutChangesSize xs
+pub takes_place : (low : ℕ) (xs : Attributes) → AttributesInOrder low xs → SettingAttributeChangesSize xs
 takes_place low [] h kind bytes = let e = sum_by-cons (λ (a : ℕ × List ℕ). 4 + length a.1) (kind, bytes) [] in omega arith
 takes_place low (a ∷ xs) h kind bytes = go (nat_lt kind a.0) (kind == a.0) (a.0 == kind) refl refl refl (takes_place (a.0 + 1) xs h.3 kind bytes)
   where

@@ -1,7 +1,7 @@
 -- Entries in the order of their names: the slots that they show, and the tree's names.
 use Rattle.std.proofs.Common.{ℕ, zero, suc, ◌≡◌, ◌<◌, ◌+◌, ◌∙◌, Bool, true, false, cond, List, [], ◌∷◌, length, map, refl, sym, ap, ap₂, subst, arith, get_or, set}
 use Rattle.std.specs.List.{swap}
-use Rattle.lfs_lookup.proofs.Common.{IsPermutation, length-map, recursion_from_All, Name, name_cmp, is_less, sorted_names, Slot, Each, AreShorterFirst, NamedStruct, item_view, items_view, named_struct}
+use Rattle.lfs_lookup.proofs.Common.{IsPermutation, length-map, recursion_from_All, Name, name_cmp, is_less, sorted_names, Slot, Each, AreSortedShorterFirst, NamedStruct, item_view, items_view, named_struct}
 use Rattle.std.specs.List.Sorted.{IsSortedBy}
 use Rattle.std.specs.Cmp.Lexicographic.{slice_cmp}
 use Rattle.std.specs.Ordering.{is_lt, nat_cmp}
@@ -80,7 +80,7 @@ less_is Greater = refl
 abbrev pub is_named_before : NameAndOwnedStruct → NameAndOwnedStruct → Bool
 is_named_before a b = is_lt (slice_cmp nat_cmp a.name.items b.name.items)
 
-pub seen_by_name : (old new : List NameAndOwnedStruct) → IsPermutation old new → IsSortedBy is_named_before new → AreShorterFirst (items_view old) (items_view new)
+pub seen_by_name : (old new : List NameAndOwnedStruct) → IsPermutation old new → IsSortedBy is_named_before new → AreSortedShorterFirst (items_view old) (items_view new)
 seen_by_name old new same_items rise = record {
   permutation = IsPermutation-map item_view old new same_items;
   sorted = λ k d l m.
@@ -142,7 +142,7 @@ never_fall (s ∷ t ∷ slots) h = (
       subst (λ i. precedes_shorter (get_or (map named_struct (s ∷ t ∷ slots)) i d) (get_or (map named_struct (t ∷ slots)) k d) ≡ false) next (h (suc k) d (omega arith) (omega arith))),
 )
 
-pub rows_by_name : (slots : List Slot) (shapes : List NamedStruct) → AreShorterFirst (map named_struct slots) shapes → (rows : List Slot) × (AreRows slots rows × (shapes ≡ map named_struct rows))
+pub rows_by_name : (slots : List Slot) (shapes : List NamedStruct) → AreSortedShorterFirst (map named_struct slots) shapes → (rows : List Slot) × (AreRows slots rows × (shapes ≡ map named_struct rows))
 rows_by_name slots shapes h =
     let m = moved slots shapes h.permutation in
     let names = IsPermutation-map (λ (s : Slot). s.name) slots m.now m.permutation in (

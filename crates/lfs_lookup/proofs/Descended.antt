@@ -1,10 +1,10 @@
 -- Down a path, a directory at a time.
 use Rattle.std.proofs.Common.{subst₂, ℕ, zero, suc, ◌≡◌, ◌<◌, ◌≤◌, ◌+◌, List, [], ◌∷◌, ◌++◌, length, map, take, drop, Option, Some, None, Result, Ok, Err, refl, sym, ap, ap₂, subst, ◌∙◌, arith, append_assoc, append-nil, slice_get, slice_index_or}
 use Rattle.std.specs.Prelude.{sum_by, IfOk}
-use Rattle.lfs_lookup.proofs.Common.{option_and_then, option_map, option_or, map-append, sum_by-append, sum_by-cons, Disk, directory_pair_count, ancestor_paths, read_count, joined_count, Name, directory_refusal, parents_refusal, slot_of, Slot, Struct, Inline, Ctz, Branch, pairs_gstate, Path, Tree, branch_address, struct_node, IsAccepted, LeadsTo, struct_list_bytes, all_entries, disk_tree, KeptThread, OnlyReadsThread, LeadsToPair, ParentReached, IsParentAt, HidesMovedSlot, IsUnhiddenResult, HidesOnlySlot, run_length_is}
+use Rattle.lfs_lookup.proofs.Common.{option_and_then, option_map, option_or, map-append, sum_by-append, sum_by-cons, Disk, directory_pair_count, ancestor_paths, read_count, joined_pair_count, Name, directory_refusal, parents_refusal, slot_of_path, Slot, Struct, Inline, Ctz, Branch, pairs_gstate, Path, Tree, struct_directory_address, struct_node, IsAccepted, IsDirectoryAtPath, disk_list_bytes, all_entries, disk_tree, KeptThread, OnlyReadsThread, LeadsToPair, IsPathParent, IsParentAt, HidesMovedSlot, IsVisibleLookupResult, IsOnlyMovedSlot, run_length_is}
 use Rattle.lfs_device.specs.declared.error.Error.{Error}
 use Rattle.lfs_model.specs.session.Operations.{Refusal}
-use Rattle.lfs_lookup.specs.LookupPaths.{IsVisibleEntry, IsNamedEntry, LeadsToResult}
+use Rattle.lfs_lookup.specs.LookupPaths.{IsVisibleNameLookup, IsNameLookupResult, IsResultOfPath}
 use Rattle.lfs_lookup.specs.declared.search.SlotPosition.{SlotPosition}
 use Rattle.lfs_lookup.specs.declared.paths.VisiblePathLookup.{VisiblePathLookup}
 use Rattle.lfs_lookup.specs.declared.paths.VisiblePathLookup.TheVariants as shown
@@ -67,15 +67,15 @@ fault_step t above n [] name = refl
 fault_step t above n (r ∷ rest) name = refl
 
 -- a directory refuses nothing
-pub directory_is : (t : KeptThread) (path : Path) (at : ℕ × ℕ) → LeadsTo t.pairs path at → directory_refusal (disk_tree t.disk t.pairs path) ≡ None
-directory_is t path at leads = go (slot_of t.pairs path) leads
+pub directory_is : (t : KeptThread) (path : Path) (at : ℕ × ℕ) → IsDirectoryAtPath t.pairs path at → directory_refusal (disk_tree t.disk t.pairs path) ≡ None
+directory_is t path at leads = go (slot_of_path t.pairs path) leads
   where
-    by_struct : (f : Slot) (s : Struct) → branch_address s ≡ Some at → directory_refusal (Some (struct_node (struct_list_bytes t.disk) (all_entries t.pairs) f.attributes s)) ≡ None
+    by_struct : (f : Slot) (s : Struct) → struct_directory_address s ≡ Some at → directory_refusal (Some (struct_node (disk_list_bytes t.disk) (all_entries t.pairs) f.attributes s)) ≡ None
     by_struct f (Inline bytes) e = absurd (cc)
     by_struct f (Ctz head size) e = absurd (cc)
     by_struct f (Branch to) e = refl
 
-    go : (o : Option Slot) → option_and_then (λ (f : Slot). branch_address f.struct) o ≡ Some at → directory_refusal (option_map (λ (f : Slot). struct_node (struct_list_bytes t.disk) (all_entries t.pairs) f.attributes f.struct) o) ≡ None
+    go : (o : Option Slot) → option_and_then (λ (f : Slot). struct_directory_address f.struct) o ≡ Some at → directory_refusal (option_map (λ (f : Slot). struct_node (disk_list_bytes t.disk) (all_entries t.pairs) f.attributes f.struct) o) ≡ None
     go None e = absurd (cc)
     go (Some f) e = by_struct f f.struct e
 
@@ -117,7 +117,7 @@ module _ (t now next : KeptThread) (path : Path) (i first : ℕ) (n : Name) (d :
       few = few_on;
     }
 
-pub has_descended : (t now : KeptThread) (path : Path) (i first : ℕ) → HasDescended t now path i first → length path ≤ i → ParentReached t path (parent.Directory first)
+pub has_descended : (t now : KeptThread) (path : Path) (i first : ℕ) → HasDescended t now path i first → length path ≤ i → IsPathParent t path (parent.Directory first)
 has_descended t now path i first d l = record {
   fault = λ name. d.still name ∙ ap (λ z. parents_refusal (disk_tree t.disk t.pairs) (take i path) (z ++ name ∷ [])) (drop_whole i path l);
   begins = subst (λ p. LeadsToPair t.pairs p first) (take_whole i path l) d.begins;
@@ -144,8 +144,8 @@ enters_same a b r path (parent.Directory first) e = subst (λ ps. LeadsToPair ps
 enters_same a b r path parent.File e = ap₂ (λ d ps. directory_refusal (disk_tree d ps path)) (sym r.disk) (sym r.pairs) ∙ e
 enters_same a b r path parent.Nothing e = ap₂ (λ d ps. directory_refusal (disk_tree d ps path)) (sym r.disk) (sym r.pairs) ∙ e
 
-pub few_same : (a b : KeptThread) → IsAccepted a.disk a.pairs → OnlyReadsThread a b → (path : Path) (first : ℕ) → LeadsToPair a.pairs path first → joined_count (drop first b.pairs) ≡ directory_pair_count a.pairs path
-few_same a b ok r path first on = ap (λ ps. joined_count (drop first ps)) r.pairs ∙ run_length_is a.disk a.pairs path on.at first ok on.leads on.begins
+pub few_same : (a b : KeptThread) → IsAccepted a.disk a.pairs → OnlyReadsThread a b → (path : Path) (first : ℕ) → LeadsToPair a.pairs path first → joined_pair_count (drop first b.pairs) ≡ directory_pair_count a.pairs path
+few_same a b ok r path first on = ap (λ ps. joined_pair_count (drop first ps)) r.pairs ∙ run_length_is a.disk a.pairs path on.at first ok on.leads on.begins
 
 -- ---- the last name of a path
 
@@ -156,7 +156,7 @@ pub sum_is : (f : Path → ℕ) (path above : Path) (n : Name) → path ≡ abov
 sum_is f path above n e = ap (λ p. sum_by f (ancestor_paths p)) e ∙ sum_on f above n
 
 module _ (t : KeptThread) (path above : Path) (n : Name) (is : path ≡ above ++ n ∷ []) where
-  pub leads_there : (found : PathLookup) → parents_refusal (disk_tree t.disk t.pairs) [] (above ++ n ∷ []) ≡ None → IsNamedEntry t.disk.order t.pairs above n found → LeadsToResult t path found
+  pub leads_there : (found : PathLookup) → parents_refusal (disk_tree t.disk t.pairs) [] (above ++ n ∷ []) ≡ None → IsNameLookupResult t.disk.order t.pairs above n found → IsResultOfPath t path found
   leads_there (found.Directory parent slot first) e there = record { parents = ap (parents_refusal (disk_tree t.disk t.pairs) []) is ∙ e; there = record { above = above; name = n; is = is; there = there } }
   leads_there (found.File parent slot contents) e there = record { parents = ap (parents_refusal (disk_tree t.disk t.pairs) []) is ∙ e; there = record { above = above; name = n; is = is; there = there } }
   leads_there (found.Nothing parent place) e there = record { parents = ap (parents_refusal (disk_tree t.disk t.pairs) []) is ∙ e; there = record { above = above; name = n; is = is; there = there } }
@@ -164,20 +164,20 @@ module _ (t : KeptThread) (path above : Path) (n : Name) (is : path ≡ above ++
   leads_there found.ParentIsFile e there = absurd there
   leads_there found.ParentIsMissing e there = absurd there
 
-  pub leads_past_file : ParentReached t above parent.File → LeadsToResult t path found.ParentIsFile
+  pub leads_past_file : IsPathParent t above parent.File → IsResultOfPath t path found.ParentIsFile
   leads_past_file d = record { parents = ap (parents_refusal (disk_tree t.disk t.pairs) []) is ∙ d.fault n; there = tt }
 
-  pub leads_past_nothing : ParentReached t above parent.Nothing → LeadsToResult t path found.ParentIsMissing
+  pub leads_past_nothing : IsPathParent t above parent.Nothing → IsResultOfPath t path found.ParentIsMissing
   leads_past_nothing d = record { parents = ap (parents_refusal (disk_tree t.disk t.pairs) []) is ∙ d.fault n; there = tt }
 
 pub looked_in : (t next : KeptThread) → OnlyReadsThread t next → (above : Path) (n : Name) (first : ℕ) (result : Result PathLookup Error) → LeadsToPair t.pairs above first
-    → IfOk result (λ found. (above : Path) → LeadsToPair next.pairs above first → IsNamedEntry next.disk.order next.pairs above n found) → (path : Path) → path ≡ above ++ n ∷ []
-    → parents_refusal (disk_tree t.disk t.pairs) [] (above ++ n ∷ []) ≡ None → IfOk result (LeadsToResult t path)
+    → IfOk result (λ found. (above : Path) → LeadsToPair next.pairs above first → IsNameLookupResult next.disk.order next.pairs above n found) → (path : Path) → path ≡ above ++ n ∷ []
+    → parents_refusal (disk_tree t.disk t.pairs) [] (above ++ n ∷ []) ≡ None → IfOk result (IsResultOfPath t path)
 looked_in t next r above n first (Err e) on answer path is fault = tt
 looked_in t next r above n first (Ok found) on answer path is fault =
-    leads_there t path above n is found fault (subst₂ (λ (d : Disk) ps. IsNamedEntry d.order ps above n found) r.disk r.pairs (answer above (begins_same t next r above first on)))
+    leads_there t path above n is found fault (subst₂ (λ (d : Disk) ps. IsNameLookupResult d.order ps above n found) r.disk r.pairs (answer above (begins_same t next r above first on)))
 
-shows_there : (t : KeptThread) (moved : Option SlotPosition) (path : Path) (s : VisiblePathLookup) → parents_refusal (disk_tree t.disk t.pairs) [] path ≡ None → IsVisibleEntry t.pairs moved path s → IsUnhiddenResult t moved path s
+shows_there : (t : KeptThread) (moved : Option SlotPosition) (path : Path) (s : VisiblePathLookup) → parents_refusal (disk_tree t.disk t.pairs) [] path ≡ None → IsVisibleNameLookup t.pairs moved path s → IsVisibleLookupResult t moved path s
 shows_there t moved path (shown.Directory spot first) e there = (e, there)
 shows_there t moved path (shown.File spot contents) e there = (e, there)
 shows_there t moved path shown.Nothing e there = (e, there)
@@ -186,14 +186,14 @@ shows_there t moved path shown.ParentIsFile e there = absurd there
 shows_there t moved path shown.ParentIsMissing e there = absurd there
 
 pub showed_in : (t next : KeptThread) (moved : Option SlotPosition) → OnlyReadsThread t next → (above : Path) (n : Name) (first : ℕ) (result : Result VisiblePathLookup Error) → LeadsToPair t.pairs above first
-    → IfOk result (λ s. (above : Path) → LeadsToPair next.pairs above first → IsVisibleEntry next.pairs moved (above ++ n ∷ []) s) → (path : Path) → path ≡ above ++ n ∷ []
-    → parents_refusal (disk_tree t.disk t.pairs) [] (above ++ n ∷ []) ≡ None → IfOk result (IsUnhiddenResult t moved path)
+    → IfOk result (λ s. (above : Path) → LeadsToPair next.pairs above first → IsVisibleNameLookup next.pairs moved (above ++ n ∷ []) s) → (path : Path) → path ≡ above ++ n ∷ []
+    → parents_refusal (disk_tree t.disk t.pairs) [] (above ++ n ∷ []) ≡ None → IfOk result (IsVisibleLookupResult t moved path)
 showed_in t next moved r above n first (Err e) on answer path is fault = tt
 showed_in t next moved r above n first (Ok s) on answer path is fault =
-    subst (λ p. IsUnhiddenResult t moved p s) (sym is) (shows_there t moved (above ++ n ∷ []) s fault (subst (λ ps. IsVisibleEntry ps moved (above ++ n ∷ []) s) r.pairs (answer above (begins_same t next r above first on))))
+    subst (λ p. IsVisibleLookupResult t moved p s) (sym is) (shows_there t moved (above ++ n ∷ []) s fault (subst (λ ps. IsVisibleNameLookup ps moved (above ++ n ∷ []) s) r.pairs (answer above (begins_same t next r above first on))))
 
 pub hiding_same : (a b : KeptThread) (moved : Option SlotPosition) → OnlyReadsThread a b → HidesMovedSlot a moved → HidesMovedSlot b moved
 hiding_same a b moved r h = record {
   accepted = subst (λ d. IsAccepted d b.pairs) (sym r.disk) (subst (IsAccepted a.disk) (sym r.pairs) h.accepted);
-  hides = subst (λ ps. HidesOnlySlot (pairs_gstate ps) moved 0 ps) (sym r.pairs) h.hides;
+  hides = subst (λ ps. IsOnlyMovedSlot (pairs_gstate ps) moved 0 ps) (sym r.pairs) h.hides;
 }

@@ -2,7 +2,7 @@
 use Rattle.std.proofs.Common.{ℕ, zero, suc, ◌≡◌, ◌<◌, ◌≤◌, ◌+◌, ◌∙◌, Bool, true, false, cond, List, [], ◌∷◌, ◌++◌, length, map, flat_map, take, drop, get_or, slice_get, Option, Some, None, refl, sym, ap, ap₂, subst, arith, append_assoc, nat_eq}
 use Rattle.std.specs.Prelude.{IfNone, IfSome, IsSome}
 use Rattle.std.specs.List.{IsDistinct}
-use Rattle.lfs_lookup.proofs.Common.{map-append, drop-append_seam, same_Some, slice_get_within, directory_pairs, Disk, Gstate, same_pair, Pair, pairs_blocks, pair_directories, pairs_from_root, directory_slots, pairs_gstate, is_hard_tail, count_before_root, unmoved_entries, Path, IsAccepted, LeadsTo, all_entries, IsPairAt, joined_count, Each, pair_back, pair_on, Apart, IsRun, distinct_apart, distinct_right, entries_own, listing, run_directories, same_number, HasDirectory, chain_of_thread, led_directory, NamedStruct, named_struct, joined_pairs, joined_count_from, joined_pairs_from, pair_entries_from}
+use Rattle.lfs_lookup.proofs.Common.{map-append, drop-append_seam, same_Some, slice_get_within, directory_pairs, Disk, Gstate, same_pair, Pair, pairs_blocks, pair_directories, pairs_from_root, directory_slots, pairs_gstate, is_hard_tail, count_before_root, unmoved_entries, Path, IsAccepted, IsDirectoryAtPath, all_entries, IsPairAt, joined_pair_count, Each, pair_back, pair_on, Apart, IsRun, distinct_apart, distinct_right, entries_own, listing, run_directories, same_number, HasDirectory, chain_of_thread, led_directory, NamedStruct, named_struct, joined_pairs, hard_tail_count_from, hard_tail_chain_from, directory_entries_from}
 use Rattle.lfs_model.proofs.Searches.{pairs_at}
 
 -- ---- along the hard tails
@@ -26,61 +26,61 @@ run_some_on ps index d l = let e = ap length (run_on ps index d l) in omega (ari
 
 -- the one of that number, and those that follow; qs are the cached pairs then
 pub run_next : (ps qs : List Pair) (index : ℕ) (d : Pair) (from next : Option ℕ) → qs ≡ ps → from ≡ Some index → index < length ps → next ≡ cond (is_hard_tail (get_or qs index d).content.tail) (Some (index + 1)) None →
-    joined_pairs_from ps from ≡ get_or qs index d ∷ joined_pairs_from ps next
+    hard_tail_chain_from ps from ≡ get_or qs index d ∷ hard_tail_chain_from ps next
 run_next ps qs index d from next same at l e =
-    ap (joined_pairs_from ps) at ∙ run_on ps index d l ∙ ap (λ p. p ∷ cond (is_hard_tail p.content.tail) (joined_pairs (drop (index + 1) ps)) []) (sym (ap (λ rs. get_or rs index d) same))
-    ∙ ap (λ run. get_or qs index d ∷ run) (go (is_hard_tail (get_or qs index d).content.tail) ∙ ap (joined_pairs_from ps) (sym e))
+    ap (hard_tail_chain_from ps) at ∙ run_on ps index d l ∙ ap (λ p. p ∷ cond (is_hard_tail p.content.tail) (joined_pairs (drop (index + 1) ps)) []) (sym (ap (λ rs. get_or rs index d) same))
+    ∙ ap (λ run. get_or qs index d ∷ run) (go (is_hard_tail (get_or qs index d).content.tail) ∙ ap (hard_tail_chain_from ps) (sym e))
   where
-    go : (b : Bool) → cond b (joined_pairs (drop (index + 1) ps)) [] ≡ joined_pairs_from ps (cond b (Some (index + 1)) None)
+    go : (b : Bool) → cond b (joined_pairs (drop (index + 1) ps)) [] ≡ hard_tail_chain_from ps (cond b (Some (index + 1)) None)
     go true = refl
     go false = refl
 
 -- what the pairs from a number on show is what the pair of that number shows, and what those show that follow
 pub shapes_on : (ps : List Pair) (index : ℕ) (d : Pair) (next : Option ℕ) → index < length ps → next ≡ cond (is_hard_tail (get_or ps index d).content.tail) (Some (index + 1)) None →
-    pair_entries_from ps (Some index) ≡ map named_struct (unmoved_entries (pairs_gstate ps) (get_or ps index d)) ++ pair_entries_from ps next
+    directory_entries_from ps (Some index) ≡ map named_struct (unmoved_entries (pairs_gstate ps) (get_or ps index d)) ++ directory_entries_from ps next
 shapes_on ps index d next l e =
     ap (λ run. map named_struct (flat_map (unmoved_entries (pairs_gstate ps)) run)) (run_on ps index d l)
     ∙ map-append named_struct (unmoved_entries (pairs_gstate ps) (get_or ps index d)) (flat_map (unmoved_entries (pairs_gstate ps)) (cond (is_hard_tail (get_or ps index d).content.tail) (joined_pairs (drop (index + 1) ps)) []))
     ∙ ap (λ run. map named_struct (unmoved_entries (pairs_gstate ps) (get_or ps index d)) ++ map named_struct (flat_map (unmoved_entries (pairs_gstate ps)) run))
-    (go (is_hard_tail (get_or ps index d).content.tail) ∙ ap (joined_pairs_from ps) (sym e))
+    (go (is_hard_tail (get_or ps index d).content.tail) ∙ ap (hard_tail_chain_from ps) (sym e))
   where
-    go : (b : Bool) → cond b (joined_pairs (drop (index + 1) ps)) [] ≡ joined_pairs_from ps (cond b (Some (index + 1)) None)
+    go : (b : Bool) → cond b (joined_pairs (drop (index + 1) ps)) [] ≡ hard_tail_chain_from ps (cond b (Some (index + 1)) None)
     go true = refl
     go false = refl
 
 -- one pair more was listed; qs are the cached pairs then
 pub list_on : (ps qs : List Pair) (first index : ℕ) (d : Pair) (from next : Option ℕ) (olds more news : List NamedStruct) → qs ≡ ps → from ≡ Some index → index < length ps →
     more ≡ map named_struct (unmoved_entries (pairs_gstate qs) (get_or qs index d)) → next ≡ cond (is_hard_tail (get_or qs index d).content.tail) (Some (index + 1)) None → news ≡ olds ++ more →
-    olds ++ pair_entries_from ps from ≡ pair_entries_from ps (Some first) → news ++ pair_entries_from ps next ≡ pair_entries_from ps (Some first)
+    olds ++ directory_entries_from ps from ≡ directory_entries_from ps (Some first) → news ++ directory_entries_from ps next ≡ directory_entries_from ps (Some first)
 list_on ps qs first index d from next olds more news same at l m n o before =
     let shown = m ∙ ap (λ rs. map named_struct (unmoved_entries (pairs_gstate rs) (get_or rs index d))) same in
     let goes = n ∙ ap (λ rs. cond (is_hard_tail (get_or rs index d).content.tail) (Some (index + 1)) None) same in
-    ap (λ z. z ++ pair_entries_from ps next) (o ∙ ap (λ z. olds ++ z) shown)
-    ∙ append_assoc olds (map named_struct (unmoved_entries (pairs_gstate ps) (get_or ps index d))) (pair_entries_from ps next)
-    ∙ ap (λ z. olds ++ z) (sym (shapes_on ps index d next l goes) ∙ ap (pair_entries_from ps) (sym at))
+    ap (λ z. z ++ directory_entries_from ps next) (o ∙ ap (λ z. olds ++ z) shown)
+    ∙ append_assoc olds (map named_struct (unmoved_entries (pairs_gstate ps) (get_or ps index d))) (directory_entries_from ps next)
+    ∙ ap (λ z. olds ++ z) (sym (shapes_on ps index d next l goes) ∙ ap (directory_entries_from ps) (sym at))
     ∙ before
 
 -- ---- how many they are
 
-run_step : (ps : List Pair) (index : ℕ) (d : Pair) → index < length ps → joined_count (drop index ps) ≡ cond (is_hard_tail (get_or ps index d).content.tail) (1 + joined_count (drop (index + 1) ps)) 1
+run_step : (ps : List Pair) (index : ℕ) (d : Pair) → index < length ps → joined_pair_count (drop index ps) ≡ cond (is_hard_tail (get_or ps index d).content.tail) (1 + joined_pair_count (drop (index + 1) ps)) 1
 run_step [] index d l = absurd (omega arith)
 run_step (p ∷ ps) zero d l = refl
 run_step (p ∷ ps) (suc index) d l =
     let e : suc index + 1 ≡ suc (index + 1) = omega arith in
-    run_step ps index d (omega arith) ∙ ap (λ (n : ℕ). cond (is_hard_tail (get_or ps index d).content.tail) (1 + joined_count (drop n (p ∷ ps))) 1) (sym e)
+    run_step ps index d (omega arith) ∙ ap (λ (n : ℕ). cond (is_hard_tail (get_or ps index d).content.tail) (1 + joined_pair_count (drop n (p ∷ ps))) 1) (sym e)
 
 -- one is read, the others are left
 pub length_on : (ps qs : List Pair) (index : ℕ) (d : Pair) (from next : Option ℕ) → qs ≡ ps → from ≡ Some index → index < length ps →
-    next ≡ cond (is_hard_tail (get_or qs index d).content.tail) (Some (index + 1)) None → joined_count_from ps from ≡ 1 + joined_count_from ps next
+    next ≡ cond (is_hard_tail (get_or qs index d).content.tail) (Some (index + 1)) None → hard_tail_count_from ps from ≡ 1 + hard_tail_count_from ps next
 length_on ps qs index d from next same at l n =
-    ap (joined_count_from ps) at ∙ run_step ps index d l ∙ go (is_hard_tail (get_or ps index d).content.tail)
-    ∙ ap (λ o. 1 + joined_count_from ps o) (sym (n ∙ ap (λ rs. cond (is_hard_tail (get_or rs index d).content.tail) (Some (index + 1)) None) same))
+    ap (hard_tail_count_from ps) at ∙ run_step ps index d l ∙ go (is_hard_tail (get_or ps index d).content.tail)
+    ∙ ap (λ o. 1 + hard_tail_count_from ps o) (sym (n ∙ ap (λ rs. cond (is_hard_tail (get_or rs index d).content.tail) (Some (index + 1)) None) same))
   where
-    go : (b : Bool) → cond b (1 + joined_count (drop (index + 1) ps)) 1 ≡ 1 + joined_count_from ps (cond b (Some (index + 1)) None)
+    go : (b : Bool) → cond b (1 + joined_pair_count (drop (index + 1) ps)) 1 ≡ 1 + hard_tail_count_from ps (cond b (Some (index + 1)) None)
     go true = refl
     go false = refl
 
-pub length_some : (ps : List Pair) (index : ℕ) (d : Pair) (from : Option ℕ) → from ≡ Some index → index < length ps → 1 ≤ joined_count_from ps from
+pub length_some : (ps : List Pair) (index : ℕ) (d : Pair) (from : Option ℕ) → from ≡ Some index → index < length ps → 1 ≤ hard_tail_count_from ps from
 length_some ps index d from at l =
     let next = cond (is_hard_tail (get_or ps index d).content.tail) (Some (index + 1)) None in
     let e = length_on ps ps index d from next refl at l refl in
@@ -111,7 +111,7 @@ pub record IsCutAt (ps : List Pair) (a : ℕ × ℕ) : Type 0 where
   pub first_is : ps ≡ chain ++ pairs_from_root ps
   pub is : ps ≡ (chain ++ directory.before) ++ (directory.first ∷ directory.run ++ directory.after)
 
-pub cut_at : (disk : Disk) (ps : List Pair) (P : Path) (a : ℕ × ℕ) → IsAccepted disk ps → LeadsTo ps P a → IsCutAt ps a
+pub cut_at : (disk : Disk) (ps : List Pair) (P : Path) (a : ℕ × ℕ) → IsAccepted disk ps → IsDirectoryAtPath ps P a → IsCutAt ps a
 cut_at disk ps P a ok leads =
     let d = led_directory disk ps P a ok leads in
     let c = chain_of_thread ps in
@@ -123,7 +123,7 @@ cut_at disk ps P a ok leads =
     }
 
 -- the directory begins with a pair of the thread
-pub begins_with : (disk : Disk) (ps : List Pair) (P : Path) (a : ℕ × ℕ) → IsAccepted disk ps → LeadsTo ps P a → (n : ℕ) × IsPairAt ps a n
+pub begins_with : (disk : Disk) (ps : List Pair) (P : Path) (a : ℕ × ℕ) → IsAccepted disk ps → IsDirectoryAtPath ps P a → (n : ℕ) × IsPairAt ps a n
 begins_with disk ps P a ok leads =
     let c = cut_at disk ps P a ok leads in (
       length (c.chain ++ c.directory.before),
@@ -135,7 +135,7 @@ begins_with disk ps P a ok leads =
     )
 
 -- the pairs from a number on are those of the directory that begins there
-module _ (disk : Disk) (ps : List Pair) (P : Path) (a : ℕ × ℕ) (n : ℕ) (ok : IsAccepted disk ps) (leads : LeadsTo ps P a) (b : IsPairAt ps a n) where
+module _ (disk : Disk) (ps : List Pair) (P : Path) (a : ℕ × ℕ) (n : ℕ) (ok : IsAccepted disk ps) (leads : IsDirectoryAtPath ps P a) (b : IsPairAt ps a n) where
   abbrev cut_here : IsCutAt ps a
   cut_here = cut_at disk ps P a ok leads
 
@@ -150,7 +150,7 @@ module _ (disk : Disk) (ps : List Pair) (P : Path) (a : ℕ × ℕ) (n : ℕ) (o
   pub own_pairs : joined_pairs (drop n ps) ≡ directory_pairs ps a
   own_pairs = run_here ∙ sym (pairs_at disk ps P a ok leads cut_here.directory)
 
-pub own_run : (disk : Disk) (ps : List Pair) (P : Path) (a : ℕ × ℕ) (n : ℕ) → IsAccepted disk ps → LeadsTo ps P a → IsPairAt ps a n →
+pub own_run : (disk : Disk) (ps : List Pair) (P : Path) (a : ℕ × ℕ) (n : ℕ) → IsAccepted disk ps → IsDirectoryAtPath ps P a → IsPairAt ps a n →
     flat_map (unmoved_entries (pairs_gstate ps)) (joined_pairs (drop n ps)) ≡ all_entries ps a
 own_run disk ps P a n ok leads b =
     ap (flat_map (unmoved_entries g)) (run_here disk ps P a n ok leads b)
@@ -171,8 +171,8 @@ own_run disk ps P a n ok leads b =
     apart : Apart (pair_directories g d.before ++ listing d.first.at (flat_map (unmoved_entries g) (d.first ∷ d.run)) ∷ pair_directories g d.after)
     apart = subst Apart directories_are (distinct_apart g (pairs_from_root ps) (distinct_right c.chain (pairs_from_root ps) (subst (λ z. IsDistinct nat_eq (pairs_blocks z)) c.first_is ok.thread.distinct)))
 
-pub own_shapes : (disk : Disk) (ps : List Pair) (P : Path) (a : ℕ × ℕ) (n : ℕ) → IsAccepted disk ps → LeadsTo ps P a → IsPairAt ps a n →
-    pair_entries_from ps (Some n) ≡ map named_struct (all_entries ps a)
+pub own_shapes : (disk : Disk) (ps : List Pair) (P : Path) (a : ℕ × ℕ) (n : ℕ) → IsAccepted disk ps → IsDirectoryAtPath ps P a → IsPairAt ps a n →
+    directory_entries_from ps (Some n) ≡ map named_struct (all_entries ps a)
 own_shapes disk ps P a n ok leads b = ap (map named_struct) (own_run disk ps P a n ok leads b)
 
 -- ---- by the headers

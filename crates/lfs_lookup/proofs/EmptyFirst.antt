@@ -2,17 +2,17 @@
 use Rattle.std.proofs.Common.{ℕ, ◌≡◌, ◌≢◌, ◌⊎◌, inl, inr, ◌+◌, ◌<◌, List, [], ◌∷◌, ◌++◌, length, take, drop, refl, sym, ap, ap₂, subst, ◌∙◌, arith, None, Result, IfOk}
 use Rattle.std.proofs.lemmas.List.{drop_more}
 use Rattle.std.proofs.lemmas.Result.{IfOk-weaker}
-use Rattle.lfs_lookup.proofs.Common.{length-take, take-append-drop, drop-append_seam, IsDirectoryPair, Name, Slot, Pair, all_slots, entry_slots, joined_count, joined_pairs, thread_pair, empty_anchor, ArePairsCached, FindsInDirectory, HaveNoSuperblock, EachHasSlot, KeptThread, ThreadView}
+use Rattle.lfs_lookup.proofs.Common.{length-take, take-append-drop, drop-append_seam, IsDirectoryPair, Name, Slot, Pair, all_slots, entry_slots, joined_pair_count, joined_pairs, thread_pair, empty_anchor, ArePairsCached, IsNamePositionInDirectory, HaveNoSuperblock, EachPairHasSlot, KeptThread, ThreadView}
 use Rattle.lfs_device.specs.declared.error.Error.{Error}
 use Rattle.lfs_model.specs.declared.order.NameOrder.{NameOrder}
-use Rattle.lfs_lookup.specs.NameSearch.{PassesEmptyPair, StartsSearch}
+use Rattle.lfs_lookup.specs.NameSearch.{SearchSkipsEmptyPair, SearchStartsAt}
 use Rattle.lfs_lookup.specs.Reads.{ReadsDirectoryOnce}
 use Rattle.lfs_lookup.specs.declared.search.NamePositionInDirectory.{NamePositionInDirectory}
 use Rattle.lfs_lookup.specs.declared.search.NamePositionInDirectory.TheVariants.{Found, Place}
 use Rattle.lfs_lookup.proofs.Directories.{run_hard_on, run_some_on}
 use Rattle.lfs_lookup.proofs.Walked.{run_on}
 
-module _ (t : KeptThread) (first next : ℕ) (p : PassesEmptyPair t first next) where
+module _ (t : KeptThread) (first next : ℕ) (p : SearchSkipsEmptyPair t first next) where
   abbrev q : Pair
   q = thread_pair t first
 
@@ -40,7 +40,7 @@ module _ (t : KeptThread) (first next : ℕ) (p : PassesEmptyPair t first next) 
         joined = (p.hard, d.joined);
       }
 
-  finds : (order : NameOrder) (name : Name) (at : NamePositionInDirectory) → FindsInDirectory order t.pairs next name at → FindsInDirectory order t.pairs first name at
+  finds : (order : NameOrder) (name : Name) (at : NamePositionInDirectory) → IsNamePositionInDirectory order t.pairs next name at → IsNamePositionInDirectory order t.pairs first name at
   unfolding with_first
   finds order name (Found spot entry) f = (record { pair = f.0.pair; rest = f.0.rest; place = with_first spot.pair f.0.pair f.0.rest f.0.place; stands = f.0.stands }, f.1)
   finds order name (Place spot) b = record {
@@ -64,15 +64,15 @@ module _ (t : KeptThread) (first next : ℕ) (p : PassesEmptyPair t first next) 
       none (inr n) = inr n
 
 -- how few pairs are read
-reads : {X : Type 0} (old new : ThreadView) (result : Result X Error) (first next : ℕ) → PassesEmptyPair old.kept first next → ReadsDirectoryOnce None next old new result → ReadsDirectoryOnce None first old new result
+reads : {X : Type 0} (old new : ThreadView) (result : Result X Error) (first next : ℕ) → SearchSkipsEmptyPair old.kept first next → ReadsDirectoryOnce None next old new result → ReadsDirectoryOnce None first old new result
 reads old new result first next p r = record {
   few = (
       let few = r.few in
       let more = run_on old.kept.pairs first empty_anchor (below old.kept first next p) p.hard in
-      let same = ap (λ (n : ℕ). joined_count (drop n old.kept.pairs)) p.follows in
+      let same = ap (λ (n : ℕ). joined_pair_count (drop n old.kept.pairs)) p.follows in
       omega (arith, few, more, same)
       );
-  halves = λ none slots. absurd (let s = (subst EachHasSlot run slots).0 in let n = p.none in omega (arith, s, n));
+  halves = λ none slots. absurd (let s = (subst EachPairHasSlot run slots).0 in let n = p.none in omega (arith, s, n));
   loads = record {
     none = λ h. r.loads.none (subst (ArePairsCached old) run h).1;
     stay = λ h. r.loads.stay (subst (ArePairsCached old) run h).1;
@@ -85,14 +85,14 @@ reads old new result first next p r = record {
 
 -- ---- from either
 
-pub entries_from : (t : KeptThread) (first start : ℕ) → StartsSearch t first start → HaveNoSuperblock (drop (first + 1) t.pairs) → HaveNoSuperblock (drop (start + 1) t.pairs)
+pub entries_from : (t : KeptThread) (first start : ℕ) → SearchStartsAt t first start → HaveNoSuperblock (drop (first + 1) t.pairs) → HaveNoSuperblock (drop (start + 1) t.pairs)
 entries_from t first start (inl e) h = subst (λ (n : ℕ). HaveNoSuperblock (drop (n + 1) t.pairs)) (sym e) h
 entries_from t first start (inr p) h = (subst HaveNoSuperblock (drop_more t.pairs start empty_anchor p.below) (subst (λ (n : ℕ). HaveNoSuperblock (drop n t.pairs)) (sym p.follows) h)).1
 
-pub finds_from : (t : KeptThread) (first start : ℕ) (name : Name) (r : Result NamePositionInDirectory Error) → StartsSearch t first start → IfOk r (FindsInDirectory t.disk.order t.pairs start name) → IfOk r (FindsInDirectory t.disk.order t.pairs first name)
-finds_from t first start name r (inl e) h = subst (λ (n : ℕ). IfOk r (FindsInDirectory t.disk.order t.pairs n name)) e h
-finds_from t first start name r (inr p) h = IfOk-weaker r (FindsInDirectory t.disk.order t.pairs start name) (FindsInDirectory t.disk.order t.pairs first name) (finds t first start p t.disk.order name) h
+pub finds_from : (t : KeptThread) (first start : ℕ) (name : Name) (r : Result NamePositionInDirectory Error) → SearchStartsAt t first start → IfOk r (IsNamePositionInDirectory t.disk.order t.pairs start name) → IfOk r (IsNamePositionInDirectory t.disk.order t.pairs first name)
+finds_from t first start name r (inl e) h = subst (λ (n : ℕ). IfOk r (IsNamePositionInDirectory t.disk.order t.pairs n name)) e h
+finds_from t first start name r (inr p) h = IfOk-weaker r (IsNamePositionInDirectory t.disk.order t.pairs start name) (IsNamePositionInDirectory t.disk.order t.pairs first name) (finds t first start p t.disk.order name) h
 
-pub reads_from : {X : Type 0} (old new : ThreadView) (result : Result X Error) (first start : ℕ) → StartsSearch old.kept first start → ReadsDirectoryOnce None start old new result → ReadsDirectoryOnce None first old new result
+pub reads_from : {X : Type 0} (old new : ThreadView) (result : Result X Error) (first start : ℕ) → SearchStartsAt old.kept first start → ReadsDirectoryOnce None start old new result → ReadsDirectoryOnce None first old new result
 reads_from old new result first start (inl e) r = subst (λ (n : ℕ). ReadsDirectoryOnce None n old new result) e r
 reads_from old new result first start (inr p) r = reads old new result first start p r

@@ -1,7 +1,7 @@
 -- From a directory on a path to what one of its names leads to.
 use Rattle.std.proofs.Common.{refl, ℕ, ◌≡◌, ◌+◌, false, List, [], ◌∷◌, ◌++◌, drop, Option, Some, None, sym, ap, subst, ◌∙◌, arith, rules}
 use Rattle.std.specs.Prelude.{IfNone, IsSome}
-use Rattle.lfs_lookup.proofs.Common.{AllByRecursion, option_and_then, option_map, BelongsAt, HaveNoSuperblock, IsPlaceOf, Name, NoEnt, NotDir, directory_refusal, slot_of, Slot, Branch, same_pair, Pair, pairs_from_root, Path, branch_address, struct_node, IsAccepted, LeadsTo, struct_list_bytes, all_entries, disk_tree, each_right, chain_of_thread, led_directory, begins_directory, plain_behind, KeptThread, IsStorage, LeadsToPair, HidesMovedSlot, HidesOnlySlot, IsAbsent, IsNameAt}
+use Rattle.lfs_lookup.proofs.Common.{AllByRecursion, option_and_then, option_map, IsInsertionPosition, HaveNoSuperblock, IsPositionOfName, Name, NoEnt, NotDir, directory_refusal, slot_of_path, Slot, Branch, same_pair, Pair, pairs_from_root, Path, struct_directory_address, struct_node, IsAccepted, IsDirectoryAtPath, disk_list_bytes, all_entries, disk_tree, each_right, chain_of_thread, led_directory, begins_directory, plain_behind, KeptThread, IsStorageOfStruct, LeadsToPair, HidesMovedSlot, IsOnlyMovedSlot, IsNameAbsentFrom, IsNameAtVisibleSlot}
 use Rattle.lfs_model.specs.format.Slots.{zero_gstate}
 use Rattle.lfs_model.proofs.Committed.{no_move_from}
 use Rattle.lfs_model.proofs.Indexes.{nothing_there}
@@ -21,21 +21,21 @@ module _ (t : KeptThread) (ok : IsAcceptedRecovered t) (path : Path) (first : �
 
   -- ---- a name that is found
 
-  module _ (name : Name) (pair id : ℕ) (s : IsPlaceOf t.pairs first name pair id) where
-    pub slot_is : slot_of t.pairs (path ++ name ∷ []) ≡ Some s.stands.slot
+  module _ (name : Name) (pair id : ℕ) (s : IsPositionOfName t.pairs first name pair id) where
+    pub slot_is : slot_of_path t.pairs (path ++ name ∷ []) ≡ Some s.stands.slot
     slot_is = slot_of_stands t.disk t.pairs path on.at ok.accepted on.leads first pair id name (no_move_from t.pairs ok.settled) s on.begins
 
-    pub leads_to : (to : ℕ × ℕ) → s.stands.slot.struct ≡ Branch to → LeadsTo t.pairs (path ++ name ∷ []) to
-    leads_to to e = ap (option_and_then (λ (f : Slot). branch_address f.struct)) slot_is ∙ ap branch_address e
+    pub leads_to : (to : ℕ × ℕ) → s.stands.slot.struct ≡ Branch to → IsDirectoryAtPath t.pairs (path ++ name ∷ []) to
+    leads_to to e = ap (option_and_then (λ (f : Slot). struct_directory_address f.struct)) slot_is ∙ ap struct_directory_address e
 
   -- ---- a name that belongs there
 
-  pub absent_is : (name : Name) (pair id : ℕ) → BelongsAt t.disk.order t.pairs first name pair id → slot_of t.pairs (path ++ name ∷ []) ≡ None
+  pub absent_is : (name : Name) (pair id : ℕ) → IsInsertionPosition t.disk.order t.pairs first name pair id → slot_of_path t.pairs (path ++ name ∷ []) ≡ None
   absent_is name pair id b = (nothing_there t.disk t.pairs path on.at _ name on.leads (place_of_belongs t.disk t.pairs path on.at ok.accepted on.leads first pair id name (no_move_from t.pairs ok.settled) b on.begins)).0
 
 -- ---- a directory that a path leads to is at its address
 
-pub is_somewhere : (t : KeptThread) → IsAccepted t.disk t.pairs → (path : Path) (at : ℕ × ℕ) → LeadsTo t.pairs path at → AllByRecursion (λ p. same_pair p.at at ≡ false) t.pairs → ⊥
+pub is_somewhere : (t : KeptThread) → IsAccepted t.disk t.pairs → (path : Path) (at : ℕ × ℕ) → IsDirectoryAtPath t.pairs path at → AllByRecursion (λ p. same_pair p.at at ≡ false) t.pairs → ⊥
 is_somewhere t ok path at leads none =
     let d = led_directory t.disk t.pairs path at ok leads in
     let chain = (chain_of_thread t.pairs).0 in
@@ -49,34 +49,34 @@ some_there (Some x) P h not_so = search rules
 
 -- ---- by the slot at a path
 
-module _ (t : KeptThread) (path : Path) (slot : Slot) (is : slot_of t.pairs path ≡ Some slot) where
-  pub leads_by : (to : ℕ × ℕ) → slot.struct ≡ Branch to → LeadsTo t.pairs path to
-  leads_by to e = ap (option_and_then (λ (f : Slot). branch_address f.struct)) is ∙ ap branch_address e
+module _ (t : KeptThread) (path : Path) (slot : Slot) (is : slot_of_path t.pairs path ≡ Some slot) where
+  pub leads_by : (to : ℕ × ℕ) → slot.struct ≡ Branch to → IsDirectoryAtPath t.pairs path to
+  leads_by to e = ap (option_and_then (λ (f : Slot). struct_directory_address f.struct)) is ∙ ap struct_directory_address e
 
-  node_by : disk_tree t.disk t.pairs path ≡ Some (struct_node (struct_list_bytes t.disk) (all_entries t.pairs) slot.attributes slot.struct)
-  node_by = ap (option_map (λ (f : Slot). struct_node (struct_list_bytes t.disk) (all_entries t.pairs) f.attributes f.struct)) is
+  node_by : disk_tree t.disk t.pairs path ≡ Some (struct_node (disk_list_bytes t.disk) (all_entries t.pairs) slot.attributes slot.struct)
+  node_by = ap (option_map (λ (f : Slot). struct_node (disk_list_bytes t.disk) (all_entries t.pairs) f.attributes f.struct)) is
 
-  pub file_by : (contents : FileStorage) → IsStorage contents slot.struct → directory_refusal (disk_tree t.disk t.pairs path) ≡ Some NotDir
-  file_by (contents.Inline len) shows = ap directory_refusal (node_by ∙ ap (λ z. Some (struct_node (struct_list_bytes t.disk) (all_entries t.pairs) slot.attributes z)) shows.1.0)
-  file_by (contents.List head size) shows = ap directory_refusal (node_by ∙ ap (λ z. Some (struct_node (struct_list_bytes t.disk) (all_entries t.pairs) slot.attributes z)) shows)
+  pub file_by : (contents : FileStorage) → IsStorageOfStruct contents slot.struct → directory_refusal (disk_tree t.disk t.pairs path) ≡ Some NotDir
+  file_by (contents.Inline len) shows = ap directory_refusal (node_by ∙ ap (λ z. Some (struct_node (disk_list_bytes t.disk) (all_entries t.pairs) slot.attributes z)) shows.1.0)
+  file_by (contents.List head size) shows = ap directory_refusal (node_by ∙ ap (λ z. Some (struct_node (disk_list_bytes t.disk) (all_entries t.pairs) slot.attributes z)) shows)
 
-pub nothing_by : (t : KeptThread) (path : Path) → slot_of t.pairs path ≡ None → directory_refusal (disk_tree t.disk t.pairs path) ≡ Some NoEnt
-nothing_by t path is = ap directory_refusal (ap (option_map (λ (f : Slot). struct_node (struct_list_bytes t.disk) (all_entries t.pairs) f.attributes f.struct)) is)
+pub nothing_by : (t : KeptThread) (path : Path) → slot_of_path t.pairs path ≡ None → directory_refusal (disk_tree t.disk t.pairs path) ≡ Some NoEnt
+nothing_by t path is = ap directory_refusal (ap (option_map (λ (f : Slot). struct_node (disk_list_bytes t.disk) (all_entries t.pairs) f.attributes f.struct)) is)
 
 -- ---- if a slot counts as deleted
 
 module _ (t : KeptThread) (moved : Option SlotPosition) (h : HidesMovedSlot t moved) (path : Path) (first : ℕ) (on : LeadsToPair t.pairs path first) (name : Name) where
-  pub shown_slot : (spot : SlotPosition) (entry : FileOrDirectory) (s : IsNameAt t.pairs moved first name spot entry) → slot_of t.pairs (path ++ name ∷ []) ≡ Some s.stands.stands.slot
+  pub shown_slot : (spot : SlotPosition) (entry : FileOrDirectory) (s : IsNameAtVisibleSlot t.pairs moved first name spot entry) → slot_of_path t.pairs (path ++ name ∷ []) ≡ Some s.stands.stands.slot
   shown_slot spot entry s = shown_is t.disk t.pairs path on.at moved first name spot entry h.accepted h.hides on.leads on.begins s
 
-  pub no_slot : IsAbsent moved first (drop first t.pairs) name → slot_of t.pairs (path ++ name ∷ []) ≡ None
+  pub no_slot : IsNameAbsentFrom moved first (drop first t.pairs) name → slot_of_path t.pairs (path ++ name ∷ []) ≡ None
   no_slot absent = absent_is_shown t.disk t.pairs path on.at moved first name h.accepted h.hides on.leads on.begins absent
 
 -- ---- nothing is to be recovered, so no slot counts as deleted
 
-hides_none : (index : ℕ) (ps : List Pair) → HidesOnlySlot zero_gstate None index ps
+hides_none : (index : ℕ) (ps : List Pair) → IsOnlyMovedSlot zero_gstate None index ps
 hides_none index [] = tt
 hides_none index (p ∷ ps) = (refl, hides_none (index + 1) ps)
 
 pub hiding_none : (t : KeptThread) → IsAcceptedRecovered t → HidesMovedSlot t None
-hiding_none t ok = record { accepted = ok.accepted; hides = subst (λ g. HidesOnlySlot g None 0 t.pairs) (sym ok.settled) (hides_none 0 t.pairs) }
+hiding_none t ok = record { accepted = ok.accepted; hides = subst (λ g. IsOnlyMovedSlot g None 0 t.pairs) (sym ok.settled) (hides_none 0 t.pairs) }

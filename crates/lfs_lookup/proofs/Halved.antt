@@ -1,6 +1,6 @@
 -- A binary search among the pairs of a directory: its invariant on the pairs before and behind those that are left.
 use Rattle.std.proofs.Common.{ℕ, zero, suc, ◌≡◌, ◌≢◌, ◌⊎◌, inl, inr, ◌+◌, ◌-◌, ◌<◌, ◌≤◌, Bool, true, false, cond, not, List, [], ◌∷◌, ◌++◌, length, take, drop, refl, sym, ap, ap₂, subst, ◌∙◌, arith, append_assoc, append-nil, length-append, get_or, Less}
-use Rattle.lfs_lookup.proofs.Common.{AllByRecursion, get_or-drop, length-take, take-append-drop, flat_map-append, filter-append, drop-append_seam, BelongsAt, FirstIsGreater, HaveNoSuperblock, HasHardTail, BelongsAtId, AreJoined, IsPlaceOf, HasName, entry_slots, last_joins, joined_count, all_slots, Name, name_cmp, Slot, is_superblock, Pair, is_hard_tail, superblock_first, each_left, each_right, IsStructEntry, EndsWithoutTail, joined_pairs}
+use Rattle.lfs_lookup.proofs.Common.{AllByRecursion, get_or-drop, length-take, take-append-drop, flat_map-append, filter-append, drop-append_seam, IsInsertionPosition, BeginsWithGreaterName, HaveNoSuperblock, HasHardTail, NameBelongsAtId, AreJoinedByHardTails, IsPositionOfName, HasName, entry_slots, last_has_hard_tail, joined_pair_count, all_slots, Name, name_cmp, Slot, is_superblock, Pair, is_hard_tail, begins_with_superblock, each_left, each_right, IsStructEntry, LastHasNoHardTail, joined_pairs}
 use Rattle.std.proofs.lemmas.List.{get_or_append_left}
 use Rattle.lfs_model.specs.declared.order.NameOrder.{NameOrder}
 use Rattle.lfs_lookup.specs.declared.entry.FileOrDirectory.{FileOrDirectory}
@@ -17,19 +17,19 @@ run_part (p ∷ ps) = go (is_hard_tail p.content.tail) (run_part ps)
     go true r = (r.0, ap (λ z. p ∷ z) r.1)
     go false r = (ps, refl)
 
-pub run_count : (xs : List Pair) → length (joined_pairs xs) ≡ joined_count xs
+pub run_count : (xs : List Pair) → length (joined_pairs xs) ≡ joined_pair_count xs
 run_count [] = refl
 run_count (p ∷ ps) = go (is_hard_tail p.content.tail) (run_count ps)
   where
-    go : (b : Bool) → length (joined_pairs ps) ≡ joined_count ps → length (p ∷ cond b (joined_pairs ps) []) ≡ cond b (1 + joined_count ps) 1
+    go : (b : Bool) → length (joined_pairs ps) ≡ joined_pair_count ps → length (p ∷ cond b (joined_pairs ps) []) ≡ cond b (1 + joined_pair_count ps) 1
     go true e = omega (arith, e)
     go false e = refl
 
 abbrev Chained : List Pair → Type 0
 Chained [] = Unit {0}
-Chained (p ∷ ps) = AreJoined p ps
+Chained (p ∷ ps) = AreJoinedByHardTails p ps
 
-chain_more : (p : Pair) (qs : List Pair) → HasHardTail p → Chained qs → AreJoined p qs
+chain_more : (p : Pair) (qs : List Pair) → HasHardTail p → Chained qs → AreJoinedByHardTails p qs
 chain_more p [] h k = tt
 chain_more p (q ∷ qs) h k = (h, k)
 
@@ -37,24 +37,24 @@ run_chained : (xs : List Pair) → Chained (joined_pairs xs)
 run_chained [] = tt
 run_chained (p ∷ ps) = go (is_hard_tail p.content.tail) refl (run_chained ps)
   where
-    go : (b : Bool) → is_hard_tail p.content.tail ≡ b → Chained (joined_pairs ps) → AreJoined p (cond b (joined_pairs ps) [])
+    go : (b : Bool) → is_hard_tail p.content.tail ≡ b → Chained (joined_pairs ps) → AreJoinedByHardTails p (cond b (joined_pairs ps) [])
     go true e k = chain_more p (joined_pairs ps) e k
     go false e k = tt
 
-chain_left : (left : List Pair) (p : Pair) (rest : List Pair) → Chained (left ++ p ∷ rest) → AllByRecursion HasHardTail left × AreJoined p rest
+chain_left : (left : List Pair) (p : Pair) (rest : List Pair) → Chained (left ++ p ∷ rest) → AllByRecursion HasHardTail left × AreJoinedByHardTails p rest
 chain_left [] p rest h = (tt, h)
 chain_left (x ∷ []) p rest h = ((h.0, tt), h.1)
 chain_left (x ∷ y ∷ left) p rest h = let r = chain_left (y ∷ left) p rest h.1 in ((h.0, r.0), r.1)
 
-runs_front : (p : Pair) (later rest : List Pair) → AreJoined p (later ++ rest) → AreJoined p later
+runs_front : (p : Pair) (later rest : List Pair) → AreJoinedByHardTails p (later ++ rest) → AreJoinedByHardTails p later
 runs_front p [] rest h = tt
 runs_front p (q ∷ later) rest h = (h.0, runs_front q later rest h.1)
 
-last_behind : (x : Pair) (left : List Pair) (p : Pair) (rest : List Pair) → last_joins x (left ++ p ∷ rest) ≡ last_joins p rest
+last_behind : (x : Pair) (left : List Pair) (p : Pair) (rest : List Pair) → last_has_hard_tail x (left ++ p ∷ rest) ≡ last_has_hard_tail p rest
 last_behind x [] p rest = refl
 last_behind x (y ∷ left) p rest = last_behind y left p rest
 
-soft_end : (left : List Pair) (p : Pair) (rest : List Pair) → EndsWithoutTail (left ++ p ∷ rest) → last_joins p rest ≡ false
+soft_end : (left : List Pair) (p : Pair) (rest : List Pair) → LastHasNoHardTail (left ++ p ∷ rest) → last_has_hard_tail p rest ≡ false
 soft_end [] p rest h = h
 soft_end (x ∷ left) p rest h = sym (last_behind x left p rest) ∙ h
 
@@ -64,8 +64,8 @@ same_behind xs zs ys ws e l = sym (drop-append_seam xs zs) ∙ ap₂ (λ (n : �
 
 -- ---- where they end
 
-pub soft_on : (ps : List Pair) (index next : ℕ) (d : Pair) → next < length ps → is_hard_tail (get_or ps index d).content.tail ≡ true → next ≡ index + 1 → EndsWithoutTail (joined_pairs (drop next ps)) → EndsWithoutTail (joined_pairs (drop index ps))
-soft_on ps index next d l hard e h = subst EndsWithoutTail (sym (run_hard_on ps index next d (omega arith) hard e ∙ ap (λ z. get_or ps index d ∷ z) (run_here_on ps next d l))) (subst EndsWithoutTail (run_here_on ps next d l) h)
+pub soft_on : (ps : List Pair) (index next : ℕ) (d : Pair) → next < length ps → is_hard_tail (get_or ps index d).content.tail ≡ true → next ≡ index + 1 → LastHasNoHardTail (joined_pairs (drop next ps)) → LastHasNoHardTail (joined_pairs (drop index ps))
+soft_on ps index next d l hard e h = subst LastHasNoHardTail (sym (run_hard_on ps index next d (omega arith) hard e ∙ ap (λ z. get_or ps index d ∷ z) (run_here_on ps next d l))) (subst LastHasNoHardTail (run_here_on ps next d l) h)
 
 -- ---- a pair by its number
 
@@ -75,7 +75,7 @@ pub record IsAt (run : List Pair) (first index : ℕ) (q : Pair) : Type 0 where
   pub parts : run ≡ before ++ q ∷ behind
   pub number : first + length before ≡ index
 
-pub at_run : (ps : List Pair) (first index : ℕ) (d : Pair) → first ≤ index → index < first + joined_count (drop first ps) → IsAt (joined_pairs (drop first ps)) first index (get_or ps index d)
+pub at_run : (ps : List Pair) (first index : ℕ) (d : Pair) → first ≤ index → index < first + joined_pair_count (drop first ps) → IsAt (joined_pairs (drop first ps)) first index (get_or ps index d)
 at_run ps first index d from below =
     let part = run_part (drop first ps) in
     let n = run_count (drop first ps) in
@@ -177,8 +177,8 @@ pub record HasGreater (by : NameOrder) (run : List Pair) (first : ℕ) (name : N
   pub behind : List Pair
   pub parts : run ≡ before ++ pair ∷ behind
   pub number : first + length before ≡ high
-  pub above : FirstIsGreater by name (entry_slots pair.content.slots)
-  pub fronted : superblock_first pair.content.slots ≡ false
+  pub above : BeginsWithGreaterName by name (entry_slots pair.content.slots)
+  pub fronted : begins_with_superblock pair.content.slots ≡ false
 
 pub data IsHigh (by : NameOrder) (run : List Pair) (first : ℕ) (name : Name) (high : ℕ) : Type 0 where
   ends : high ≡ first + length run → IsHigh by run first name high
@@ -192,7 +192,7 @@ module _ (by : NameOrder) (ps : List Pair) (first : ℕ) (name : Name) (index : 
   joined_here = (chain_left a.before q a.behind (subst Chained a.parts (run_chained (drop first ps)))).0
 
   -- the name is in this pair
-  pub stands_at : (below : first < length ps) (id : ℕ) (entry : FileOrDirectory) (s : HasName q.content.slots name id) → IsStructEntry entry s.slot.struct → (t : IsPlaceOf ps first name index id) × IsStructEntry entry t.stands.slot.struct
+  pub stands_at : (below : first < length ps) (id : ℕ) (entry : FileOrDirectory) (s : HasName q.content.slots name id) → IsStructEntry entry s.slot.struct → (t : IsPositionOfName ps first name index id) × IsStructEntry entry t.stands.slot.struct
   stands_at below id entry s shows = (
     record {
       pair = q;
@@ -211,7 +211,7 @@ module _ (by : NameOrder) (ps : List Pair) (first : ℕ) (name : Name) (index : 
   )
 
   -- all its names are less
-  pub passes : (plain : HaveNoSuperblock (drop (first + 1) ps)) (id : ℕ) → BelongsAtId by q.content.slots name id → (index ≡ first) ⊎ (0 < id) → length q.content.slots ≤ id → HasLess by run first name index id (index + 1)
+  pub passes : (plain : HaveNoSuperblock (drop (first + 1) ps)) (id : ℕ) → NameBelongsAtId by q.content.slots name id → (index ≡ first) ⊎ (0 < id) → length q.content.slots ≤ id → HasLess by run first name index id (index + 1)
   passes plain id pl why all =
       let none = nothing_behind q.content.slots pl.left pl.right pl.held (let n = pl.number in omega arith) in
       let is : q.content.slots ≡ pl.left = pl.held ∙ ap (λ z. pl.left ++ z) none ∙ append-nil pl.left in
@@ -238,7 +238,7 @@ module _ (by : NameOrder) (ps : List Pair) (first : ℕ) (name : Name) (index : 
       go e (inr n) = inr (subst (λ z. entry_slots z ≢ []) (sym e) n)
 
   -- all its names are greater
-  pub exceeds : (id : ℕ) → BelongsAtId by q.content.slots name id → id ≤ 0 → 0 < length q.content.slots → HasGreater by run first name index
+  pub exceeds : (id : ℕ) → NameBelongsAtId by q.content.slots name id → id ≤ 0 → 0 < length q.content.slots → HasGreater by run first name index
   exceeds id pl none some = record {
     before = a.before;
     pair = q;
@@ -246,7 +246,7 @@ module _ (by : NameOrder) (ps : List Pair) (first : ℕ) (name : Name) (index : 
     parts = a.parts;
     number = a.number;
     above = go pl.greater;
-    fronted = subst (λ z. superblock_first z ≡ false) (sym is) pl.fronted;
+    fronted = subst (λ z. begins_with_superblock z ≡ false) (sym is) pl.fronted;
   }
     where
       whole : (left : List Slot) → q.content.slots ≡ left ++ pl.right → length left ≡ id → q.content.slots ≡ pl.right
@@ -256,12 +256,12 @@ module _ (by : NameOrder) (ps : List Pair) (first : ℕ) (name : Name) (index : 
       is : q.content.slots ≡ pl.right
       is = whole pl.left pl.held pl.number
 
-      go : (pl.right ≡ []) ⊎ FirstIsGreater by name (entry_slots pl.right) → FirstIsGreater by name (entry_slots q.content.slots)
+      go : (pl.right ≡ []) ⊎ BeginsWithGreaterName by name (entry_slots pl.right) → BeginsWithGreaterName by name (entry_slots q.content.slots)
       go (inl e) = absurd (let k = ap length (is ∙ e) in omega arith)
-      go (inr b) = subst (λ z. FirstIsGreater by name (entry_slots z)) (sym is) b
+      go (inr b) = subst (λ z. BeginsWithGreaterName by name (entry_slots z)) (sym is) b
 
   -- the name belongs here, before one of its slots
-  pub belongs_inside : (below : first < length ps) (plain : HaveNoSuperblock (drop (first + 1) ps)) (id : ℕ) → BelongsAtId by q.content.slots name id → (index ≡ first) ⊎ (0 < id) → id < length q.content.slots → BelongsAt by ps first name index id
+  pub belongs_inside : (below : first < length ps) (plain : HaveNoSuperblock (drop (first + 1) ps)) (id : ℕ) → NameBelongsAtId by q.content.slots name id → (index ≡ first) ⊎ (0 < id) → id < length q.content.slots → IsInsertionPosition by ps first name index id
   belongs_inside below plain id pl why some = record {
     pair = q;
     later = [];
@@ -289,9 +289,9 @@ module _ (by : NameOrder) (ps : List Pair) (first : ℕ) (name : Name) (index : 
       go (inl e) = inl e
       go (inr l) = inr (let n = pl.number in omega arith)
 
-      above : (pl.right ≡ []) ⊎ FirstIsGreater by name (entry_slots pl.right) → FirstIsGreater by name (entry_slots (pl.right ++ []))
+      above : (pl.right ≡ []) ⊎ BeginsWithGreaterName by name (entry_slots pl.right) → BeginsWithGreaterName by name (entry_slots (pl.right ++ []))
       above (inl e) = absurd (let k = ap length pl.held in let m = length-append pl.left pl.right in let r = ap length e in let n = pl.number in omega arith)
-      above (inr b) = subst (λ z. FirstIsGreater by name (entry_slots z)) (sym (append-nil pl.right)) b
+      above (inr b) = subst (λ z. BeginsWithGreaterName by name (entry_slots z)) (sym (append-nil pl.right)) b
 
   -- a pair without slots is passed
   pub passes_empty : (at id : ℕ) → HasLess by run first name at id index → length q.content.slots ≤ 0 → HasLess by run first name at id (index + 1)
@@ -318,7 +318,7 @@ module _ (by : NameOrder) (ps : List Pair) (first : ℕ) (name : Name) (index : 
 
 -- ---- where they meet
 
-module _ (by : NameOrder) (ps : List Pair) (first : ℕ) (name : Name) (below : first < length ps) (soft : EndsWithoutTail (joined_pairs (drop first ps))) where
+module _ (by : NameOrder) (ps : List Pair) (first : ℕ) (name : Name) (below : first < length ps) (soft : LastHasNoHardTail (joined_pairs (drop first ps))) where
   abbrev whole_run : List Pair
   whole_run = joined_pairs (drop first ps)
 
@@ -326,7 +326,7 @@ module _ (by : NameOrder) (ps : List Pair) (first : ℕ) (name : Name) (below : 
   chained = run_chained (drop first ps)
 
   -- it belongs before all
-  at_front : (high : ℕ) → HasGreater by whole_run first name high → high ≡ first → BelongsAt by ps first name first 0
+  at_front : (high : ℕ) → HasGreater by whole_run first name high → high ≡ first → IsInsertionPosition by ps first name first 0
   at_front high h e =
       let none = empty_list h.before (let n = h.number in omega arith) in
       let is : whole_run ≡ h.pair ∷ h.behind = h.parts ∙ ap (λ z. z ++ h.pair ∷ h.behind) none in
@@ -350,17 +350,17 @@ module _ (by : NameOrder) (ps : List Pair) (first : ℕ) (name : Name) (below : 
         less = tt;
         fronted = h.fronted;
         not_before = inl refl;
-        not_behind = inl (subst (λ z. FirstIsGreater by name (entry_slots z)) (sym (append-nil h.pair.content.slots)) h.above);
+        not_behind = inl (subst (λ z. BeginsWithGreaterName by name (entry_slots z)) (sym (append-nil h.pair.content.slots)) h.above);
       }
 
   -- behind a pair, where no entry is left
-  at_end : (at id low : ℕ) → HasLess by whole_run first name at id low → low ≡ first + length whole_run → BelongsAt by ps first name at id
+  at_end : (at id low : ℕ) → HasLess by whole_run first name at id low → low ≡ first + length whole_run → IsInsertionPosition by ps first name at id
   at_end at id low h e =
       let none : h.more ≡ [] = empty_list h.more (let k = ap length h.parts in let l = length-append h.left (h.pair ∷ (h.empty ++ h.more)) in let m = length-append h.empty h.more in let n = h.next in let b = h.number in omega arith) in
       let parts = h.parts in
       let c = chain_left h.left h.pair (h.empty ++ h.more) (subst Chained h.parts chained) in
-      let last : last_joins h.pair h.empty ≡ false =
-      ap (last_joins h.pair) (sym (ap (λ z. h.empty ++ z) none ∙ append-nil h.empty)) ∙ soft_end h.left h.pair (h.empty ++ h.more) (subst EndsWithoutTail h.parts soft) in
+      let last : last_has_hard_tail h.pair h.empty ≡ false =
+      ap (last_has_hard_tail h.pair) (sym (ap (λ z. h.empty ++ z) none ∙ append-nil h.empty)) ∙ soft_end h.left h.pair (h.empty ++ h.more) (subst LastHasNoHardTail h.parts soft) in
       record {
         pair = h.pair;
         later = h.empty;
@@ -385,7 +385,7 @@ module _ (by : NameOrder) (ps : List Pair) (first : ℕ) (name : Name) (below : 
       }
 
   -- behind a pair, where a greater name comes first
-  at_seam : (at id low high : ℕ) → HasLess by whole_run first name at id low → (g : HasGreater by whole_run first name high) → low ≡ high → BelongsAt by ps first name at id
+  at_seam : (at id low high : ℕ) → HasLess by whole_run first name at id low → (g : HasGreater by whole_run first name high) → low ≡ high → IsInsertionPosition by ps first name at id
   at_seam at id low high h g e =
       let counts : length (h.left ++ h.pair ∷ h.empty) ≡ length g.before = (let l = length-append h.left (h.pair ∷ h.empty) in let n = h.next in let m = h.number in let k = g.number in omega arith) in
       let is : h.more ≡ g.pair ∷ g.behind = same_behind (h.left ++ h.pair ∷ h.empty) h.more g.before (g.pair ∷ g.behind) (append_assoc h.left (h.pair ∷ h.empty) h.more ∙ sym h.parts ∙ g.parts) counts in
@@ -412,12 +412,12 @@ module _ (by : NameOrder) (ps : List Pair) (first : ℕ) (name : Name) (below : 
         less = h.less;
         fronted = refl;
         not_before = h.not_before;
-        not_behind = inl (subst (FirstIsGreater by name) (sym (entries_on h.empty g.pair h.none)) g.above);
+        not_behind = inl (subst (BeginsWithGreaterName by name) (sym (entries_on h.empty g.pair h.none)) g.above);
       }
 
-  pub belongs_between : (at id low high : ℕ) → IsLow by whole_run first name at id low → IsHigh by whole_run first name high → low ≡ high → BelongsAt by ps first name at id
+  pub belongs_between : (at id low high : ℕ) → IsLow by whole_run first name at id low → IsHigh by whole_run first name high → low ≡ high → IsInsertionPosition by ps first name at id
   belongs_between at id low high (begun e f g) (ends k) m = absurd (let some = run_some ps first below in let n = run_count (drop first ps) in omega arith)
   belongs_between at id low high (begun e f g) (starts h) m =
-      subst (λ (n : ℕ). BelongsAt by ps first name n id) (sym f) (subst (λ (n : ℕ). BelongsAt by ps first name first n) (sym g) (at_front high h (sym m ∙ e)))
+      subst (λ (n : ℕ). IsInsertionPosition by ps first name n id) (sym f) (subst (λ (n : ℕ). IsInsertionPosition by ps first name first n) (sym g) (at_front high h (sym m ∙ e)))
   belongs_between at id low high (passed h) (ends k) m = at_end at id low h (m ∙ k)
   belongs_between at id low high (passed h) (starts g) m = at_seam at id low high h g m

@@ -1,10 +1,10 @@
 -- How often a search by halves reads, and what it leaves in the cache.
 use Rattle.std.proofs.Common.{ℕ, zero, suc, ◌≡◌, ◌+◌, ◌-◌, ◌*◌, ◌/◌, ◌^◌, ◌<◌, ◌≤◌, List, [], ◌∷◌, ◌++◌, length, Result, Ok, refl, sym, ap, subst, ◌∙◌, arith, length-append}
 use Rattle.std.specs.Prelude.{OnOk}
-use Rattle.lfs_lookup.proofs.Common.{AllByRecursion, Pair, each_right, active_block_at, ThreadView, ArePairsCached, KeepsCachedPairs, BecomesMostRecent, EachHasSlot, halving_count}
+use Rattle.lfs_lookup.proofs.Common.{AllByRecursion, Pair, each_right, active_block_at, ThreadView, ArePairsCached, KeepsCachedPairs, BecomesMostRecent, EachPairHasSlot, halving_count}
 use Rattle.std.proofs.Math.Nat.{mul-div-le, lt-div-mul-add, pow-succ'}
 use Rattle.lfs_device.specs.declared.error.Error.{Error}
-use Rattle.lfs_lookup.specs.Halves.{halvings_within}
+use Rattle.lfs_lookup.specs.Halves.{bounded_halving_count}
 use Rattle.lfs_lookup.proofs.Halved.{IsAt}
 use Rattle.lfs_lookup.proofs.RecentBlocks.{HasBrought, HasKept, Passes, kept_none, loads_to_here, on_ok}
 
@@ -17,15 +17,15 @@ halves_of n = (mul-div-le n 2, (let k = lt-div-mul-add {a = n} {b = 2} (omega ar
 twice : (k : ℕ) → 2 ^ suc k ≡ 2 * 2 ^ k
 twice k = pow-succ' 2 k
 
-halved_power : (steps n : ℕ) → n ≤ steps → n < 2 ^ halvings_within steps n
+halved_power : (steps n : ℕ) → n ≤ steps → n < 2 ^ bounded_halving_count steps n
 halved_power zero zero l = omega arith
 halved_power zero (suc n) l = absurd (omega arith)
 halved_power (suc steps) zero l = omega arith
 halved_power (suc steps) (suc n) l =
     let h = halves_of (suc n) in
     let k = halved_power steps (suc n / 2) (omega (arith, h.0)) in
-    let t = twice (halvings_within steps (suc n / 2)) in
-    let one : 1 + halvings_within steps (suc n / 2) ≡ suc (halvings_within steps (suc n / 2)) = omega arith in
+    let t = twice (bounded_halving_count steps (suc n / 2)) in
+    let one : 1 + bounded_halving_count steps (suc n / 2) ≡ suc (bounded_halving_count steps (suc n / 2)) = omega arith in
     let p = ap (λ (e : ℕ). 2 ^ e) one in
     omega (arith, h.1, k, t, p)
 
@@ -71,8 +71,8 @@ pub middle_below : (low high : ℕ) → low < high → low + (high - low) / 2 < 
 middle_below low high l = let h = halves_of (high - low) in omega (arith, h.0)
 
 -- a pair of a directory whose pairs all have slots
-pub has_slot : (run : List Pair) (first index : ℕ) (q : Pair) → IsAt run first index q → EachHasSlot run → 0 < length q.content.slots
-has_slot run first index q a slots = (each_right (λ (p : Pair). 0 < length p.content.slots) a.before (q ∷ a.behind) (subst EachHasSlot a.parts slots)).0
+pub has_slot : (run : List Pair) (first index : ℕ) (q : Pair) → IsAt run first index q → EachPairHasSlot run → 0 < length q.content.slots
+has_slot run first index q a slots = (each_right (λ (p : Pair). 0 < length p.content.slots) a.before (q ∷ a.behind) (subst EachPairHasSlot a.parts slots)).0
 
 -- ---- what is cached
 

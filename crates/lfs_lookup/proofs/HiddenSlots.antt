@@ -1,18 +1,18 @@
 -- The slot that counts as deleted, by the index of its pair.
 use Rattle.std.proofs.Common.{ℕ, zero, suc, ◌≡◌, ◌+◌, ◌==◌, ◌&&◌, Bool, true, false, cond, List, [], ◌∷◌, Option, Some, None, refl, sym, ap, ap₂, subst, ◌∙◌, arith, slice_get, nat_eq}
-use Rattle.lfs_lookup.proofs.Common.{AllByRecursion, same_Some, ne_eqb, false_from_ne_true, IsPairAt, Gstate, same_pair, Pair, pairs_blocks, moved_id, pair_back, pair_on, same_number, HidesOnlySlot, skipped_id}
+use Rattle.lfs_lookup.proofs.Common.{AllByRecursion, same_Some, ne_eqb, false_from_ne_true, IsPairAt, Gstate, same_pair, Pair, pairs_blocks, moved_id, pair_back, pair_on, same_number, IsOnlyMovedSlot, skipped_id}
 use Rattle.std.specs.List.{IsDistinct}
 use Rattle.lfs_lookup.specs.declared.search.SlotPosition.{SlotPosition}
 use Rattle.lfs_lookup.proofs.NamedSlots.{same_id}
 
-hides_from : (g : Gstate) (moved : Option SlotPosition) (i : ℕ) (ps : List Pair) → ((k : ℕ) (p : Pair) → slice_get ps k ≡ Some p → skipped_id moved (i + k) ≡ moved_id g p) → HidesOnlySlot g moved i ps
+hides_from : (g : Gstate) (moved : Option SlotPosition) (i : ℕ) (ps : List Pair) → ((k : ℕ) (p : Pair) → slice_get ps k ≡ Some p → skipped_id moved (i + k) ≡ moved_id g p) → IsOnlyMovedSlot g moved i ps
 hides_from g moved i [] h = tt
 hides_from g moved i (p ∷ ps) h = (
   (let e : i + 0 ≡ i = omega arith in subst (λ (n : ℕ). skipped_id moved n ≡ moved_id g p) e (h 0 p refl)),
   hides_from g moved (i + 1) ps (λ k q at. let e : i + suc k ≡ i + 1 + k = omega arith in subst (λ (n : ℕ). skipped_id moved n ≡ moved_id g q) e (h (suc k) q at)),
 )
 
-pub hides_nothing : (g : Gstate) (ps : List Pair) → (g.kind == 0x4ff) ≡ false → HidesOnlySlot g None 0 ps
+pub hides_nothing : (g : Gstate) (ps : List Pair) → (g.kind == 0x4ff) ≡ false → IsOnlyMovedSlot g None 0 ps
 hides_nothing g ps e = hides_from g None 0 ps (λ k p at. sym (ap (λ b. cond (b && same_pair g.pair p.at) (Some g.id) None) e))
 
 each_get : (P : Pair → Type 0) (ps : List Pair) (k : ℕ) (p : Pair) → AllByRecursion P ps → slice_get ps k ≡ Some p → P p
@@ -24,13 +24,13 @@ both_false : (a b : Bool) → b ≡ false → (a && b) ≡ false
 both_false true b e = e
 both_false false b e = refl
 
-pub hides_nowhere : (g : Gstate) (ps : List Pair) → AllByRecursion (λ p. same_pair p.at g.pair ≡ false) ps → HidesOnlySlot g None 0 ps
+pub hides_nowhere : (g : Gstate) (ps : List Pair) → AllByRecursion (λ p. same_pair p.at g.pair ≡ false) ps → IsOnlyMovedSlot g None 0 ps
 hides_nowhere g ps h = hides_from g None 0 ps (λ k p at.
     let not_here = each_get (λ q. same_pair q.at g.pair ≡ false) ps k p h at in
     let other : same_pair g.pair p.at ≡ false = false_from_ne_true (same_pair g.pair p.at) (λ s. absurd (let b = pair_back g.pair p.at s in cc)) in
     sym (ap (λ b. cond b (Some g.id) None) (both_false (g.kind == 0x4ff) (same_pair g.pair p.at) other)))
 
-pub hides_there : (g : Gstate) (ps : List Pair) (spot : SlotPosition) → (g.kind == 0x4ff) ≡ true → spot.id ≡ g.id → IsDistinct nat_eq (pairs_blocks ps) → IsPairAt ps g.pair spot.pair → HidesOnlySlot g (Some spot) 0 ps
+pub hides_there : (g : Gstate) (ps : List Pair) (spot : SlotPosition) → (g.kind == 0x4ff) ≡ true → spot.id ≡ g.id → IsDistinct nat_eq (pairs_blocks ps) → IsPairAt ps g.pair spot.pair → IsOnlyMovedSlot g (Some spot) 0 ps
 hides_there g ps spot kind id distinct begins = hides_from g (Some spot) 0 ps (λ k p at. (let e : 0 + k ≡ k = omega arith in ap (skipped_id (Some spot)) e) ∙ go k p at (same_pair g.pair p.at) refl)
   where
     set : (p : Pair) (b : Bool) → same_pair g.pair p.at ≡ b → moved_id g p ≡ cond b (Some g.id) None

@@ -1,11 +1,11 @@
 -- A directory whose names rise doesn't have a name that belongs before one of its slots. In an accepted image names rise.
 use Rattle.std.proofs.Common.{ℕ, zero, suc, ◌≡◌, ◌≢◌, ◌⊎◌, inl, inr, ◌+◌, ◌==◌, ◌&&◌, Bool, true, false, cond, not, List, [], ◌∷◌, ◌++◌, filter, flat_map, take, drop, remove, slice_get, Option, Some, None, refl, sym, ap, ap₂, subst, ◌∙◌, arith, append_assoc, Less}
-use Rattle.lfs_lookup.proofs.Common.{AllByRecursion, take-append-drop, flat_map-append, filter-append, same_Some, drop-append_seam, FirstIsGreater, BelongsAt, HasHardTail, AreJoined, entry_slots, last_joins, all_slots, Name, name_cmp, Gstate, Slot, is_superblock, same_pair, Pair, pairs_gstate, is_hard_tail, unmoved_entries, moved_id, Path, Each, each_append, each_left, each_right, each_weaker, begins_directory, plain_behind, KeptThread, joined_pairs, LeadsToPair, HidesMovedSlot, HidesOnlySlot, IsAbsent, IsNameAt, FindsInDirectory, skipped_id}
+use Rattle.lfs_lookup.proofs.Common.{AllByRecursion, take-append-drop, flat_map-append, filter-append, same_Some, drop-append_seam, BeginsWithGreaterName, IsInsertionPosition, HasHardTail, AreJoinedByHardTails, entry_slots, last_has_hard_tail, all_slots, Name, name_cmp, Gstate, Slot, is_superblock, same_pair, Pair, pairs_gstate, is_hard_tail, unmoved_entries, moved_id, Path, Each, each_append, each_left, each_right, each_weaker, begins_directory, plain_behind, KeptThread, joined_pairs, LeadsToPair, HidesMovedSlot, IsOnlyMovedSlot, IsNameAbsentFrom, IsNameAtVisibleSlot, IsNamePositionInDirectory, skipped_id}
 use Rattle.lfs_model.specs.declared.order.NameOrder.{NameOrder}
 use Rattle.lfs_model.proofs.Indexes.{greater_behind, less_before, rise_right}
 use Rattle.lfs_model.proofs.Names.{Rise}
 use Rattle.lfs_model.proofs.Orders.{less_differs}
-use Rattle.lfs_lookup.specs.NameSearch.{AreOrdered}
+use Rattle.lfs_lookup.specs.NameSearch.{AreDirectoryNamesSorted}
 use Rattle.lfs_lookup.specs.declared.entry.FileOrDirectory.{FileOrDirectory}
 use Rattle.lfs_lookup.specs.declared.search.NamePositionInDirectory.TheVariants.{Found, Place}
 use Rattle.lfs_lookup.specs.declared.search.SlotPosition.{SlotPosition}
@@ -24,7 +24,7 @@ joined_before : (left : List Pair) (rest : List Pair) → AllByRecursion HasHard
 joined_before [] rest h = refl
 joined_before (x ∷ left) rest h = ap (λ b. x ∷ cond b (joined_pairs (left ++ rest)) []) h.0 ∙ ap (λ z. x ∷ z) (joined_before left rest h.1)
 
-joined_through : (p : Pair) (later rest : List Pair) → AreJoined p later → joined_pairs (p ∷ (later ++ rest)) ≡ p ∷ (later ++ cond (last_joins p later) (joined_pairs rest) [])
+joined_through : (p : Pair) (later rest : List Pair) → AreJoinedByHardTails p later → joined_pairs (p ∷ (later ++ rest)) ≡ p ∷ (later ++ cond (last_has_hard_tail p later) (joined_pairs rest) [])
 joined_through p [] rest h = refl
 joined_through p (q ∷ later) rest h = ap (λ b. p ∷ cond b (joined_pairs (q ∷ (later ++ rest))) []) h.0 ∙ ap (λ z. p ∷ z) (joined_through q later rest h.1)
 
@@ -33,9 +33,9 @@ joined_through p (q ∷ later) rest h = ap (λ b. p ∷ cond b (joined_pairs (q 
 abbrev IsOther : Name → Slot → Type 0
 IsOther name s = s.name ≡ name → ⊥
 
-module _ (by : NameOrder) (ps : List Pair) (first : ℕ) (name : Name) (index id : ℕ) (b : BelongsAt by ps first name index id) where
+module _ (by : NameOrder) (ps : List Pair) (first : ℕ) (name : Name) (index id : ℕ) (b : IsInsertionPosition by ps first name index id) where
   tail_pairs : List Pair
-  tail_pairs = cond (last_joins b.pair b.later) (joined_pairs b.rest) []
+  tail_pairs = cond (last_has_hard_tail b.pair b.later) (joined_pairs b.rest) []
 
   -- what is before the place and behind it, in the directory
   abbrev before : List Slot
@@ -86,7 +86,7 @@ module _ (by : NameOrder) (ps : List Pair) (first : ℕ) (name : Name) (index id
     unfolding tail_pairs
     none_behind = go b.not_behind
       where
-        go : FirstIsGreater by name behind ⊎ ((behind ≡ []) × (last_joins b.pair b.later ≡ false)) → Each (IsOther name) (behind ++ entry_slots (all_slots tail_pairs))
+        go : BeginsWithGreaterName by name behind ⊎ ((behind ≡ []) × (last_has_hard_tail b.pair b.later ≡ false)) → Each (IsOther name) (behind ++ entry_slots (all_slots tail_pairs))
         go (inl a) =
             let rise_here = rise_right by (entry_slots b.left) (behind ++ entry_slots (all_slots tail_pairs)) (rise_right by before (entry_slots b.left ++ (behind ++ entry_slots (all_slots tail_pairs))) rises) in
             let are : behind ++ entry_slots (all_slots tail_pairs) ≡ a.first ∷ (a.rest ++ entry_slots (all_slots tail_pairs)) = ap (λ z. z ++ entry_slots (all_slots tail_pairs)) a.are in
@@ -114,7 +114,7 @@ each_entry P (x ∷ slots) (suc id) s h e plain = each_entry P slots id s (go (i
     go true k = k
     go false k = k.1
 
-absent_along : (index : ℕ) (ps : List Pair) (name : Name) → Each (IsOther name) (entry_slots (all_slots (joined_pairs ps))) → IsAbsent None index ps name
+absent_along : (index : ℕ) (ps : List Pair) (name : Name) → Each (IsOther name) (entry_slots (all_slots (joined_pairs ps))) → IsNameAbsentFrom None index ps name
 absent_along index [] name h = tt
 absent_along index (p ∷ ps) name h =
     let whole = subst (Each (IsOther name)) (entries_append p.content.slots (all_slots (cond (is_hard_tail p.content.tail) (joined_pairs ps) []))) h in (
@@ -124,24 +124,24 @@ absent_along index (p ∷ ps) name h =
           (each_right (IsOther name) (entry_slots p.content.slots) (entry_slots (all_slots (cond (is_hard_tail p.content.tail) (joined_pairs ps) []))) whole)),
     )
 
-pub absent_by_order : (by : NameOrder) (ps : List Pair) (first : ℕ) (name : Name) (index id : ℕ) → AreOrdered by ps first → BelongsAt by ps first name index id → IsAbsent None first (drop first ps) name
+pub absent_by_order : (by : NameOrder) (ps : List Pair) (first : ℕ) (name : Name) (index id : ℕ) → AreDirectoryNamesSorted by ps first → IsInsertionPosition by ps first name index id → IsNameAbsentFrom None first (drop first ps) name
 absent_by_order by ps first name index id h b = absent_along first (drop first ps) name (none_of_all by ps first name index id b h.rise)
 
 -- ---- what is shown where no slot is passed over
 
-pub found_shown : (by : NameOrder) (ps : List Pair) (moved : Option SlotPosition) (first : ℕ) (name : Name) (spot : SlotPosition) (entry : FileOrDirectory) → moved ≡ None → FindsInDirectory by ps first name (Found spot entry) → IsNameAt ps moved first name spot entry
+pub found_shown : (by : NameOrder) (ps : List Pair) (moved : Option SlotPosition) (first : ℕ) (name : Name) (spot : SlotPosition) (entry : FileOrDirectory) → moved ≡ None → IsNamePositionInDirectory by ps first name (Found spot entry) → IsNameAtVisibleSlot ps moved first name spot entry
 found_shown by ps moved first name spot entry none found = record {
   stands = found.0;
   shows = found.1;
   kept = λ e. let k = sym (ap (λ m. skipped_id m spot.pair) none) ∙ e in absurd (cc);
 }
 
-pub nothing_shown : (by : NameOrder) (ps : List Pair) (moved : Option SlotPosition) (first : ℕ) (name : Name) (spot : SlotPosition) → moved ≡ None → AreOrdered by ps first → FindsInDirectory by ps first name (Place spot) → IsAbsent moved first (drop first ps) name
-nothing_shown by ps moved first name spot none h found = subst (λ m. IsAbsent m first (drop first ps) name) (sym none) (absent_by_order by ps first name spot.pair spot.id h found)
+pub nothing_shown : (by : NameOrder) (ps : List Pair) (moved : Option SlotPosition) (first : ℕ) (name : Name) (spot : SlotPosition) → moved ≡ None → AreDirectoryNamesSorted by ps first → IsNamePositionInDirectory by ps first name (Place spot) → IsNameAbsentFrom moved first (drop first ps) name
+nothing_shown by ps moved first name spot none h found = subst (λ m. IsNameAbsentFrom m first (drop first ps) name) (sym none) (absent_by_order by ps first name spot.pair spot.id h found)
 
 -- ---- in an accepted image
 
-hides_each : (g : Gstate) (index : ℕ) (ps : List Pair) → HidesOnlySlot g None index ps → Each (λ p. moved_id g p ≡ None) ps
+hides_each : (g : Gstate) (index : ℕ) (ps : List Pair) → IsOnlyMovedSlot g None index ps → Each (λ p. moved_id g p ≡ None) ps
 hides_each g index [] h = tt
 hides_each g index (p ∷ ps) h = (sym h.0, hides_each g (index + 1) ps h.1)
 
@@ -165,7 +165,7 @@ module _ (t : KeptThread) (path : Path) (first : ℕ) (h : HidesMovedSlot t None
       shown_whole (pairs_gstate t.pairs) (joined_pairs (drop first t.pairs))
       (each_left (λ p. moved_id (pairs_gstate t.pairs) p ≡ None) (joined_pairs (drop first t.pairs)) part.0 (subst (Each (λ p. moved_id (pairs_gstate t.pairs) p ≡ None)) part.1 some))
 
-  pub in_order_on : AreOrdered t.disk.order t.pairs first
+  pub in_order_on : AreDirectoryNamesSorted t.disk.order t.pairs first
   in_order_on =
       let i = begins_directory t.disk t.pairs path on.at first h.accepted on.leads on.begins in
       record {
@@ -173,5 +173,5 @@ module _ (t : KeptThread) (path : Path) (first : ℕ) (h : HidesMovedSlot t None
         plain = plain_behind t.disk t.pairs first h.accepted (let n = i.number in omega (arith, n));
       }
 
-pub in_order_if : (t : KeptThread) (moved : Option SlotPosition) (path : Path) (first : ℕ) → HidesMovedSlot t moved → LeadsToPair t.pairs path first → moved ≡ None → AreOrdered t.disk.order t.pairs first
+pub in_order_if : (t : KeptThread) (moved : Option SlotPosition) (path : Path) (first : ℕ) → HidesMovedSlot t moved → LeadsToPair t.pairs path first → moved ≡ None → AreDirectoryNamesSorted t.disk.order t.pairs first
 in_order_if t moved path first h on none = in_order_on t path first (subst (HidesMovedSlot t) none h) on

@@ -1,18 +1,18 @@
 -- The entries of a log's slots.
 use Rattle.std.proofs.Common.{ℕ, zero, suc, ◌≡◌, ◌<◌, ◌∙◌, Bool, true, false, cond, not, List, [], ◌∷◌, ◌++◌, length, map, filter, get_or, remove, Option, Some, None, refl, sym, ap, ap₂, subst, arith}
-use Rattle.lfs_lookup.proofs.Common.{same_Some, Slot, is_superblock, RawSlot, complete_slots, IsFormedSlot, AreWellFormed, complete_parts, NamedStruct, named_struct, raw_entries, slots_except}
+use Rattle.lfs_lookup.proofs.Common.{same_Some, Slot, is_superblock, RawSlot, decoded_slots, IsWellFormedSlot, AreWellFormed, complete_parts, NamedStruct, named_struct, raw_entries, slots_except}
 use Rattle.lfs_model.proofs.Completed.{complete_remove}
-use Rattle.lfs_lookup.specs.Items.{optional_entry_list, unhidden_entries, entry_unless_superblock}
+use Rattle.lfs_lookup.specs.Items.{optional_entry_list, visible_slot_entries, entry_unless_superblock}
 
 -- ---- parts
 
-parts_of : {X : Type 0} (f : X → RawSlot) (xs : List X) (i : ℕ) (d : X) → AreWellFormed (map f xs) → i < length xs → IsFormedSlot (f (get_or xs i d))
+parts_of : {X : Type 0} (f : X → RawSlot) (xs : List X) (i : ℕ) (d : X) → AreWellFormed (map f xs) → i < length xs → IsWellFormedSlot (f (get_or xs i d))
 parts_of f [] i d h l = absurd (omega arith)
 parts_of f (x ∷ xs) zero d h l = h.0
 parts_of f (x ∷ xs) (suc i) d h l = parts_of f xs i d h.1 (omega arith)
 
-pub parts_at : {X : Type 0} (f : X → RawSlot) (xs : List X) (i : ℕ) (x : X) → AreWellFormed (map f xs) → i < length xs → x ≡ get_or xs i x → IsFormedSlot (f x)
-parts_at f xs i x h l at = subst (λ z. IsFormedSlot (f z)) (sym at) (parts_of f xs i x h l)
+pub parts_at : {X : Type 0} (f : X → RawSlot) (xs : List X) (i : ℕ) (x : X) → AreWellFormed (map f xs) → i < length xs → x ≡ get_or xs i x → IsWellFormedSlot (f x)
+parts_at f xs i x h l at = subst (λ z. IsWellFormedSlot (f z)) (sym at) (parts_of f xs i x h l)
 
 parts_remove : (xs : List RawSlot) (id : ℕ) → AreWellFormed xs → AreWellFormed (remove xs id)
 parts_remove [] zero h = tt
@@ -32,7 +32,7 @@ map_remove f [] (suc id) = refl
 map_remove f (x ∷ xs) zero = refl
 map_remove f (x ∷ xs) (suc id) = ap (λ ys. f x ∷ ys) (map_remove f xs id)
 
-pub complete_without : (moved : Option ℕ) (xs : List RawSlot) (us : List Slot) → complete_slots xs ≡ Some us → complete_slots (slots_except moved xs) ≡ Some (slots_except moved us)
+pub complete_without : (moved : Option ℕ) (xs : List RawSlot) (us : List Slot) → decoded_slots xs ≡ Some us → decoded_slots (slots_except moved xs) ≡ Some (slots_except moved us)
 complete_without None xs us h = h
 complete_without (Some id) xs us h = complete_remove xs us id h
 
@@ -46,7 +46,7 @@ shown_first s slots = go (is_superblock s) refl
     go true e = refl
     go false e = refl
 
-pub shown_complete : (raw : List RawSlot) (all : List Slot) → complete_slots raw ≡ Some all → raw_entries raw ≡ map named_struct (filter (λ s. not (is_superblock s)) all)
+pub shown_complete : (raw : List RawSlot) (all : List Slot) → decoded_slots raw ≡ Some all → raw_entries raw ≡ map named_struct (filter (λ s. not (is_superblock s)) all)
 shown_complete [] all h = ap (λ us. map named_struct (filter (λ s. not (is_superblock s)) us)) (same_Some [] all h)
 shown_complete (x ∷ xs) all h =
     let p = complete_parts x xs all h in
@@ -58,5 +58,5 @@ shown_complete (x ∷ xs) all h =
     option_shown None = None
     option_shown (Some s) = entry_unless_superblock s
 
-pub shown_shapes : (moved : Option ℕ) (raw : List RawSlot) (all : List Slot) → complete_slots raw ≡ Some all → raw_entries (slots_except moved raw) ≡ unhidden_entries moved all
+pub shown_shapes : (moved : Option ℕ) (raw : List RawSlot) (all : List Slot) → decoded_slots raw ≡ Some all → raw_entries (slots_except moved raw) ≡ visible_slot_entries moved all
 shown_shapes moved raw all h = shown_complete (slots_except moved raw) (slots_except moved all) (complete_without moved raw all h)

@@ -1,7 +1,7 @@
 -- Names of entries are short.
 use Rattle.std.proofs.Common.{ℕ, zero, suc, ◌≡◌, ◌≤◌, ◌+◌, ◌==◌, ◌&&◌, Bool, true, false, cond, not, List, [], ◌∷◌, filter, length, take, drop, refl}
 use Rattle.std.specs.Prelude.{All, nat_le}
-use Rattle.lfs_lookup.proofs.Common.{remove, recursion_from_All, Disk, is_component, Gstate, Slot, is_superblock, same_pair, Pair, pairs_gstate, count_before_root, slots_not_moved, unmoved_entries, Path, IsAccepted, IsTreeEntry, BeginsWithSuperblock, LeadsTo, all_entries, Each, each_weaker}
+use Rattle.lfs_lookup.proofs.Common.{remove, recursion_from_All, Disk, is_component, Gstate, Slot, is_superblock, same_pair, Pair, pairs_gstate, count_before_root, slots_not_moved, unmoved_entries, Path, IsAccepted, IsFileOrDirectory, BeginsWithSuperblock, IsDirectoryAtPath, all_entries, Each, each_weaker}
 use Rattle.std.proofs.lemmas.Bool.{leb-true}
 use Rattle.lfs_model.specs.declared.limits.AcceptedVersions.{AcceptedVersions}
 use Rattle.lfs_model.specs.format.Names.{name_limit}
@@ -18,11 +18,11 @@ right : (a b : Bool) → (a && b) ≡ true → b ≡ true
 right true b e = e
 right false b e = absurd (cc)
 
-entry_fits : (s : Slot) → IsTreeEntry s → may_fit s
+entry_fits : (s : Slot) → IsFileOrDirectory s → may_fit s
 entry_fits s h k = leb-true (length s.name) name_limit (right (is_component s.name) (nat_le (length s.name) name_limit) h.name)
 
-entries_fit : (slots : List Slot) → All IsTreeEntry slots → Each may_fit slots
-entries_fit slots h = each_weaker IsTreeEntry may_fit entry_fits slots (recursion_from_All IsTreeEntry slots h)
+entries_fit : (slots : List Slot) → All IsFileOrDirectory slots → Each may_fit slots
+entries_fit slots h = each_weaker IsFileOrDirectory may_fit entry_fits slots (recursion_from_All IsFileOrDirectory slots h)
 
 headed_fit : (versions : AcceptedVersions) (bytes : List ℕ) (slots : List Slot) → BeginsWithSuperblock versions bytes slots → Each may_fit slots
 headed_fit versions bytes [] h = tt
@@ -42,8 +42,8 @@ pairs_fit disk ps ok =
     each_parted (λ p. Each may_fit p.content.slots) n ps
     (each_weaker (λ (p : Pair). BeginsWithSuperblock disk.profile.versions s.0 p.content.slots) (λ (p : Pair). Each may_fit p.content.slots) (λ p h. headed_fit disk.profile.versions s.0 p.content.slots h) (take n ps)
     (recursion_from_All (λ (p : Pair). BeginsWithSuperblock disk.profile.versions s.0 p.content.slots) (take n ps) s.1.1))
-    (each_weaker (λ (p : Pair). All IsTreeEntry p.content.slots) (λ (p : Pair). Each may_fit p.content.slots) (λ p h. entries_fit p.content.slots h) (drop n ps)
-    (recursion_from_All (λ (p : Pair). All IsTreeEntry p.content.slots) (drop n ps) ok.slots))
+    (each_weaker (λ (p : Pair). All IsFileOrDirectory p.content.slots) (λ (p : Pair). Each may_fit p.content.slots) (λ p h. entries_fit p.content.slots h) (drop n ps)
+    (recursion_from_All (λ (p : Pair). All IsFileOrDirectory p.content.slots) (drop n ps) ok.slots))
 
 -- ---- what they show
 
@@ -70,7 +70,7 @@ fit_shown (s ∷ slots) h = go (is_superblock s) refl (fit_shown slots h.1)
     go false e rest = (h.0 e, rest)
 
 -- each entry of a directory has a short name
-pub fitting_names : (disk : Disk) (ps : List Pair) (path : Path) (at : ℕ × ℕ) → IsAccepted disk ps → LeadsTo ps path at → Each name_fits (all_entries ps at)
+pub fitting_names : (disk : Disk) (ps : List Pair) (path : Path) (at : ℕ × ℕ) → IsAccepted disk ps → IsDirectoryAtPath ps path at → Each name_fits (all_entries ps at)
 fitting_names disk ps path at ok leads =
     each_visible name_fits disk ps path at ok leads
     (each_weaker (λ (p : Pair). Each may_fit p.content.slots) (λ (p : Pair). Each name_fits (unmoved_entries (pairs_gstate ps) p))

@@ -1,7 +1,7 @@
 -- A search among the slots of a log, as one among the slots of its content.
 use Rattle.std.proofs.Common.{ℕ, zero, suc, ◌≡◌, ◌⊎◌, inl, inr, ◌<◌, ◌==◌, ◌&&◌, Bool, true, false, cond, not, List, [], ◌∷◌, ◌++◌, length, length-append, rules, Option, Some, None, T, refl, sym, ap, ap₂, slice_get, subst, ◌∙◌, arith, eqb-true, Ordering, Less, Equal, Greater}
 use Rattle.std.specs.Prelude.{IsSome}
-use Rattle.lfs_lookup.proofs.Common.{option_and_then, option_map, option_map_or, AllByRecursion, ne_eqb, same_Some, Name, name_cmp, same_name, is_less, Slot, PairContent, is_superblock, is_superblock_kind, RawSlot, RawContent, complete_content, complete_slot, complete_slots, slot_of_id, kind_of_type, decoded_struct, superblock_first, IsAllowedPart, AllowedIfAny, IsFormedSlot, AreWellFormed, IsWellFormed, complete_parts, completed_parts, entry_slots, HasName, FirstIsGreater, BelongsAtId, IsAbsentExcept}
+use Rattle.lfs_lookup.proofs.Common.{option_and_then, option_map, option_map_or, AllByRecursion, ne_eqb, same_Some, Name, name_cmp, same_name, is_less, Slot, PairContent, is_superblock, is_superblock_kind, RawSlot, RawContent, decoded_content, decoded_slot, decoded_slots, slot_of_id, kind_of_type, decoded_struct, begins_with_superblock, IsNameOrStruct, IsNameOrStructIfAny, IsWellFormedSlot, AreWellFormed, IsWellFormed, complete_parts, completed_parts, entry_slots, HasName, BeginsWithGreaterName, NameBelongsAtId, IsNameAbsentExcept}
 use Rattle.std.specs.Ordering.{ordering_reverse}
 use Rattle.std.proofs.Math.Dec.{eqb_refl}
 use Rattle.lfs_model.proofs.Orders.{name_order, same_by}
@@ -16,10 +16,10 @@ use Rattle.lfs_tag.specs.declared.content.NameOrStruct.{NameOrStruct}
 
 -- ---- one slot
 
-pub entry_is : (s : RawSlot) (t : Slot) → IsFormedSlot s → complete_slot s ≡ Some t → entry_name s ≡ cond (is_superblock t) None (Some t.name)
+pub entry_is : (s : RawSlot) (t : Slot) → IsWellFormedSlot s → decoded_slot s ≡ Some t → entry_name s ≡ cond (is_superblock t) None (Some t.name)
 entry_is s t h e = go s.name s.struct h.name e
   where
-    go : (n p : Option (ℕ × List ℕ)) → AllowedIfAny 0 n →
+    go : (n p : Option (ℕ × List ℕ)) → IsNameOrStructIfAny 0 n →
         option_and_then (λ name. option_map (λ struct. record { kind = kind_of_type name.0; name = name.1; struct = decoded_struct struct.0 struct.1; attributes = s.attributes }) p) n ≡ Some t →
         option_and_then (λ name. cond (name.0 == superblock_name_type) None (Some name.1)) n ≡ cond (is_superblock t) None (Some t.name)
     go None p k f = absurd (cc)
@@ -49,7 +49,7 @@ and_true : (b : Bool) → (b && true) ≡ b
 and_true true = refl
 and_true false = refl
 
-named_first : (passes : Name → Bool) (s : RawSlot) (rest : List RawSlot) (t : Slot) → IsFormedSlot s → complete_slot s ≡ Some t → passes_name_test passes None (s ∷ rest) 0 ≡ passing passes t
+named_first : (passes : Name → Bool) (s : RawSlot) (rest : List RawSlot) (t : Slot) → IsWellFormedSlot s → decoded_slot s ≡ Some t → passes_name_test passes None (s ∷ rest) 0 ≡ passing passes t
 named_first passes s rest t h e = and_true (option_map_or passes (entry_name s) false) ∙ ap (λ o. option_map_or passes o false) (entry_is s t h e) ∙ go (is_superblock t)
   where
     go : (b : Bool) → option_map_or passes (cond b None (Some t.name)) false ≡ cond b false (passes t.name)
@@ -72,7 +72,7 @@ not_passed passes t h e = sym (ap (λ b. cond b false (passes t.name)) e) ∙ h
 
 -- ---- found
 
-pub stands : (name : Name) (raw : List RawSlot) (slots : List Slot) (id : ℕ) → AreWellFormed raw → complete_slots raw ≡ Some slots → passes_name_test (same_name name) None raw id ≡ true → HasName slots name id
+pub stands : (name : Name) (raw : List RawSlot) (slots : List Slot) (id : ℕ) → AreWellFormed raw → decoded_slots raw ≡ Some slots → passes_name_test (same_name name) None raw id ≡ true → HasName slots name id
 stands name [] slots id h e k = absurd (cc)
 stands name (s ∷ raw) slots zero h e k =
     let p = complete_parts s raw slots e in
@@ -105,10 +105,10 @@ less_first by name t slots same behind rest = go (is_superblock t) refl
         let g = is_greater (name_cmp by name t.name) (same_by by name t.name ∙ not_passed (same_name name) t same e) (not_passed (comes_after by name) t behind e) in
         ((name_order by).antisymm t.name name ∙ ap ordering_reverse g, rest)
 
-pub belongs : {by : NameOrder} (name : Name) (raw : List RawSlot) (slots : List Slot) (id : ℕ) → AreWellFormed raw → complete_slots raw ≡ Some slots → IsInsertionId by name None raw id → BelongsAtId by slots name id
+pub belongs : {by : NameOrder} (name : Name) (raw : List RawSlot) (slots : List Slot) (id : ℕ) → AreWellFormed raw → decoded_slots raw ≡ Some slots → IsInsertionId by name None raw id → NameBelongsAtId by slots name id
 belongs {by} name raw slots zero h e p = record { left = []; right = slots; held = refl; number = refl; less = tt; greater = go raw slots h e p.greater; fronted = plain raw slots h e p.greater }
   where
-    go : (raw : List RawSlot) (slots : List Slot) → AreWellFormed raw → complete_slots raw ≡ Some slots → (0 < length raw → passes_name_test (comes_after by name) None raw 0 ≡ true) → (slots ≡ []) ⊎ FirstIsGreater by name (entry_slots slots)
+    go : (raw : List RawSlot) (slots : List Slot) → AreWellFormed raw → decoded_slots raw ≡ Some slots → (0 < length raw → passes_name_test (comes_after by name) None raw 0 ≡ true) → (slots ≡ []) ⊎ BeginsWithGreaterName by name (entry_slots slots)
     go [] slots h e k = inl (sym (same_Some [] slots e))
     go (s ∷ raw) slots h e k =
         let p = complete_parts s raw slots e in
@@ -120,12 +120,12 @@ belongs {by} name raw slots zero h e p = record { left = []; right = slots; held
           above = is_below (name_cmp by name p.first.name) ok.named;
         })
 
-    plain : (raw : List RawSlot) (slots : List Slot) → AreWellFormed raw → complete_slots raw ≡ Some slots → (0 < length raw → passes_name_test (comes_after by name) None raw 0 ≡ true) → superblock_first slots ≡ false
-    plain [] slots h e k = ap superblock_first (sym (same_Some [] slots e))
+    plain : (raw : List RawSlot) (slots : List Slot) → AreWellFormed raw → decoded_slots raw ≡ Some slots → (0 < length raw → passes_name_test (comes_after by name) None raw 0 ≡ true) → begins_with_superblock slots ≡ false
+    plain [] slots h e k = ap begins_with_superblock (sym (same_Some [] slots e))
     plain (s ∷ raw) slots h e k =
         let p = complete_parts s raw slots e in
         let ok = passed (comes_after by name) p.first (sym (named_first (comes_after by name) s raw p.first h.0 p.is_first) ∙ k (omega arith)) in
-        ap superblock_first p.all_are ∙ ok.entry
+        ap begins_with_superblock p.all_are ∙ ok.entry
 belongs {by} name [] slots (suc id) h e p = absurd (let w = p.within in omega arith)
 belongs {by} name (s ∷ raw) slots (suc id) h e p =
     let c = complete_parts s raw slots e in
@@ -151,13 +151,13 @@ belongs {by} name (s ∷ raw) slots (suc id) h e p =
 pub record IsReadAt (raw : List RawSlot) (id : ℕ) (t : Slot) : Type 0 where
   pub part : ℕ × List ℕ
   pub is : (slot_of_id raw id).struct ≡ Some part
-  pub is_part : IsAllowedPart 2 part
+  pub is_part : IsNameOrStruct 2 part
   pub struct : t.struct ≡ decoded_struct part.0 part.1
 
-read_first : (s : RawSlot) (raw : List RawSlot) (t : Slot) → IsFormedSlot s → complete_slot s ≡ Some t → IsReadAt (s ∷ raw) 0 t
+read_first : (s : RawSlot) (raw : List RawSlot) (t : Slot) → IsWellFormedSlot s → decoded_slot s ≡ Some t → IsReadAt (s ∷ raw) 0 t
 read_first s raw t h e = go s.name s.struct refl h.struct e
   where
-    go : (n p : Option (ℕ × List ℕ)) → s.struct ≡ p → AllowedIfAny 2 p
+    go : (n p : Option (ℕ × List ℕ)) → s.struct ≡ p → IsNameOrStructIfAny 2 p
         → option_and_then (λ name. option_map (λ struct. record { kind = kind_of_type name.0; name = name.1; struct = decoded_struct struct.0 struct.1; attributes = s.attributes }) p) n ≡ Some t → IsReadAt (s ∷ raw) 0 t
     go None p is k f = absurd (cc)
     go (Some n) None is k f = absurd (cc)
@@ -168,7 +168,7 @@ read_first s raw t h e = go s.name s.struct refl h.struct e
       struct = ap (λ (x : Slot). x.struct) (sym (same_Some (record { kind = kind_of_type n.0; name = n.1; struct = decoded_struct p.0 p.1; attributes = s.attributes }) t f));
     }
 
-pub read_at : (raw : List RawSlot) (slots left : List Slot) (t : Slot) (right : List Slot) → AreWellFormed raw → complete_slots raw ≡ Some slots → slots ≡ left ++ t ∷ right → IsReadAt raw (length left) t
+pub read_at : (raw : List RawSlot) (slots left : List Slot) (t : Slot) (right : List Slot) → AreWellFormed raw → decoded_slots raw ≡ Some slots → slots ≡ left ++ t ∷ right → IsReadAt raw (length left) t
 read_at [] slots left t right h e is = absurd (let k = ap length (same_Some [] slots e ∙ is) in let l = length-append left (t ∷ right) in omega (arith, k, l))
 read_at (s ∷ raw) slots [] t right h e is =
     let p = complete_parts s raw slots e in
@@ -183,7 +183,7 @@ read_at (s ∷ raw) slots (x ∷ left) t right h e is =
 -- ---- the answer of a search
 
 -- the name by which a slot can be looked up
-name_at_id : (raw : List RawSlot) (slots : List Slot) (id : ℕ) (t : Slot) → AreWellFormed raw → complete_slots raw ≡ Some slots → slice_get slots id ≡ Some t → entry_name (slot_of_id raw id) ≡ cond (is_superblock t) None (Some t.name)
+name_at_id : (raw : List RawSlot) (slots : List Slot) (id : ℕ) (t : Slot) → AreWellFormed raw → decoded_slots raw ≡ Some slots → slice_get slots id ≡ Some t → entry_name (slot_of_id raw id) ≡ cond (is_superblock t) None (Some t.name)
 name_at_id [] slots id t h e is = absurd (let k : slots ≡ [] = sym (same_Some [] slots e) in let m = ap (λ z. slice_get z id) k in cc)
 name_at_id (s ∷ raw) slots zero t h e is =
     let p = complete_parts s raw slots e in
@@ -217,23 +217,23 @@ skip_false : (skip : Option ℕ) (id : ℕ) → (skip ≡ Some id → ⊥) → o
 skip_false None id h = refl
 skip_false (Some k) id h = ne_eqb k id (λ e. h (ap Some e))
 
-module _ (by : NameOrder) (content : PairContent) (name : Name) (skip : Option ℕ) (raw : RawContent) (logged : IsWellFormed raw) (complete_slot : complete_content raw ≡ Some content) where
+module _ (by : NameOrder) (content : PairContent) (name : Name) (skip : Option ℕ) (raw : RawContent) (logged : IsWellFormed raw) (decoded_slot : decoded_content raw ≡ Some content) where
   pub stands_in : (id : ℕ) → IsNameId name skip raw.slots id → HasName content.slots name id
   stands_in id found =
       let k = kept_from (option_map_or (same_name name) (entry_name (slot_of_id raw.slots id)) false) (option_map_or (λ k. k == id) skip false) found.named in
-      stands name raw.slots content.slots id logged.slots (completed_parts raw content complete_slot).slots (and_true (option_map_or (same_name name) (entry_name (slot_of_id raw.slots id)) false) ∙ k.named)
+      stands name raw.slots content.slots id logged.slots (completed_parts raw content decoded_slot).slots (and_true (option_map_or (same_name name) (entry_name (slot_of_id raw.slots id)) false) ∙ k.named)
 
   pub kept_in : (id : ℕ) → IsNameId name skip raw.slots id → skip ≡ Some id → ⊥
   kept_in id found is =
       let k = kept_from (option_map_or (same_name name) (entry_name (slot_of_id raw.slots id)) false) (option_map_or (λ k. k == id) skip false) found.named in
       not_skipped skip id k.kept is
 
-  pub belongs_in : (id : ℕ) → IsInsertionId by name skip raw.slots id → skip ≡ None → BelongsAtId by content.slots name id
-  belongs_in id place none = belongs name raw.slots content.slots id logged.slots (completed_parts raw content complete_slot).slots (subst (λ o. IsInsertionId by name o raw.slots id) none place)
+  pub belongs_in : (id : ℕ) → IsInsertionId by name skip raw.slots id → skip ≡ None → NameBelongsAtId by content.slots name id
+  belongs_in id place none = belongs name raw.slots content.slots id logged.slots (completed_parts raw content decoded_slot).slots (subst (λ o. IsInsertionId by name o raw.slots id) none place)
 
-  pub absent_in : (id : ℕ) → IsInsertionId by name skip raw.slots id → IsAbsentExcept skip content.slots name
+  pub absent_in : (id : ℕ) → IsInsertionId by name skip raw.slots id → IsNameAbsentExcept skip content.slots name
   absent_in id place other s at entry not_passed same =
-      let n = name_at_id raw.slots content.slots other s logged.slots (completed_parts raw content complete_slot).slots at in
+      let n = name_at_id raw.slots content.slots other s logged.slots (completed_parts raw content decoded_slot).slots at in
       let m = ap (λ b. option_map_or (same_name name) (cond b None (Some s.name)) false) entry in
       let w = ap (same_name name) same ∙ same_itself name in
       let f = skip_false skip other not_passed in
@@ -241,7 +241,7 @@ module _ (by : NameOrder) (content : PairContent) (name : Name) (skip : Option �
       let j = sym (ap (λ x. x && true) (m ∙ w)) ∙ k in cc)
 
   pub read_there : (id : ℕ) (s : HasName content.slots name id) → IsReadAt raw.slots id s.slot
-  read_there id s = subst (λ (i : ℕ). IsReadAt raw.slots i s.slot) s.number (read_at raw.slots content.slots s.left s.slot s.right logged.slots (completed_parts raw content complete_slot).slots s.held)
+  read_there id s = subst (λ (i : ℕ). IsReadAt raw.slots i s.slot) s.number (read_at raw.slots content.slots s.left s.slot s.right logged.slots (completed_parts raw content decoded_slot).slots s.held)
 
 -- ---- a part that is read
 

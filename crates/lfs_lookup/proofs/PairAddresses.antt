@@ -5,7 +5,7 @@ use Rattle.lfs_lookup.proofs.Common.{AllByRecursion, same_Some, IsPairAt, same_p
 use Rattle.std.specs.List.{IsDistinct}
 use Rattle.std.proofs.lemmas.List.{take_more}
 use Rattle.std.proofs.lemmas.Option.{slice_get-map}
-use Rattle.lfs_model.proofs.Counts.{number_occurrences, distinct_from_once, once_from_distinct}
+use Rattle.lfs_model.proofs.Counts.{occurrence_count, distinct_from_once, once_from_distinct}
 
 -- ---- no two pairs have a block in common
 
@@ -16,7 +16,7 @@ addresses_append (x ∷ xs) ys = ap (λ zs. x.at ∷ zs) (addresses_append xs ys
 pub next_added : (ps : List Pair) (index : ℕ) (d : Pair) → index < length ps → pairs_addresses (take index ps) ++ (get_or ps index d).at ∷ [] ≡ pairs_addresses (take (index + 1) ps)
 next_added ps index d below = sym (ap pairs_addresses (take_more ps index d below) ∙ addresses_append (take index ps) (get_or ps index d ∷ []))
 
-first_count : (b n : ℕ) (ps : List Pair) → number_occurrences b (blocks_of_addresses (pairs_addresses (take n ps))) ≤ number_occurrences b (pairs_blocks ps)
+first_count : (b n : ℕ) (ps : List Pair) → occurrence_count b (blocks_of_addresses (pairs_addresses (take n ps))) ≤ occurrence_count b (pairs_blocks ps)
 first_count b zero ps = omega arith
 first_count b (suc n) [] = omega arith
 first_count b (suc n) (p ∷ ps) = let rest = first_count b n ps in omega arith

@@ -1,7 +1,7 @@
 -- The blocks that were used last, as one more is brought.
 use Rattle.std.proofs.Common.{ℕ, zero, suc, ◌≡◌, ◌<◌, ◌≤◌, Bool, true, false, cond, not, nat_eq, List, [], ◌∷◌, length, take, Option, Some, None, Result, Ok, Err, refl, sym, ap, subst, ◌∙◌, arith, eqb-true, is_some}
 use Rattle.std.specs.Prelude.{IsSome, OnOk}
-use Rattle.lfs_lookup.proofs.Common.{AllByRecursion, CachedBlocks, cache_limit, disk_block, read_count, Pair, active_block_at, KeptThread, ThreadView, cached_log, thread_pair, ArePairsCached, KeepsCachedPairs, BecomesMostRecent, IsLastUsed, StayCached}
+use Rattle.lfs_lookup.proofs.Common.{AllByRecursion, CachedBlocks, cache_limit, disk_block, read_count, Pair, active_block_at, KeptThread, ThreadView, cached_log, thread_pair, ArePairsCached, KeepsCachedPairs, BecomesMostRecent, IsRecentlyUsed, CachedBlocksStayCached}
 use Rattle.std.proofs.lemmas.List.{take-take}
 use Rattle.lfs_device.specs.declared.error.Error.{Error}
 use Rattle.lfs_model.specs.layers.Cache.{cached_bytes, cache_with, cache_without}
@@ -11,7 +11,7 @@ same : (b : ℕ) → nat_eq b b ≡ true
 same b = search arith
 
 -- no block is one of none
-in_none : (b : ℕ) → IsLastUsed 0 [] b → ⊥
+in_none : (b : ℕ) → IsRecentlyUsed 0 [] b → ⊥
 in_none b h = absurd (cc)
 
 here : (t : Bool) (bytes : List ℕ) (o : Option (List ℕ)) → t ≡ true → IsSome (cond t (Some bytes) o)
@@ -25,23 +25,23 @@ elsewhere : (t : Bool) (bytes : List ℕ) (o : Option (List ℕ)) → t ≡ fals
 elsewhere t bytes o e h = subst (λ z. IsSome (cond z (Some bytes) o)) e h
 
 -- one of so many is one of more
-pub wider : (m n c : ℕ) (cache : CachedBlocks) → m ≤ n → IsLastUsed m cache c → IsLastUsed n cache c
+pub wider : (m n c : ℕ) (cache : CachedBlocks) → m ≤ n → IsRecentlyUsed m cache c → IsRecentlyUsed n cache c
 wider zero n c cache l h = absurd (in_none c h)
 wider (suc m) zero c cache l h = absurd (omega arith)
 wider (suc m) (suc n) c [] l h = absurd (in_none c h)
 wider (suc m) (suc n) c (e ∷ es) l h = go (nat_eq c e.0) (wider m n c es (omega arith)) h
   where
-    go : (t : Bool) → (IsLastUsed m es c → IsLastUsed n es c) → IsSome (cond t (Some e.1) (cached_bytes (take m es) c)) → IsSome (cond t (Some e.1) (cached_bytes (take n es) c))
+    go : (t : Bool) → (IsRecentlyUsed m es c → IsRecentlyUsed n es c) → IsSome (cond t (Some e.1) (cached_bytes (take m es) c)) → IsSome (cond t (Some e.1) (cached_bytes (take n es) c))
     go true next k = refl
     go false next k = next k
 
 -- and is cached
-pub is_cached : (n c : ℕ) (cache : CachedBlocks) → IsLastUsed n cache c → IsSome (cached_bytes cache c)
+pub is_cached : (n c : ℕ) (cache : CachedBlocks) → IsRecentlyUsed n cache c → IsSome (cached_bytes cache c)
 is_cached zero c cache h = absurd (in_none c h)
 is_cached (suc n) c [] h = absurd (in_none c h)
 is_cached (suc n) c (e ∷ es) h = go (nat_eq c e.0) (is_cached n c es) h
   where
-    go : (t : Bool) → (IsLastUsed n es c → IsSome (cached_bytes es c)) → IsSome (cond t (Some e.1) (cached_bytes (take n es) c)) → IsSome (cond t (Some e.1) (cached_bytes es c))
+    go : (t : Bool) → (IsRecentlyUsed n es c → IsSome (cached_bytes es c)) → IsSome (cond t (Some e.1) (cached_bytes (take n es) c)) → IsSome (cond t (Some e.1) (cached_bytes es c))
     go true next k = refl
     go false next k = next k
 
@@ -50,25 +50,25 @@ module _ (b c : ℕ) (other : nat_eq c b ≡ false) where
   not_here k is = ap (λ z. nat_eq c z) (sym (eqb-true b k is)) ∙ other
 
   -- another block goes
-  past : (n : ℕ) (cache : CachedBlocks) → IsLastUsed n cache c → IsLastUsed n (cache_without cache b) c
+  past : (n : ℕ) (cache : CachedBlocks) → IsRecentlyUsed n cache c → IsRecentlyUsed n (cache_without cache b) c
   past zero cache h = absurd (in_none c h)
   past (suc n) [] h = absurd (in_none c h)
   past (suc n) (e ∷ es) h = go (nat_eq b e.0) refl (past n es)
     where
-      behind : (t : Bool) → (IsLastUsed n es c → IsLastUsed n (cache_without es b) c) → IsSome (cond t (Some e.1) (cached_bytes (take n es) c)) → IsSome (cond t (Some e.1) (cached_bytes (take n (cache_without es b)) c))
+      behind : (t : Bool) → (IsRecentlyUsed n es c → IsRecentlyUsed n (cache_without es b) c) → IsSome (cond t (Some e.1) (cached_bytes (take n es) c)) → IsSome (cond t (Some e.1) (cached_bytes (take n (cache_without es b)) c))
       behind true next k = refl
       behind false next k = next k
 
-      go : (t : Bool) → nat_eq b e.0 ≡ t → (IsLastUsed n es c → IsLastUsed n (cache_without es b) c) → IsLastUsed (suc n) (cond (not t) (e ∷ cache_without es b) (cache_without es b)) c
+      go : (t : Bool) → nat_eq b e.0 ≡ t → (IsRecentlyUsed n es c → IsRecentlyUsed n (cache_without es b) c) → IsRecentlyUsed (suc n) (cond (not t) (e ∷ cache_without es b) (cache_without es b)) c
       go true is next = wider n (suc n) c (cache_without es b) (omega arith) (next (elsewhere (nat_eq c e.0) e.1 (cached_bytes (take n es) c) (not_here e.0 is) h))
       go false is next = behind (nat_eq c e.0) next h
 
   -- where the one that goes is as recent, there is one fewer
-  closer : (cache : CachedBlocks) (n : ℕ) → IsLastUsed (suc n) cache b → IsLastUsed (suc n) cache c → IsLastUsed n (cache_without cache b) c
+  closer : (cache : CachedBlocks) (n : ℕ) → IsRecentlyUsed (suc n) cache b → IsRecentlyUsed (suc n) cache c → IsRecentlyUsed n (cache_without cache b) c
   closer [] n g h = absurd (in_none c h)
   closer (e ∷ es) n g h = go (nat_eq b e.0) refl (closer es) g
     where
-      deeper : (n : ℕ) → ((m : ℕ) → IsLastUsed (suc m) es b → IsLastUsed (suc m) es c → IsLastUsed m (cache_without es b) c) → IsLastUsed n es b → IsLastUsed (suc n) (e ∷ es) c → IsLastUsed n (e ∷ cache_without es b) c
+      deeper : (n : ℕ) → ((m : ℕ) → IsRecentlyUsed (suc m) es b → IsRecentlyUsed (suc m) es c → IsRecentlyUsed m (cache_without es b) c) → IsRecentlyUsed n es b → IsRecentlyUsed (suc n) (e ∷ es) c → IsRecentlyUsed n (e ∷ cache_without es b) c
       deeper zero next k h = absurd (in_none b k)
       deeper (suc n) next k h = by (nat_eq c e.0) h
         where
@@ -76,14 +76,14 @@ module _ (b c : ℕ) (other : nat_eq c b ≡ false) where
           by true z = refl
           by false z = next n k z
 
-      go : (t : Bool) → nat_eq b e.0 ≡ t → ((m : ℕ) → IsLastUsed (suc m) es b → IsLastUsed (suc m) es c → IsLastUsed m (cache_without es b) c) → IsSome (cond t (Some e.1) (cached_bytes (take n es) b))
-          → IsLastUsed n (cond (not t) (e ∷ cache_without es b) (cache_without es b)) c
+      go : (t : Bool) → nat_eq b e.0 ≡ t → ((m : ℕ) → IsRecentlyUsed (suc m) es b → IsRecentlyUsed (suc m) es c → IsRecentlyUsed m (cache_without es b) c) → IsSome (cond t (Some e.1) (cached_bytes (take n es) b))
+          → IsRecentlyUsed n (cond (not t) (e ∷ cache_without es b) (cache_without es b)) c
       go true is next k = past n es (elsewhere (nat_eq c e.0) e.1 (cached_bytes (take n es) c) (not_here e.0 is) h)
       go false is next k = deeper n next k h
 
 module _ (cache : CachedBlocks) (b : ℕ) (bytes : List ℕ) where
   -- those in front of the others
-  front : (n c : ℕ) → n < cache_limit → (nat_eq c b ≡ false → IsLastUsed n (cache_without cache b) c) → IsLastUsed (suc n) (cache_with cache b bytes) c
+  front : (n c : ℕ) → n < cache_limit → (nat_eq c b ≡ false → IsRecentlyUsed n (cache_without cache b) c) → IsRecentlyUsed (suc n) (cache_with cache b bytes) c
   front n c few h = go (nat_eq c b) refl
     where
       go : (t : Bool) → nat_eq c b ≡ t → IsSome (cond t (Some bytes) (cached_bytes (take n (take 7 (cache_without cache b))) c))
@@ -96,7 +96,7 @@ module _ (cache : CachedBlocks) (b : ℕ) (bytes : List ℕ) where
     others = λ n c few h. front n c few (λ other. past b c other n cache h);
   }
 
-  pub stay_loaded : IsLastUsed cache_limit cache b → StayCached cache (cache_with cache b bytes)
+  pub stay_loaded : IsRecentlyUsed cache_limit cache b → CachedBlocksStayCached cache (cache_with cache b bytes)
   stay_loaded there c h = front 7 c (omega arith) (λ other. closer b c other cache 7 there h)
 
 -- ---- along the pairs of a directory
@@ -130,7 +130,7 @@ pub loads_one : {X : Type 0} (old new : ThreadView) (index : ℕ) (s : Result X 
     → OnOk s (new.cache ≡ loaded_in old index) → KeepsCachedPairs (thread_pair old.kept index ∷ []) old new s
 loads_one old new index s no_call was = record {
   none = λ there. ap (λ (t : KeptThread). read_count t.history) (no_call (is_cached cache_limit b old.cache there.0));
-  stay = λ there. after s (λ e. subst (StayCached old.cache) (sym e) (stay_loaded old.cache b (disk_block old.kept.disk b) there.0)) was;
+  stay = λ there. after s (λ e. subst (CachedBlocksStayCached old.cache) (sym e) (stay_loaded old.cache b (disk_block old.kept.disk b) there.0)) was;
   one = λ e. after s (λ e. (subst (BecomesMostRecent b old.cache) (sym e) (brought old.cache b (disk_block old.kept.disk b)), tt)) was;
 }
   where
@@ -141,7 +141,7 @@ loads_one old new index s no_call was = record {
 pub record HasKept (run rest : List Pair) (old now : ThreadView) : Type 0 where
   pub disk : now.kept.disk ≡ old.kept.disk
   pub none : ArePairsCached old run → read_count now.kept.history ≡ read_count old.kept.history
-  pub stay : ArePairsCached old run → StayCached old.cache now.cache
+  pub stay : ArePairsCached old run → CachedBlocksStayCached old.cache now.cache
   pub left : ArePairsCached old run → ArePairsCached old rest
 
 -- and where there is one alone it is still to be brought
@@ -160,19 +160,19 @@ module _ {X : Type 0} (run rest more : List Pair) (p : Pair) (old now new : Thre
   here_is_cached : ArePairsCached old run → ArePairsCached now (p ∷ [])
   here_is_cached there =
       let k = subst (ArePairsCached old) is (h.left there) in
-      (subst (λ d. IsLastUsed cache_limit now.cache (active_block_at d p.at)) (sym h.disk) (h.stay there _ k.0), tt)
+      (subst (λ d. IsRecentlyUsed cache_limit now.cache (active_block_at d p.at)) (sym h.disk) (h.stay there _ k.0), tt)
 
   pub none_on : ArePairsCached old run → read_count new.kept.history ≡ read_count old.kept.history
   none_on there = b.none (here_is_cached there) ∙ h.none there
 
-  pub stay_on : ArePairsCached old run → OnOk r (StayCached old.cache new.cache)
+  pub stay_on : ArePairsCached old run → OnOk r (CachedBlocksStayCached old.cache new.cache)
   stay_on there = after r (λ st x k. st x (h.stay there x k)) (b.stay (here_is_cached there))
 
   pub keeps_on : (x : X) → r ≡ Ok x → new.kept.disk ≡ now.kept.disk → HasKept run more old new
   keeps_on x ok same = record {
     disk = same ∙ h.disk;
     none = none_on;
-    stay = λ there. on_ok r x (StayCached old.cache new.cache) ok (stay_on there);
+    stay = λ there. on_ok r x (CachedBlocksStayCached old.cache new.cache) ok (stay_on there);
     left = λ there. (subst (ArePairsCached old) is (h.left there)).1;
   }
 

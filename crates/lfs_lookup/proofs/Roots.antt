@@ -1,7 +1,7 @@
 -- The root directory's entries are in the pairs along hard tails from the first pair of the thread on.
 use Rattle.std.proofs.Common.{ℕ, zero, suc, ◌≡◌, ◌<◌, ◌+◌, ◌∙◌, Bool, true, false, cond, not, ◌&&◌, ◌==◌, List, [], ◌∷◌, ◌++◌, length, map, filter, flat_map, drop, remove, slice_get, Some, refl, sym, ap, subst, arith}
 use Rattle.std.proofs.lemmas.Bool.{and_parts}
-use Rattle.lfs_lookup.proofs.Common.{Disk, Slot, Gstate, is_superblock, same_pair, Pair, pairs_from_root, pairs_gstate, has_no_entry, is_hard_tail, chain_may_continue, has_superblock, root_address, count_before_root, unmoved_entries, IsPairAt, IsAccepted, all_entries, led_directory, named_struct, joined_pairs, pair_entries_from, LeadsToPair}
+use Rattle.lfs_lookup.proofs.Common.{Disk, Slot, Gstate, is_superblock, same_pair, Pair, pairs_from_root, pairs_gstate, has_no_entry, is_hard_tail, chain_may_continue, has_superblock, root_address, count_before_root, unmoved_entries, IsPairAt, IsAccepted, all_entries, led_directory, named_struct, joined_pairs, directory_entries_from, LeadsToPair}
 use Rattle.lfs_model.specs.format.Thread.{first_address}
 use Rattle.lfs_model.proofs.Pairs.{pair_itself}
 use Rattle.lfs_lookup.proofs.Directories.{own_run}
@@ -67,7 +67,7 @@ root_begins disk ps ok = go (pairs_from_root ps) refl
         absurd (none d.before d.first (d.run ++ d.after) (sym e ∙ d.is))
     go (p ∷ rest) e = record { pair = p; there = dropped ps (count_before_root ps) p rest e; same = ap (λ a. same_pair p.at a) (ap first_address e) ∙ pair_itself p.at }
 
-pub root_shapes : (disk : Disk) (ps : List Pair) → IsAccepted disk ps → pair_entries_from ps (Some 0) ≡ map named_struct (all_entries ps (root_address ps))
+pub root_shapes : (disk : Disk) (ps : List Pair) → IsAccepted disk ps → directory_entries_from ps (Some 0) ≡ map named_struct (all_entries ps (root_address ps))
 root_shapes disk [] ok = absurd (let l = ok.thread.links in cc)
 root_shapes disk (p ∷ ps) ok =
     ap (map named_struct) (chain_shows (pairs_gstate (p ∷ ps)) (p ∷ ps) ∙ own_run disk (p ∷ ps) [] (root_address (p ∷ ps)) (count_before_root (p ∷ ps)) ok refl (root_begins disk (p ∷ ps) ok))

@@ -1,6 +1,6 @@
 -- A search along all pairs of a directory that may skip a slot.
 use Rattle.std.proofs.Common.{ℕ, zero, suc, ◌≡◌, ◌<◌, ◌+◌, false, List, [], ◌∷◌, ◌++◌, length, drop, Option, refl, sym, ap, subst, ◌∙◌, arith, append_assoc, length-append, get_or}
-use Rattle.lfs_lookup.proofs.Common.{IsDirectoryPair, HasHardTail, Name, Pair, is_hard_tail, each_append, IsAbsent, IsAbsentExcept, IsNameAt, HasNameUnskipped, skipped_id}
+use Rattle.lfs_lookup.proofs.Common.{IsDirectoryPair, HasHardTail, Name, Pair, is_hard_tail, each_append, IsNameAbsentFrom, IsNameAbsentExcept, IsNameAtVisibleSlot, IsNameAtUnskipped, skipped_id}
 use Rattle.lfs_lookup.specs.declared.entry.FileOrDirectory.{FileOrDirectory}
 use Rattle.lfs_lookup.specs.declared.search.SlotPosition.{SlotPosition}
 use Rattle.lfs_lookup.proofs.Walked.{at_index, begun_here}
@@ -49,7 +49,7 @@ reached_next ps first index q d r hard below = go r.rest r.behind
 
 -- it is in this pair
 pub shown_here : (ps : List Pair) (moved : Option SlotPosition) (first : ℕ) (name : Name) (spot : SlotPosition) (q : Pair) (entry : FileOrDirectory) → LeadsFromFresh ps first spot.pair q
-    → HasNameUnskipped (skipped_id moved spot.pair) q.content.slots name spot.id entry → IsNameAt ps moved first name spot entry
+    → IsNameAtUnskipped (skipped_id moved spot.pair) q.content.slots name spot.id entry → IsNameAtVisibleSlot ps moved first name spot entry
 shown_here ps moved first name spot q entry r s = record { stands = record { pair = q; rest = r.rest; place = r.behind; stands = s.stands }; shows = s.shows; kept = s.kept }
 
 drop_here : (ps : List Pair) (index : ℕ) (d : Pair) → index < length ps → drop index ps ≡ get_or ps index d ∷ drop (index + 1) ps
@@ -58,10 +58,10 @@ drop_here (p ∷ ps) zero d l = refl
 drop_here (p ∷ ps) (suc index) d l = let e : suc index + 1 ≡ suc (index + 1) = omega arith in drop_here ps index d (omega arith) ∙ ap (λ (n : ℕ). get_or ps index d ∷ drop n (p ∷ ps)) (sym e)
 
 -- it is absent as far as this pair, and so of all if it is of those behind
-pub absent_on : (ps : List Pair) (moved : Option SlotPosition) (index : ℕ) (name : Name) (d : Pair) (X : Type 0) → index < length ps → (IsAbsent moved index (drop index ps) name → X)
-    → IsAbsentExcept (skipped_id moved index) (get_or ps index d).content.slots name → IsAbsent moved (index + 1) (drop (index + 1) ps) name → X
-absent_on ps moved index name d X l so here behind = so (subst (λ z. IsAbsent moved index z name) (sym (drop_here ps index d l)) (here, λ hard. behind))
+pub absent_on : (ps : List Pair) (moved : Option SlotPosition) (index : ℕ) (name : Name) (d : Pair) (X : Type 0) → index < length ps → (IsNameAbsentFrom moved index (drop index ps) name → X)
+    → IsNameAbsentExcept (skipped_id moved index) (get_or ps index d).content.slots name → IsNameAbsentFrom moved (index + 1) (drop (index + 1) ps) name → X
+absent_on ps moved index name d X l so here behind = so (subst (λ z. IsNameAbsentFrom moved index z name) (sym (drop_here ps index d l)) (here, λ hard. behind))
 
-pub absent_end : (ps : List Pair) (moved : Option SlotPosition) (index : ℕ) (name : Name) (d : Pair) (X : Type 0) → index < length ps → (IsAbsent moved index (drop index ps) name → X)
-    → IsAbsentExcept (skipped_id moved index) (get_or ps index d).content.slots name → is_hard_tail (get_or ps index d).content.tail ≡ false → X
-absent_end ps moved index name d X l so here soft = so (subst (λ z. IsAbsent moved index z name) (sym (drop_here ps index d l)) (here, λ hard. absurd (let k = sym soft ∙ hard in cc)))
+pub absent_end : (ps : List Pair) (moved : Option SlotPosition) (index : ℕ) (name : Name) (d : Pair) (X : Type 0) → index < length ps → (IsNameAbsentFrom moved index (drop index ps) name → X)
+    → IsNameAbsentExcept (skipped_id moved index) (get_or ps index d).content.slots name → is_hard_tail (get_or ps index d).content.tail ≡ false → X
+absent_end ps moved index name d X l so here soft = so (subst (λ z. IsNameAbsentFrom moved index z name) (sym (drop_here ps index d l)) (here, λ hard. absurd (let k = sym soft ∙ hard in cc)))

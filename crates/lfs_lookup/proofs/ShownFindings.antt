@@ -1,12 +1,12 @@
 -- The result of a look-up, as a finding.
 use Rattle.std.proofs.Common.{ℕ, ◌≡◌, ◌<◌, ◌≤◌, ◌+◌, ◌∙◌, Bool, nat_lt, List, [], ◌∷◌, ◌++◌, length, drop, map, Option, Some, None, Ok, Err, option_map, sym, ap, subst, arith}
 use Rattle.std.specs.Prelude.{IfOk, IfSome, Result, sum_by}
-use Rattle.lfs_lookup.proofs.Common.{length-map, sum_by-append, sum_by-cons, AreByteBlocks, sorted_names, directory_pair_count, ancestor_paths, items_at, node_file_size, joined_count, Name, parents_refusal, slot_of, Gstate, Slot, Struct, Pair, pairs_gstate, count_before_root, Path, names_at, struct_node, directory_names, IsAccepted, struct_list_bytes, all_entries, disk_tree, run_length_is, KeptThread, IsLookupResult, IsStorage, IsFoundNode, IsPermutation, AreShorterFirst, NamedStruct, named_struct, AreInLimits, name_and_size, joined_count_from, pair_entries_from, LeadsToPair, IsUnhiddenResult, HidesOnlySlot}
+use Rattle.lfs_lookup.proofs.Common.{length-map, sum_by-append, sum_by-cons, AreByteBlocks, sorted_names, directory_pair_count, ancestor_paths, listed_entries_at, node_file_size, joined_pair_count, Name, parents_refusal, slot_of_path, Gstate, Slot, Struct, Pair, pairs_gstate, count_before_root, Path, names_at, struct_node, directory_names, IsAccepted, disk_list_bytes, all_entries, disk_tree, run_length_is, KeptThread, IsLookupResult, IsStorageOfStruct, IsFoundNode, IsPermutation, AreSortedShorterFirst, NamedStruct, named_struct, AreNamedStructsInLimits, name_and_size, hard_tail_count_from, directory_entries_from, LeadsToPair, IsVisibleLookupResult, IsOnlyMovedSlot}
 use Rattle.lfs_device.specs.declared.error.Error.{Error}
 use Rattle.lfs_model.proofs.Orders.{length_in_order}
 use Rattle.lfs_model.specs.declared.order.NameOrder.TheVariants.{ShorterFirst}
 use Rattle.lfs_model.specs.session.Operations as ops
-use Rattle.lfs_lookup.specs.AtPath.{FoundInlineFits, node_or_refusal, found_pair_number, has_entries_from}
+use Rattle.lfs_lookup.specs.AtPath.{FoundInlineFitsTag, node_or_refusal, found_directory_pair_index, has_entries_from}
 use Rattle.lfs_lookup.specs.Finds.{has_entry_beneath}
 use Rattle.lfs_lookup.specs.declared.entry.FileStorage.{FileStorage}
 use Rattle.lfs_lookup.specs.declared.entry.FileStorage.TheVariants as contents
@@ -31,16 +31,16 @@ pub few_own : (f : Path → ℕ) (path : Path) → sum_by f (ancestor_paths path
 few_own f path = let a = sum_by-append f (ancestor_paths path) (path ∷ []) in let b = sum_by-cons f path [] in omega (arith, a, b)
 
 -- what is shown where that slot counts as deleted which the global state names
-pub shows_at : (t : KeptThread) (names path : Path) (g : Gstate) (moved : Option SlotPosition) (r : Result VisiblePathLookup Error) → names ≡ path → g ≡ pairs_gstate t.pairs → HidesOnlySlot g moved 0 t.pairs → IfOk r (IsUnhiddenResult t moved names) → IfOk r (IsLookupResult t path)
+pub shows_at : (t : KeptThread) (names path : Path) (g : Gstate) (moved : Option SlotPosition) (r : Result VisiblePathLookup Error) → names ≡ path → g ≡ pairs_gstate t.pairs → IsOnlyMovedSlot g moved 0 t.pairs → IfOk r (IsVisibleLookupResult t moved names) → IfOk r (IsLookupResult t path)
 shows_at t names path g moved (Ok x) e is hides shows = record {
   moved = moved;
-  hides = subst (λ (z : Gstate). HidesOnlySlot z moved 0 t.pairs) is hides;
-  shows = subst (λ p. IsUnhiddenResult t moved p x) e shows;
+  hides = subst (λ (z : Gstate). IsOnlyMovedSlot z moved 0 t.pairs) is hides;
+  shows = subst (λ p. IsVisibleLookupResult t moved p x) e shows;
 }
 shows_at t names path g moved (Err x) e is hides shows = tt
 
 -- inline bytes are in the entry
-pub in_entry : (t : KeptThread) (path : Path) (s : VisiblePathLookup) → IsLookupResult t path s → FoundInlineFits s
+pub in_entry : (t : KeptThread) (path : Path) (s : VisiblePathLookup) → IsLookupResult t path s → FoundInlineFitsTag s
 in_entry t path shown.Root h = tt
 in_entry t path (shown.Directory spot first) h = tt
 in_entry t path (shown.File spot (contents.Inline len)) h = let (fault, (s, (bytes, (is, (l, short))))) = h.shows in short
@@ -69,15 +69,15 @@ module _ (t : KeptThread) (path : Path) (ok : IsAccepted t.disk t.pairs) where
 
   -- ---- the first pair of a directory
 
-  nameless : (x : Slot) (c : FileStorage) → slot_of t.pairs path ≡ Some x → IsStorage c x.struct → directory_names (disk_tree t.disk t.pairs path) ≡ []
+  nameless : (x : Slot) (c : FileStorage) → slot_of_path t.pairs path ≡ Some x → IsStorageOfStruct c x.struct → directory_names (disk_tree t.disk t.pairs path) ≡ []
   nameless x (contents.Inline len) e k =
-      ap (λ o. directory_names (option_map (λ (f : Slot). struct_node (struct_list_bytes t.disk) (all_entries t.pairs) f.attributes f.struct) o)) e
-      ∙ ap (λ (z : Struct). directory_names (Some (struct_node (struct_list_bytes t.disk) (all_entries t.pairs) x.attributes z))) k.1.0
+      ap (λ o. directory_names (option_map (λ (f : Slot). struct_node (disk_list_bytes t.disk) (all_entries t.pairs) f.attributes f.struct) o)) e
+      ∙ ap (λ (z : Struct). directory_names (Some (struct_node (disk_list_bytes t.disk) (all_entries t.pairs) x.attributes z))) k.1.0
   nameless x (contents.List head size) e k =
-      ap (λ o. directory_names (option_map (λ (f : Slot). struct_node (struct_list_bytes t.disk) (all_entries t.pairs) f.attributes f.struct) o)) e
-      ∙ ap (λ (z : Struct). directory_names (Some (struct_node (struct_list_bytes t.disk) (all_entries t.pairs) x.attributes z))) k
+      ap (λ o. directory_names (option_map (λ (f : Slot). struct_node (disk_list_bytes t.disk) (all_entries t.pairs) f.attributes f.struct) o)) e
+      ∙ ap (λ (z : Struct). directory_names (Some (struct_node (disk_list_bytes t.disk) (all_entries t.pairs) x.attributes z))) k
 
-  first_is : (root : ℕ) (s : VisiblePathLookup) → root ≡ count_before_root t.pairs → IsLookupResult t path s → IsFirstAt t path (found_pair_number root s)
+  first_is : (root : ℕ) (s : VisiblePathLookup) → root ≡ count_before_root t.pairs → IsLookupResult t path s → IsFirstAt t path (found_directory_pair_index root s)
   first_is root shown.Root r s = subst (λ (p : Path). LeadsToPair t.pairs p root) (sym s.shows) (root_leads t.disk t.pairs root ok r)
   first_is root (shown.Directory spot first) r s = s.shows.1.1
   first_is root (shown.File spot contents) r s = let (h, (at, k)) = s.shows in nameless at.stands.stands.slot contents at.slot k
@@ -85,7 +85,7 @@ module _ (t : KeptThread) (path : Path) (ok : IsAccepted t.disk t.pairs) where
   first_is root shown.ParentIsFile r s = ap directory_names (nothing_at t.disk t.pairs path (refused_none t.disk t.pairs path [] ops.NotDir s.shows))
   first_is root shown.ParentIsMissing r s = ap directory_names (nothing_at t.disk t.pairs path (refused_none t.disk t.pairs path [] ops.NoEnt s.shows))
 
-  pub first_at : (root : ℕ) (s : VisiblePathLookup) (from : Option ℕ) → root ≡ count_before_root t.pairs → IsLookupResult t path s → from ≡ found_pair_number root s → IsFirstAt t path from
+  pub first_at : (root : ℕ) (s : VisiblePathLookup) (from : Option ℕ) → root ≡ count_before_root t.pairs → IsLookupResult t path s → from ≡ found_directory_pair_index root s → IsFirstAt t path from
   first_at root s from r h e = subst (IsFirstAt t path) (sym e) (first_is root s r h)
 
   pub first_within : (now : List Pair) (from : Option ℕ) → now ≡ t.pairs → IsFirstAt t path from → IfSome from (λ first. first < length now)
@@ -93,10 +93,10 @@ module _ (t : KeptThread) (path : Path) (ok : IsAccepted t.disk t.pairs) where
   first_within now (Some first) e on = subst (λ ps. first < length ps) (sym e) (within t.pairs on.at first on.begins)
 
   -- its pairs are those of the path's directory
-  pub few_from : (now : List Pair) (from : Option ℕ) → now ≡ t.pairs → IsFirstAt t path from → joined_count_from now from ≤ directory_pair_count t.pairs path
+  pub few_from : (now : List Pair) (from : Option ℕ) → now ≡ t.pairs → IsFirstAt t path from → hard_tail_count_from now from ≤ directory_pair_count t.pairs path
   few_from now None e h = omega arith
   few_from now (Some first) e on =
-      let k = ap (λ ps. joined_count (drop first ps)) e ∙ run_length_is t.disk t.pairs path on.at first ok on.leads on.begins in
+      let k = ap (λ ps. joined_pair_count (drop first ps)) e ∙ run_length_is t.disk t.pairs path on.at first ok on.leads on.begins in
       omega (arith, k)
 
   -- ---- the entry at the path
@@ -109,16 +109,16 @@ module _ (t : KeptThread) (path : Path) (ok : IsAccepted t.disk t.pairs) where
       ∙ ap (λ (n : ℕ). nat_lt 0 n) (ap length (own_shapes t.disk t.pairs path on.at first ok on.leads on.begins) ∙ length-map (all_entries t.pairs on.at) named_struct ∙ sym (length-map (all_entries t.pairs on.at) (λ (s : Slot). s.name)) ∙ sym (length_in_order ShorterFirst (names_at (all_entries t.pairs) on.at)))
       ∙ ap (λ z. nat_lt 0 (length (directory_names z))) (sym d.is)
 
-  none_by_name : (found shapes : List NamedStruct) → found ≡ [] → AreShorterFirst found shapes → shapes ≡ []
+  none_by_name : (found shapes : List NamedStruct) → found ≡ [] → AreSortedShorterFirst found shapes → shapes ≡ []
   none_by_name found shapes are by_name = nothing_moved shapes (subst (λ (z : List NamedStruct). IsPermutation z shapes) are by_name.permutation)
 
-  pub short_from : (now : List Pair) (from : Option ℕ) (found shapes : List NamedStruct) → now ≡ t.pairs → IsFirstAt t path from → found ≡ pair_entries_from now from → AreShorterFirst found shapes
-      → AreByteBlocks t.disk.blocks → AreInLimits shapes
-  short_from now None found shapes e h are by_name bytes = subst AreInLimits (sym (none_by_name found shapes are by_name)) tt
+  pub short_from : (now : List Pair) (from : Option ℕ) (found shapes : List NamedStruct) → now ≡ t.pairs → IsFirstAt t path from → found ≡ directory_entries_from now from → AreSortedShorterFirst found shapes
+      → AreByteBlocks t.disk.blocks → AreNamedStructsInLimits shapes
+  short_from now None found shapes e h are by_name bytes = subst AreNamedStructsInLimits (sym (none_by_name found shapes are by_name)) tt
   short_from now (Some first) found shapes e on are by_name bytes = short_there t path ok now first found shapes e on are by_name bytes
 
-  pub listed_from : (now : List Pair) (from : Option ℕ) (found shapes : List NamedStruct) (listed : List ops.ListedEntry) → now ≡ t.pairs → IsFirstAt t path from → found ≡ pair_entries_from now from
-      → AreShorterFirst found shapes → SizedLists t.disk → listed ≡ map name_and_size shapes → listed ≡ items_at (disk_tree t.disk t.pairs) path
+  pub listed_from : (now : List Pair) (from : Option ℕ) (found shapes : List NamedStruct) (listed : List ops.ListedEntry) → now ≡ t.pairs → IsFirstAt t path from → found ≡ directory_entries_from now from
+      → AreSortedShorterFirst found shapes → SizedLists t.disk → listed ≡ map name_and_size shapes → listed ≡ listed_entries_at (disk_tree t.disk t.pairs) path
   listed_from now None found shapes listed e h are by_name lists k =
       k ∙ ap (map name_and_size) (none_by_name found shapes are by_name)
       ∙ sym (ap (map (λ name. let item : ops.ListedEntry = record { name = name; size = node_file_size (disk_tree t.disk t.pairs (path ++ name ∷ [])) } in item)) h)

@@ -1,7 +1,7 @@
 -- A search that skips a moved slot, in an accepted image.
 use Rattle.std.proofs.Common.{ℕ, zero, suc, ◌≡◌, ◌+◌, ◌==◌, ◌&&◌, Bool, true, false, cond, not, List, [], ◌∷◌, ◌++◌, length, drop, Option, Some, None, refl, sym, ap, ap₂, subst, ◌∙◌, arith, append_assoc, length-append, slice_get, filter, flat_map, remove, take, nat_eq}
 use Rattle.std.specs.List.{IsDistinct}
-use Rattle.lfs_lookup.proofs.Common.{option_and_then, same_Some, Disk, IsPairAt, IsDirectoryPair, Name, slot_of, Slot, Gstate, is_superblock, same_pair, Pair, pairs_gstate, unmoved_entries, pairs_blocks, pair_directories, pairs_from_root, directory_slots, root_address, count_before_root, moved_id, Path, entry_named, root_slot, IsAccepted, LeadsTo, all_entries, Each, each_append, listing, IsRun, run_directories, Apart, distinct_apart, distinct_right, entries_own, slot_there, begins_directory, HasDirectory, chain_of_thread, HidesOnlySlot, IsAbsent, IsAbsentExcept, IsNameAt, skipped_id}
+use Rattle.lfs_lookup.proofs.Common.{option_and_then, same_Some, Disk, IsPairAt, IsDirectoryPair, Name, slot_of_path, Slot, Gstate, is_superblock, same_pair, Pair, pairs_gstate, unmoved_entries, pairs_blocks, pair_directories, pairs_from_root, directory_slots, root_address, count_before_root, moved_id, Path, entry_named, root_slot, IsAccepted, IsDirectoryAtPath, all_entries, Each, each_append, listing, IsRun, run_directories, Apart, distinct_apart, distinct_right, entries_own, slot_there, begins_directory, HasDirectory, chain_of_thread, IsOnlyMovedSlot, IsNameAbsentFrom, IsNameAbsentExcept, IsNameAtVisibleSlot, skipped_id}
 use Rattle.lfs_model.proofs.Paths.{unlike_test}
 use Rattle.lfs_model.proofs.Searches as searches
 use Rattle.lfs_model.proofs.Searches.{IsDirectory}
@@ -83,7 +83,7 @@ visible_has g p u id e entry kept = go (g.kind == 0x4ff && same_pair g.pair p.at
 abbrev IsOther : Name → Slot → Type 0
 IsOther name s = s.name ≡ name → ⊥
 
-visible_absent : (g : Gstate) (p : Pair) (name : Name) → IsAbsentExcept (moved_id g p) p.content.slots name → Each (IsOther name) (unmoved_entries g p)
+visible_absent : (g : Gstate) (p : Pair) (name : Name) → IsNameAbsentExcept (moved_id g p) p.content.slots name → Each (IsOther name) (unmoved_entries g p)
 visible_absent g p name h = go (g.kind == 0x4ff && same_pair g.pair p.at) refl
   where
     go : (b : Bool) → (g.kind == 0x4ff && same_pair g.pair p.at) ≡ b → Each (IsOther name) (filter (λ s. not (is_superblock s)) (cond b (remove p.content.slots g.id) p.content.slots))
@@ -93,16 +93,16 @@ visible_absent g p name h = go (g.kind == 0x4ff && same_pair g.pair p.at) refl
 
 -- ---- along the pairs of a directory
 
-hides_behind : (g : Gstate) (moved : Option SlotPosition) (i : ℕ) (xs ys : List Pair) → HidesOnlySlot g moved i (xs ++ ys) → HidesOnlySlot g moved (i + length xs) ys
-hides_behind g moved i [] ys h = let e : i ≡ i + 0 = omega arith in subst (λ (n : ℕ). HidesOnlySlot g moved n ys) e h
-hides_behind g moved i (x ∷ xs) ys h = let e : i + 1 + length xs ≡ i + suc (length xs) = omega arith in subst (λ (n : ℕ). HidesOnlySlot g moved n ys) e (hides_behind g moved (i + 1) xs ys h.1)
+hides_behind : (g : Gstate) (moved : Option SlotPosition) (i : ℕ) (xs ys : List Pair) → IsOnlyMovedSlot g moved i (xs ++ ys) → IsOnlyMovedSlot g moved (i + length xs) ys
+hides_behind g moved i [] ys h = let e : i ≡ i + 0 = omega arith in subst (λ (n : ℕ). IsOnlyMovedSlot g moved n ys) e h
+hides_behind g moved i (x ∷ xs) ys h = let e : i + 1 + length xs ≡ i + suc (length xs) = omega arith in subst (λ (n : ℕ). IsOnlyMovedSlot g moved n ys) e (hides_behind g moved (i + 1) xs ys h.1)
 
-absent_run : (g : Gstate) (moved : Option SlotPosition) (index : ℕ) (p : Pair) (run after : List Pair) (name : Name) → IsRun (p ∷ run) → HidesOnlySlot g moved index (p ∷ (run ++ after))
-    → IsAbsent moved index (p ∷ (run ++ after)) name → Each (IsOther name) (flat_map (unmoved_entries g) (p ∷ run))
+absent_run : (g : Gstate) (moved : Option SlotPosition) (index : ℕ) (p : Pair) (run after : List Pair) (name : Name) → IsRun (p ∷ run) → IsOnlyMovedSlot g moved index (p ∷ (run ++ after))
+    → IsNameAbsentFrom moved index (p ∷ (run ++ after)) name → Each (IsOther name) (flat_map (unmoved_entries g) (p ∷ run))
 absent_run g moved index p [] after name is hides absent =
-    each_append (IsOther name) (unmoved_entries g p) [] (visible_absent g p name (subst (λ k. IsAbsentExcept k p.content.slots name) hides.0 absent.0)) tt
+    each_append (IsOther name) (unmoved_entries g p) [] (visible_absent g p name (subst (λ k. IsNameAbsentExcept k p.content.slots name) hides.0 absent.0)) tt
 absent_run g moved index p (q ∷ run) after name is hides absent =
-    each_append (IsOther name) (unmoved_entries g p) (flat_map (unmoved_entries g) (q ∷ run)) (visible_absent g p name (subst (λ k. IsAbsentExcept k p.content.slots name) hides.0 absent.0))
+    each_append (IsOther name) (unmoved_entries g p) (flat_map (unmoved_entries g) (q ∷ run)) (visible_absent g p name (subst (λ k. IsNameAbsentExcept k p.content.slots name) hides.0 absent.0))
     (absent_run g moved (index + 1) q run after name is.1 hides.1 (absent.1 is.0))
 
 none_named : (name : Name) (xs : List Slot) → Each (IsOther name) xs → entry_named name xs ≡ None
@@ -126,10 +126,10 @@ get_at [] u ys = refl
 get_at (x ∷ xs) u ys = get_at xs u ys
 
 -- the slot of its path is found
-pub shown_is : (disk : Disk) (ps : List Pair) (path : Path) (a : ℕ × ℕ) (moved : Option SlotPosition) (first : ℕ) (name : Name) (spot : SlotPosition) (entry : FileOrDirectory) → IsAccepted disk ps → HidesOnlySlot (pairs_gstate ps) moved 0 ps
-    → LeadsTo ps path a → IsPairAt ps a first → (s : IsNameAt ps moved first name spot entry) → slot_of ps (path ++ name ∷ []) ≡ Some s.stands.stands.slot
+pub shown_is : (disk : Disk) (ps : List Pair) (path : Path) (a : ℕ × ℕ) (moved : Option SlotPosition) (first : ℕ) (name : Name) (spot : SlotPosition) (entry : FileOrDirectory) → IsAccepted disk ps → IsOnlyMovedSlot (pairs_gstate ps) moved 0 ps
+    → IsDirectoryAtPath ps path a → IsPairAt ps a first → (s : IsNameAtVisibleSlot ps moved first name spot entry) → slot_of_path ps (path ++ name ∷ []) ≡ Some s.stands.stands.slot
 shown_is disk ps path a moved first name spot entry ok hides leads begins s =
-    subst (λ z. slot_of ps (path ++ z ∷ []) ≡ Some u) s.stands.stands.named (slot_there disk ps path a h.at u ok leads h.is)
+    subst (λ z. slot_of_path ps (path ++ z ∷ []) ≡ Some u) s.stands.stands.named (slot_there disk ps path a h.at u ok leads h.is)
   where
     pair : Pair
     pair = s.stands.pair
@@ -149,7 +149,7 @@ shown_is disk ps path a moved first name spot entry ok hides leads begins s =
     hidden : skipped_id moved spot.pair ≡ moved_id (pairs_gstate ps) pair
     hidden =
         let whole : ps ≡ (b.front ++ b.left) ++ pair ∷ s.stands.rest = b.parts ∙ sym (append_assoc b.front b.left (pair ∷ s.stands.rest)) in
-        let behind = hides_behind (pairs_gstate ps) moved 0 (b.front ++ b.left) (pair ∷ s.stands.rest) (subst (HidesOnlySlot (pairs_gstate ps) moved 0) whole hides) in
+        let behind = hides_behind (pairs_gstate ps) moved 0 (b.front ++ b.left) (pair ∷ s.stands.rest) (subst (IsOnlyMovedSlot (pairs_gstate ps) moved 0) whole hides) in
         let n = b.number in
         let l = length-append b.front b.left in
         let count : 0 + length (b.front ++ b.left) ≡ spot.pair = omega (arith, n, l) in
@@ -177,8 +177,8 @@ drop_to [] ys n e = ap (λ k. drop k ys) e
 drop_to (x ∷ xs) ys n e = ap (λ k. drop k (x ∷ (xs ++ ys))) e ∙ drop_to xs ys (length xs) refl
 
 -- nothing of the name is shown
-pub absent_is_shown : (disk : Disk) (ps : List Pair) (path : Path) (a : ℕ × ℕ) (moved : Option SlotPosition) (first : ℕ) (name : Name) → IsAccepted disk ps → HidesOnlySlot (pairs_gstate ps) moved 0 ps
-    → LeadsTo ps path a → IsPairAt ps a first → IsAbsent moved first (drop first ps) name → slot_of ps (path ++ name ∷ []) ≡ None
+pub absent_is_shown : (disk : Disk) (ps : List Pair) (path : Path) (a : ℕ × ℕ) (moved : Option SlotPosition) (first : ℕ) (name : Name) → IsAccepted disk ps → IsOnlyMovedSlot (pairs_gstate ps) moved 0 ps
+    → IsDirectoryAtPath ps path a → IsPairAt ps a first → IsNameAbsentFrom moved first (drop first ps) name → slot_of_path ps (path ++ name ∷ []) ≡ None
 absent_is_shown disk ps path a moved first name ok hides leads begins absent = walk_below (all_entries ps) (root_slot (root_address ps)) path a leads name [] ∙ ap (option_and_then (λ z. Some z)) (none_named name (all_entries ps a) each)
   where
     begun : IsDirectory ps a first
@@ -205,9 +205,9 @@ absent_is_shown disk ps path a moved first name ok hides leads begins absent = w
     behind : drop first ps ≡ d.first ∷ (d.run ++ d.after)
     behind = ap (drop first) whole ∙ drop_to (take (count_before_root ps) ps ++ d.before) (d.first ∷ (d.run ++ d.after)) first (sym count)
 
-    hidden : HidesOnlySlot (pairs_gstate ps) moved first (d.first ∷ (d.run ++ d.after))
-    hidden = subst (λ (i : ℕ). HidesOnlySlot (pairs_gstate ps) moved i (d.first ∷ (d.run ++ d.after))) (let c = count in let k : 0 + length (take (count_before_root ps) ps ++ d.before) ≡ first = omega (arith, c) in k)
-        (hides_behind (pairs_gstate ps) moved 0 (take (count_before_root ps) ps ++ d.before) (d.first ∷ (d.run ++ d.after)) (subst (HidesOnlySlot (pairs_gstate ps) moved 0) whole hides))
+    hidden : IsOnlyMovedSlot (pairs_gstate ps) moved first (d.first ∷ (d.run ++ d.after))
+    hidden = subst (λ (i : ℕ). IsOnlyMovedSlot (pairs_gstate ps) moved i (d.first ∷ (d.run ++ d.after))) (let c = count in let k : 0 + length (take (count_before_root ps) ps ++ d.before) ≡ first = omega (arith, c) in k)
+        (hides_behind (pairs_gstate ps) moved 0 (take (count_before_root ps) ps ++ d.before) (d.first ∷ (d.run ++ d.after)) (subst (IsOnlyMovedSlot (pairs_gstate ps) moved 0) whole hides))
 
     dirs : pair_directories (pairs_gstate ps) (pairs_from_root ps) ≡ pair_directories (pairs_gstate ps) d.before ++ listing d.first.at (flat_map (unmoved_entries (pairs_gstate ps)) (d.first ∷ d.run)) ∷ pair_directories (pairs_gstate ps) d.after
     dirs = ap (pair_directories (pairs_gstate ps)) d.is ∙ run_directories (pairs_gstate ps) d.before d.first d.run d.after d.ends d.is_run
@@ -221,4 +221,4 @@ absent_is_shown disk ps path a moved first name ok hides leads begins absent = w
 
     each : Each (IsOther name) (all_entries ps a)
     each = subst (Each (IsOther name)) (sym shows)
-        (absent_run (pairs_gstate ps) moved first d.first d.run d.after name d.is_run hidden (subst (λ z. IsAbsent moved first z name) behind absent))
+        (absent_run (pairs_gstate ps) moved first d.first d.run d.after name d.is_run hidden (subst (λ z. IsNameAbsentFrom moved first z name) behind absent))

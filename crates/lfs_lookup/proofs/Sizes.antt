@@ -1,7 +1,7 @@
 -- The walk ends: there are no more levels of directories than pairs, so the entries beneath a directory can be counted.
 use Rattle.std.proofs.Common.{ℕ, zero, suc, ◌≡◌, ◌<◌, ◌≤◌, ◌+◌, ◌∙◌, true, false, nat_eq, eqb-true, List, [], ◌∷◌, ◌++◌, length, map, reverse, Option, Some, None, option_and_then, refl, sym, ap, ap₂, subst, arith, length-append, ⊎_elim}
 use Rattle.std.specs.List.{IsDistinct, list_any, sum_by}
-use Rattle.lfs_lookup.proofs.Common.{false_from_ne_true, append-nil, reverse-append, sum_by-cons, same_Some, Disk, Name, Slot, Struct, Inline, Ctz, Branch, same_pair, Pair, root_address, Path, EntryMap, branch_address, entry_named, root_slot, slot_at_path, IsPairAt, slot_of, IsAccepted, LeadsTo, all_entries, Each, each_weaker, pair_back, pair_on, walk_append, PushesEntriesBelow, PathStruct}
+use Rattle.lfs_lookup.proofs.Common.{false_from_ne_true, append-nil, reverse-append, sum_by-cons, same_Some, Disk, Name, Slot, Struct, Inline, Ctz, Branch, same_pair, Pair, root_address, Path, DirectoryEntryMap, struct_directory_address, entry_named, root_slot, slot_at_path, IsPairAt, slot_of_path, IsAccepted, IsDirectoryAtPath, all_entries, Each, each_weaker, pair_back, pair_on, walk_append, PushesEntriesBelow, PathStruct}
 use Rattle.std.proofs.lemmas.Bool.{or_cases}
 use Rattle.std.proofs.lemmas.List.Sorted.{sum_by-IsPermutation}
 use Rattle.std.proofs.lemmas.Map.Steps.{length-le_from_distinct_below}
@@ -14,26 +14,26 @@ use Rattle.lfs_lookup.proofs.Visits.{IsNext, IsVisit, Visit, below, child, child
 -- ---- the depth of directories
 
 -- a path that goes on leads somewhere on its way
-leads_before : (E : EntryMap) (s : Slot) (p : Path) (n : Name) (r : Path) (a : ℕ × ℕ) → address_from_slot E s (p ++ n ∷ r) ≡ Some a → (y : ℕ × ℕ) × (address_from_slot E s p ≡ Some y)
+leads_before : (E : DirectoryEntryMap) (s : Slot) (p : Path) (n : Name) (r : Path) (a : ℕ × ℕ) → address_from_slot E s (p ++ n ∷ r) ≡ Some a → (y : ℕ × ℕ) × (address_from_slot E s p ≡ Some y)
 leads_before E s p n r a e = go (slot_at_path E s p) refl
   where
-    whole : option_and_then (λ found. branch_address found.struct) (option_and_then (λ t. slot_at_path E t (n ∷ r)) (slot_at_path E s p)) ≡ Some a
-    whole = sym (ap (option_and_then (λ found. branch_address found.struct)) (walk_append E s p (n ∷ r))) ∙ e
+    whole : option_and_then (λ found. struct_directory_address found.struct) (option_and_then (λ t. slot_at_path E t (n ∷ r)) (slot_at_path E s p)) ≡ Some a
+    whole = sym (ap (option_and_then (λ found. struct_directory_address found.struct)) (walk_append E s p (n ∷ r))) ∙ e
 
     go : (o : Option Slot) → slot_at_path E s p ≡ o → (y : ℕ × ℕ) × (address_from_slot E s p ≡ Some y)
-    go None f = absurd (let k = sym (ap (λ o. option_and_then (λ found. branch_address found.struct) (option_and_then (λ t. slot_at_path E t (n ∷ r)) o)) f) ∙ whole in cc)
-    go (Some t) f = further (branch_address t.struct) refl
+    go None f = absurd (let k = sym (ap (λ o. option_and_then (λ found. struct_directory_address found.struct) (option_and_then (λ t. slot_at_path E t (n ∷ r)) o)) f) ∙ whole in cc)
+    go (Some t) f = further (struct_directory_address t.struct) refl
       where
-        further : (o : Option (ℕ × ℕ)) → branch_address t.struct ≡ o → (y : ℕ × ℕ) × (address_from_slot E s p ≡ Some y)
-        further None g = absurd (let k = sym (ap (λ o. option_and_then (λ found. branch_address found.struct) (option_and_then (λ t. slot_at_path E t (n ∷ r)) o)) f
-            ∙ ap (λ b. option_and_then (λ found. branch_address found.struct) (option_and_then (λ c. slot_at_path E c r) (option_and_then (λ at. entry_named n (E at)) b))) g) ∙ whole in cc)
-        further (Some y) g = (y, ap (option_and_then (λ found. branch_address found.struct)) f ∙ g)
+        further : (o : Option (ℕ × ℕ)) → struct_directory_address t.struct ≡ o → (y : ℕ × ℕ) × (address_from_slot E s p ≡ Some y)
+        further None g = absurd (let k = sym (ap (λ o. option_and_then (λ found. struct_directory_address found.struct) (option_and_then (λ t. slot_at_path E t (n ∷ r)) o)) f
+            ∙ ap (λ b. option_and_then (λ found. struct_directory_address found.struct) (option_and_then (λ c. slot_at_path E c r) (option_and_then (λ at. entry_named n (E at)) b))) g) ∙ whole in cc)
+        further (Some y) g = (y, ap (option_and_then (λ found. struct_directory_address found.struct)) f ∙ g)
 
 -- the number of a directory that a path of at least that length leads to
 record IsStop (ps : List Pair) (low number : ℕ) : Type 0 where
   path : Path
   at : ℕ × ℕ
-  leads : LeadsTo ps path at
+  leads : IsDirectoryAtPath ps path at
   long : low ≤ length path
   begins : IsPairAt ps at number
 
@@ -49,7 +49,7 @@ one_begin ps a b n h k =
     let same = same_Some h.pair k.pair (sym h.there ∙ k.there) in
     pair_on a h.pair.at b (pair_back h.pair.at a h.same) (ap (λ (p : Pair). same_pair p.at b) same ∙ k.same)
 
-apart_from : (disk : Disk) (ps : List Pair) (p : Path) (a : ℕ × ℕ) (low n m : ℕ) → IsAccepted disk ps → LeadsTo ps p a → IsPairAt ps a n → length p < low → IsStop ps low m → nat_eq n m ≡ false
+apart_from : (disk : Disk) (ps : List Pair) (p : Path) (a : ℕ × ℕ) (low n m : ℕ) → IsAccepted disk ps → IsDirectoryAtPath ps p a → IsPairAt ps a n → length p < low → IsStop ps low m → nat_eq n m ≡ false
 apart_from disk ps p a low n m ok leads begins short stop = false_from_ne_true (nat_eq n m) (λ e.
     let same = one_begin ps a stop.at n begins (subst (IsPairAt ps stop.at) (sym (eqb-true n m e)) stop.begins) in
     let path = ok.once p stop.path a stop.at leads stop.leads same in
@@ -57,16 +57,16 @@ apart_from disk ps p a low n m ok leads begins short stop = false_from_ne_true (
     let long = stop.long in
     absurd (omega arith))
 
-stops : (disk : Disk) (ps : List Pair) (p r : Path) (a : ℕ × ℕ) → IsAccepted disk ps → LeadsTo ps (p ++ r) a → HasStops ps (length p) (suc (length r))
+stops : (disk : Disk) (ps : List Pair) (p r : Path) (a : ℕ × ℕ) → IsAccepted disk ps → IsDirectoryAtPath ps (p ++ r) a → HasStops ps (length p) (suc (length r))
 unfolding IsDistinct
 stops disk ps p [] a ok leads =
-    let here = subst (λ q. LeadsTo ps q a) (append-nil p) leads in
+    let here = subst (λ q. IsDirectoryAtPath ps q a) (append-nil p) leads in
     let n = begins_with disk ps p a ok here in
     record { numbers = n.0 ∷ []; many = refl; distinct = (tt, tt); each = (record { path = p; at = a; leads = here; long = omega arith; begins = n.1 }, tt) }
 stops disk ps p (name ∷ r) a ok leads =
     let y = leads_before (all_entries ps) (root_slot (root_address ps)) p name r a leads in
     let n = begins_with disk ps p y.0 ok y.1 in
-    let more = stops disk ps (p ++ name ∷ []) r a ok (subst (λ q. LeadsTo ps q a) (sym (append_step p name r)) leads) in
+    let more = stops disk ps (p ++ name ∷ []) r a ok (subst (λ q. IsDirectoryAtPath ps q a) (sym (append_step p name r)) leads) in
     let long = length-append p (name ∷ []) in
     record {
       numbers = n.0 ∷ more.numbers;
@@ -86,7 +86,7 @@ below_any n (x ∷ xs) h q e = ⊎_elim
     (or_cases (nat_eq q x) (list_any (nat_eq q) xs) e)
 
 -- a path to a directory has fewer names than there are pairs
-pub few_names : (disk : Disk) (ps : List Pair) (path : Path) (a : ℕ × ℕ) → IsAccepted disk ps → LeadsTo ps path a → length path < length ps
+pub few_names : (disk : Disk) (ps : List Pair) (path : Path) (a : ℕ × ℕ) → IsAccepted disk ps → IsDirectoryAtPath ps path a → length path < length ps
 few_names disk ps path a ok leads =
     let s = stops disk ps [] path a ok leads in
     let many = s.many in
@@ -100,11 +100,11 @@ total f [] = 0
 total f (s ∷ slots) = f s + total f slots
 
 -- what a struct stands for and all that stands beneath it, so many levels deep
-abbrev pub size_within : ℕ → EntryMap → Struct → ℕ
+abbrev pub size_within : ℕ → DirectoryEntryMap → Struct → ℕ
 size_within zero E s = 1
 size_within (suc levels) E s = 1 + total (λ c. size_within levels E c.struct) (below E s)
 
-abbrev pub load_list_into_memory : ℕ → EntryMap → List PathStruct → ℕ
+abbrev pub load_list_into_memory : ℕ → DirectoryEntryMap → List PathStruct → ℕ
 load_list_into_memory levels E [] = 0
 load_list_into_memory levels E (p ∷ places) = size_within levels E p.struct + load_list_into_memory levels E places
 
@@ -127,13 +127,13 @@ longer : (path : Path) (slots : List Slot) → Each (λ c. length c.path ≡ len
 longer path [] = tt
 longer path (s ∷ slots) = (length-append path (s.name ∷ []), longer path slots)
 
-nothing_below : (E : EntryMap) (s : Struct) → ((to : ℕ × ℕ) → s ≡ Branch to → ⊥) → below E s ≡ []
+nothing_below : (E : DirectoryEntryMap) (s : Struct) → ((to : ℕ × ℕ) → s ≡ Branch to → ⊥) → below E s ≡ []
 nothing_below E (Branch to) h = absurd (h to refl)
 nothing_below E (Inline bytes) h = refl
 nothing_below E (Ctz head size) h = refl
 
 -- one level more adds nothing where the levels are enough for the paths
-stable : (disk : Disk) (ps : List Pair) (levels : ℕ) (v : Visit) → IsAccepted disk ps → slot_of ps v.path ≡ Some v.slot → length ps ≤ levels + length v.path →
+stable : (disk : Disk) (ps : List Pair) (levels : ℕ) (v : Visit) → IsAccepted disk ps → slot_of_path ps v.path ≡ Some v.slot → length ps ≤ levels + length v.path →
     size_within (suc levels) (all_entries ps) v.slot.struct ≡ size_within levels (all_entries ps) v.slot.struct
 stable disk ps zero v ok e deep =
     ap (λ slots. 1 + total (λ c. 1) slots) (nothing_below (all_entries ps) v.slot.struct (λ to f. let few = few_names disk ps v.path to ok (leads_to ps v.path v.slot to e f) in absurd (omega arith)))
@@ -143,25 +143,25 @@ stable disk ps (suc levels) v ok e deep =
     (each_weaker (IsVisit_below) (λ c. size_within (suc levels) (all_entries ps) c.slot.struct ≡ size_within levels (all_entries ps) c.slot.struct) (λ c h. stable disk ps levels c ok h.0 (let l = h.1 in omega arith)) (children ps v) deeper)))
   where
     IsVisit_below : Visit → Type 0
-    IsVisit_below c = (slot_of ps c.path ≡ Some c.slot) × (length c.path ≡ length v.path + 1)
+    IsVisit_below c = (slot_of_path ps c.path ≡ Some c.slot) × (length c.path ≡ length v.path + 1)
 
     deeper : Each IsVisit_below (children ps v)
     deeper = each_both (IsVisit disk ps) (λ c. length c.path ≡ length v.path + 1) IsVisit_below (children ps v) (λ c h l. (h.leads, l)) (children_visited disk ps v ok e) (longer v.path (below (all_entries ps) v.slot.struct))
 
 -- ---- what is left to visit
 
-load_append : (levels : ℕ) (E : EntryMap) (xs ys : List PathStruct) → load_list_into_memory levels E (xs ++ ys) ≡ load_list_into_memory levels E xs + load_list_into_memory levels E ys
+load_append : (levels : ℕ) (E : DirectoryEntryMap) (xs ys : List PathStruct) → load_list_into_memory levels E (xs ++ ys) ≡ load_list_into_memory levels E xs + load_list_into_memory levels E ys
 load_append levels E [] ys = omega arith
 load_append levels E (x ∷ xs) ys = let e = load_append levels E xs ys in omega arith
 
-load_reverse : (levels : ℕ) (E : EntryMap) (xs : List PathStruct) → load_list_into_memory levels E (reverse xs) ≡ load_list_into_memory levels E xs
+load_reverse : (levels : ℕ) (E : DirectoryEntryMap) (xs : List PathStruct) → load_list_into_memory levels E (reverse xs) ≡ load_list_into_memory levels E xs
 load_reverse levels E [] = refl
 load_reverse levels E (x ∷ xs) =
     let e = load_reverse levels E xs in
     let f = load_append levels E (reverse xs) (x ∷ []) in
     ap (load_list_into_memory levels E) (reverse-append (x ∷ []) xs) ∙ (let one : load_list_into_memory levels E (reverse xs ++ x ∷ []) ≡ load_list_into_memory levels E (x ∷ xs) = omega arith in one)
 
-load_children : (levels : ℕ) (E : EntryMap) (path : Path) (slots : List Slot) → load_list_into_memory levels E (map place_at (map (child path) slots)) ≡ total (λ c. size_within levels E c.struct) slots
+load_children : (levels : ℕ) (E : DirectoryEntryMap) (path : Path) (slots : List Slot) → load_list_into_memory levels E (map place_at (map (child path) slots)) ≡ total (λ c. size_within levels E c.struct) slots
 load_children levels E path [] = refl
 load_children levels E path (s ∷ slots) = ap (λ n. size_within levels E s.struct + n) (load_children levels E path slots)
 

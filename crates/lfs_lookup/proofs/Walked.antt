@@ -1,6 +1,6 @@
 -- Steps along the pairs of a directory.
 use Rattle.std.proofs.Common.{ℕ, zero, suc, ◌≡◌, ◌+◌, ◌<◌, ◌≤◌, Bool, true, false, cond, List, [], ◌∷◌, ◌++◌, length, drop, Option, Some, None, refl, sym, ap, ◌∙◌, arith, get_or}
-use Rattle.lfs_lookup.proofs.Common.{same_Some, Pair, is_hard_tail, joined_count, IsDirectoryPair}
+use Rattle.lfs_lookup.proofs.Common.{same_Some, Pair, is_hard_tail, joined_pair_count, IsDirectoryPair}
 
 -- the pair at an index
 pub record At (ps : List Pair) (index : ℕ) (q : Pair) : Type 0 where
@@ -21,17 +21,17 @@ begun_here ps first index q a e = record { front = a.front; left = []; parts = a
 
 -- ---- reads
 
-pub run_on : (ps : List Pair) (index : ℕ) (d : Pair) → index < length ps → is_hard_tail (get_or ps index d).content.tail ≡ true → joined_count (drop index ps) ≡ 1 + joined_count (drop (index + 1) ps)
+pub run_on : (ps : List Pair) (index : ℕ) (d : Pair) → index < length ps → is_hard_tail (get_or ps index d).content.tail ≡ true → joined_pair_count (drop index ps) ≡ 1 + joined_pair_count (drop (index + 1) ps)
 run_on [] index d l e = absurd (omega arith)
-run_on (p ∷ ps) zero d l e = ap (λ b. cond b (1 + joined_count ps) 1) e
-run_on (p ∷ ps) (suc index) d l e = let f : suc index + 1 ≡ suc (index + 1) = omega arith in run_on ps index d (omega arith) e ∙ ap (λ (n : ℕ). 1 + joined_count (drop n (p ∷ ps))) (sym f)
+run_on (p ∷ ps) zero d l e = ap (λ b. cond b (1 + joined_pair_count ps) 1) e
+run_on (p ∷ ps) (suc index) d l e = let f : suc index + 1 ≡ suc (index + 1) = omega arith in run_on ps index d (omega arith) e ∙ ap (λ (n : ℕ). 1 + joined_pair_count (drop n (p ∷ ps))) (sym f)
 
 -- a directory has a pair
-pub run_some : (ps : List Pair) (index : ℕ) → index < length ps → 1 ≤ joined_count (drop index ps)
+pub run_some : (ps : List Pair) (index : ℕ) → index < length ps → 1 ≤ joined_pair_count (drop index ps)
 run_some [] index l = absurd (omega arith)
 run_some (p ∷ ps) zero l = go (is_hard_tail p.content.tail)
   where
-    go : (b : Bool) → 1 ≤ cond b (1 + joined_count ps) 1
+    go : (b : Bool) → 1 ≤ cond b (1 + joined_pair_count ps) 1
     go true = omega arith
     go false = omega arith
 run_some (p ∷ ps) (suc index) l = run_some ps index (omega arith)

@@ -3,9 +3,9 @@ use Rattle.std.specs.Prelude.{ℕ, ◌≡◌, ◌<◌, nat_lt, List, length, Opt
 use Rattle.lfs_model.specs.format.Thread.{Pair, pairs_gstate}
 use Rattle.lfs_model.specs.tree.Tree.{Path}
 use Rattle.lfs_thread.specs.Kept.{KeptThread}
-use Rattle.lfs_lookup.specs.Listed.{pair_entries_from}
-use Rattle.lfs_lookup.specs.LookupPaths.{IsUnhiddenResult}
-use Rattle.lfs_lookup.specs.NameSearch.{HidesOnlySlot}
+use Rattle.lfs_lookup.specs.Listed.{directory_entries_from}
+use Rattle.lfs_lookup.specs.LookupPaths.{IsVisibleLookupResult}
+use Rattle.lfs_lookup.specs.NameSearch.{IsOnlyMovedSlot}
 use Rattle.lfs_lookup.specs.declared.entry.FileStorage.{FileStorage}
 use Rattle.lfs_lookup.specs.declared.entry.FileStorage.TheVariants as contents
 use Rattle.lfs_lookup.specs.declared.found_entries.FoundNode.{FoundNode}
@@ -18,18 +18,18 @@ use Rattle.lfs_lookup.specs.declared.search.SlotPosition.{SlotPosition}
 -- it ignores only the slot that a pending move names, which counts as deleted
 pub record IsLookupResult (t : KeptThread) (path : Path) (shown : VisiblePathLookup) : Type 0 where
   pub moved : Option SlotPosition
-  pub hides : HidesOnlySlot (pairs_gstate t.pairs) moved 0 t.pairs
-  pub shows : IsUnhiddenResult t moved path shown
+  pub hides : IsOnlyMovedSlot (pairs_gstate t.pairs) moved 0 t.pairs
+  pub shows : IsVisibleLookupResult t moved path shown
 
 -- whether the directory that begins with the pair of that index has an entry; false for None
 abbrev pub has_entries_from : List Pair → Option ℕ → Bool
-has_entries_from ps from = nat_lt 0 (length (pair_entries_from ps from))
+has_entries_from ps from = nat_lt 0 (length (directory_entries_from ps from))
 
 -- the index of the first pair of the directory that was found
-abbrev pub found_pair_number : ℕ → VisiblePathLookup → Option ℕ
-found_pair_number root shown.Root = Some root
-found_pair_number root (shown.Directory slot first) = Some first
-found_pair_number root _ = None
+abbrev pub found_directory_pair_index : ℕ → VisiblePathLookup → Option ℕ
+found_directory_pair_index root shown.Root = Some root
+found_directory_pair_index root (shown.Directory slot first) = Some first
+found_directory_pair_index root _ = None
 
 abbrev pub storage_size : FileStorage → ℕ
 storage_size (contents.Inline len) = len
@@ -40,9 +40,9 @@ abbrev pub InlineFitsTag : FileStorage → Type 0
 InlineFitsTag (contents.Inline len) = len < 0x3ff
 InlineFitsTag (contents.List head size) = Unit {0}
 
-abbrev pub FoundInlineFits : VisiblePathLookup → Type 0
-FoundInlineFits (shown.File slot contents) = InlineFitsTag contents
-FoundInlineFits _ = Unit {0}
+abbrev pub FoundInlineFitsTag : VisiblePathLookup → Type 0
+FoundInlineFitsTag (shown.File slot contents) = InlineFitsTag contents
+FoundInlineFitsTag _ = Unit {0}
 
 -- the refusal of the path by a parent, and the entry at the path
 abbrev pub node_or_refusal : VisiblePathLookup → FoundNode

@@ -9,6 +9,6 @@ abbrev pub precedes_shorter : NamedStruct → NamedStruct → Bool
 precedes_shorter a b = is_less (name_cmp ShorterFirst a.name b.name)
 
 -- the same entries, sorted by name
-pub record AreShorterFirst (shapes others : List NamedStruct) : Type 0 where
+pub record AreSortedShorterFirst (shapes others : List NamedStruct) : Type 0 where
   pub permutation : IsPermutation shapes others
   pub sorted : IsSortedBy precedes_shorter others

@@ -14,31 +14,31 @@ use Rattle.lfs_pair.specs.Pair.{active_block_at}
 use Rattle.lfs_thread.specs.Kept.{ThreadView}
 
 -- the block is one of the n most recently used ones
-abbrev pub IsLastUsed : ℕ → CachedBlocks → ℕ → Type 0
-IsLastUsed n cache b = IsSome (cached_bytes (take n cache) b)
+abbrev pub IsRecentlyUsed : ℕ → CachedBlocks → ℕ → Type 0
+IsRecentlyUsed n cache b = IsSome (cached_bytes (take n cache) b)
 
 -- the same of the blocks with these pairs' logs
-abbrev pub AreLastUsed : ℕ → Disk → CachedBlocks → List Pair → Type 0
-AreLastUsed n disk cache ps = AllByRecursion (λ p. IsLastUsed n cache (active_block_at disk p.at)) ps
+abbrev pub ArePairsRecentlyUsed : ℕ → Disk → CachedBlocks → List Pair → Type 0
+ArePairsRecentlyUsed n disk cache ps = AllByRecursion (λ p. IsRecentlyUsed n cache (active_block_at disk p.at)) ps
 
 abbrev pub ArePairsCached : ThreadView → List Pair → Type 0
-ArePairsCached t ps = AreLastUsed cache_limit t.kept.disk t.cache ps
+ArePairsCached t ps = ArePairsRecentlyUsed cache_limit t.kept.disk t.cache ps
 
 -- blocks that were cached still are
-abbrev pub StayCached : CachedBlocks → CachedBlocks → Type 0
-StayCached old new = (b : ℕ) → IsLastUsed cache_limit old b → IsLastUsed cache_limit new b
+abbrev pub CachedBlocksStayCached : CachedBlocks → CachedBlocks → Type 0
+CachedBlocksStayCached old new = (b : ℕ) → IsRecentlyUsed cache_limit old b → IsRecentlyUsed cache_limit new b
 
 -- ---- along the pairs of a directory
 
 -- the block is now the most recently used one, and those before it are one rank less recent
 pub record BecomesMostRecent (b : ℕ) (old new : CachedBlocks) : Type 0 where
-  pub first : IsLastUsed 1 new b
-  pub others : (n c : ℕ) → n < cache_limit → IsLastUsed n old c → IsLastUsed (suc n) new c
+  pub first : IsRecentlyUsed 1 new b
+  pub others : (n c : ℕ) → n < cache_limit → IsRecentlyUsed n old c → IsRecentlyUsed (suc n) new c
 
 -- If all these pairs are cached, no block is read, and cached pairs stay cached. A single pair is cached afterwards.
 pub record KeepsCachedPairs {X : Type 0} (ps : List Pair) (old new : ThreadView) (result : Result X Error) : Type 0 where
   pub none : ArePairsCached old ps → read_count new.kept.history ≡ read_count old.kept.history
-  pub stay : ArePairsCached old ps → OnOk result (StayCached old.cache new.cache)
+  pub stay : ArePairsCached old ps → OnOk result (CachedBlocksStayCached old.cache new.cache)
   pub one : length ps ≡ 1 → OnOk result (AllByRecursion (λ p. BecomesMostRecent (active_block_at old.kept.disk p.at) old.cache new.cache) ps)
 
 -- ---- down the directories of a path
@@ -48,14 +48,14 @@ abbrev pub pairs_at : List Pair → Path → List Pair
 pairs_at ps path = option_map_or (directory_pairs ps) (address_at_path (all_entries ps) (root_address ps) path) []
 
 -- the pairs of the directories at these paths are among the n most recently used ones
-abbrev pub AreDirectoriesRecent : ℕ → Disk → CachedBlocks → List Pair → List Path → Type 0
-AreDirectoriesRecent n disk cache ps paths = AllByRecursion (λ p. AreLastUsed n disk cache (pairs_at ps p)) paths
+abbrev pub AreDirectoriesRecentlyUsed : ℕ → Disk → CachedBlocks → List Pair → List Path → Type 0
+AreDirectoriesRecentlyUsed n disk cache ps paths = AllByRecursion (λ p. ArePairsRecentlyUsed n disk cache (pairs_at ps p)) paths
 
 abbrev pub AreDirectoriesCached : ThreadView → List Path → Type 0
-AreDirectoriesCached t paths = AreDirectoriesRecent cache_limit t.kept.disk t.cache t.kept.pairs paths
+AreDirectoriesCached t paths = AreDirectoriesRecentlyUsed cache_limit t.kept.disk t.cache t.kept.pairs paths
 
 -- at most eight directories of one pair each
-pub record AreFewSmall (ps : List Pair) (paths : List Path) : Type 0 where
+pub record AreFewOnePairDirectories (ps : List Pair) (paths : List Path) : Type 0 where
   pub few : length paths ≤ cache_limit
   pub small : AllByRecursion (λ p. directory_pair_count ps p ≡ 1) paths
 
@@ -63,5 +63,5 @@ pub record AreFewSmall (ps : List Pair) (paths : List Path) : Type 0 where
 -- small, and the look-up went through all of them, their pairs are the most recently used ones.
 pub record KeepsCachedDirectories {X : Type 0} (through : X → Type 0) (paths : List Path) (old new : ThreadView) (result : Result X Error) : Type 0 where
   pub none : AreDirectoriesCached old paths → read_count new.kept.history ≡ read_count old.kept.history
-  pub stay : AreDirectoriesCached old paths → OnOk result (StayCached old.cache new.cache)
-  pub recent : AreFewSmall old.kept.pairs paths → IfOk result (λ x. through x → AreDirectoriesRecent (length paths) old.kept.disk new.cache old.kept.pairs paths)
+  pub stay : AreDirectoriesCached old paths → OnOk result (CachedBlocksStayCached old.cache new.cache)
+  pub recent : AreFewOnePairDirectories old.kept.pairs paths → IfOk result (λ x. through x → AreDirectoriesRecentlyUsed (length paths) old.kept.disk new.cache old.kept.pairs paths)

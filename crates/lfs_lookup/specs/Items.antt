@@ -2,9 +2,9 @@
 use Rattle.std.specs.Prelude.{ℕ, not, if◌then◌else◌, List, [], ◌∷◌, map, filter, Option, Some, None}
 use Rattle.std.specs.List.{flat_map, remove}
 use Rattle.std.specs.Option.{option_and_then}
-use Rattle.lfs_model.specs.format.Content.{RawSlot, complete_slot}
+use Rattle.lfs_model.specs.format.Content.{RawSlot, decoded_slot}
 use Rattle.lfs_model.specs.format.Names.{Name}
-use Rattle.lfs_model.specs.format.Slots.{Slot, Struct, address_view, is_superblock}
+use Rattle.lfs_model.specs.format.Slots.{Slot, Struct, address_of_array, is_superblock}
 use Rattle.lfs_model.specs.format.Slots as slots
 use Rattle.lfs_lookup.specs.declared.items.NameAndOwnedStruct.{NameAndOwnedStruct}
 use Rattle.lfs_lookup.specs.declared.items.OwnedStruct.{OwnedStruct}
@@ -21,7 +21,7 @@ named_struct s = record { name = s.name; struct = s.struct }
 abbrev pub owned_view : OwnedStruct → Struct
 owned_view (variant.Inline bytes) = slots.Inline bytes.items
 owned_view (variant.Ctz head size) = slots.Ctz head size
-owned_view (variant.Branch to) = slots.Branch (address_view to)
+owned_view (variant.Branch to) = slots.Branch (address_of_array to)
 
 abbrev pub item_view : NameAndOwnedStruct → NamedStruct
 item_view i = record { name = i.name.items; struct = owned_view i.structure }
@@ -35,7 +35,7 @@ entry_unless_superblock s = if is_superblock s then None else Some (named_struct
 
 -- the entry of a log's slot, if it has a name and a struct
 abbrev pub raw_entry : RawSlot → Option NamedStruct
-raw_entry s = option_and_then entry_unless_superblock (complete_slot s)
+raw_entry s = option_and_then entry_unless_superblock (decoded_slot s)
 
 abbrev pub optional_entry_list : Option NamedStruct → List NamedStruct
 optional_entry_list None = []
@@ -50,5 +50,5 @@ slots_except None slots = slots
 slots_except (Some id) slots = remove slots id
 
 -- the entries among slots, without the slot that a pending move names
-abbrev pub unhidden_entries : Option ℕ → List Slot → List NamedStruct
-unhidden_entries moved slots = map named_struct (filter (λ s. not (is_superblock s)) (slots_except moved slots))
+abbrev pub visible_slot_entries : Option ℕ → List Slot → List NamedStruct
+visible_slot_entries moved slots = map named_struct (filter (λ s. not (is_superblock s)) (slots_except moved slots))

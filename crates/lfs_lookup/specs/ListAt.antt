@@ -21,9 +21,9 @@ StructFitsTag (Ctz head size) = Unit {0}
 StructFitsTag (Branch to) = Unit {0}
 
 -- the same, and the name is no longer than the format allows
-abbrev pub IsInLimits : NamedStruct → Type 0
-IsInLimits x = StructFitsTag x.struct × (length x.name ≤ name_limit)
+abbrev pub IsNamedStructInLimits : NamedStruct → Type 0
+IsNamedStructInLimits x = StructFitsTag x.struct × (length x.name ≤ name_limit)
 
-abbrev pub AreInLimits : List NamedStruct → Type 0
-AreInLimits [] = Unit {0}
-AreInLimits (x ∷ xs) = IsInLimits x × AreInLimits xs
+abbrev pub AreNamedStructsInLimits : List NamedStruct → Type 0
+AreNamedStructsInLimits [] = Unit {0}
+AreNamedStructsInLimits (x ∷ xs) = IsNamedStructInLimits x × AreNamedStructsInLimits xs

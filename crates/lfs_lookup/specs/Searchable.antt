@@ -19,7 +19,7 @@ pub record CanReadCachedSlot (t : ThreadView) (slot : Option SlotPosition) : Typ
   pub cached_log : IfSome slot (λ s. IsSome (cached_log t s.pair))
 
 -- the thread hasn't failed, its image is accepted, and only that slot counts as deleted
-pub record CanSearchUnhidden (t : ThreadView) (moved : Option SlotPosition) : Type 0 where
+pub record CanSearchHidingMoved (t : ThreadView) (moved : Option SlotPosition) : Type 0 where
   pub works : t.failed ≡ false
   pub hiding : HidesMovedSlot t.kept moved
 

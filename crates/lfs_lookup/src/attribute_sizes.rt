@@ -12,11 +12,11 @@ ghost use Rattle.lfs_thread.specs.CachedLog.{IsContentLog, cached_log};
 ghost use Rattle.lfs_lookup.specs.AttributeAt.{IsAttributesSize};
 ghost use Rattle.lfs_lookup.specs.BytesAt.{IsSpotSlot};
 ghost use Rattle.lfs_lookup.specs.LookupReading.{ReadsOrReports};
-ghost use Rattle.lfs_lookup.specs.NameSearch.{HasCompleteLog};
+ghost use Rattle.lfs_lookup.specs.NameSearch.{EachSlotHasStruct};
 ghost use Rattle.lfs_lookup.specs.Reads.{ReadsPathsOnce};
 ghost use Rattle.lfs_lookup.specs.Searchable.{CanSearchFromRoot};
 
-use crate::attributes::spot_if_found;
+use crate::attributes::slot_of_lookup;
 use crate::by_path::look_up_path;
 use crate::path::Path;
 use crate::search::SlotPosition;
@@ -50,7 +50,7 @@ fn slot_attributes_size(slots: &[Slot<'_>], id: u16) -> usize
 
 // Returns the size of the attributes of the slot with the given id in a log.
 fn log_attributes_size(alloc: Global, log: &Log<'_>, id: u16) -> Result<usize, Error>
-    requires { HasCompleteLog log.now }
+    requires { EachSlotHasStruct log.now }
     ensures is { (content : ModelContent) (slot : ModelSlot) → IsContentLog log.now content → slice_get content.slots id ≡ Some slot → IfOk result (IsAttributesSize slot.attributes) }
     ensures errors { IfErr result (λ e. e ≡ Error.NoMemory) }
 {
@@ -95,7 +95,7 @@ pub fn attributes_size_at<D: BlockDevice>(
     ensures reading { ReadsOrReports thread.old thread.new result }
 {
     let shown = look_up_path(alloc, thread, root, path)?;
-    let Some(slot) = spot_if_found(shown) else {
+    let Some(slot) = slot_of_lookup(shown) else {
         return Ok(0);
     };
     cached_attributes_size(alloc, thread, slot)

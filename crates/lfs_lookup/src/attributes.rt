@@ -8,15 +8,15 @@ ghost use Rattle.lfs_model.specs.crash.Frame.{ancestor_paths};
 ghost use Rattle.lfs_model.specs.format.Slots.{Attributes, PairContent as ModelContent, Slot};
 ghost use Rattle.lfs_model.specs.tree.Shown.{disk_tree};
 ghost use Rattle.lfs_thread.specs.CachedLog.{IsContentLog, cached_log};
-ghost use Rattle.lfs_lookup.specs.AttributeAt.{AreAttributesAt, IsAttribute, AttributeFits, lookup_spot};
+ghost use Rattle.lfs_lookup.specs.AttributeAt.{AreAttributesAt, IsAttribute, AttributeFitsTag, lookup_slot_position};
 ghost use Rattle.lfs_lookup.specs.BytesAt.{IsSpotSlot};
 ghost use Rattle.lfs_lookup.specs.Finds.{IsFoundNode};
 ghost use Rattle.lfs_lookup.specs.LookupReading.{ReadsOrReports};
-ghost use Rattle.lfs_lookup.specs.NameSearch.{HasCompleteLog};
+ghost use Rattle.lfs_lookup.specs.NameSearch.{EachSlotHasStruct};
 ghost use Rattle.lfs_lookup.specs.Reads.{ReadsPathsOnce};
 ghost use Rattle.lfs_lookup.specs.Searchable.{CanReadPair, CanReadCachedSlot, CanSearchFromRoot};
 
-use crate::by_path::{finding_shown, look_up_path};
+use crate::by_path::{look_up_path, node_of_lookup};
 use crate::found_entries::FoundAttribute;
 use crate::path::Path;
 use crate::paths::VisiblePathLookup;
@@ -30,7 +30,7 @@ use std::alloc::{AllocError, Global};
 // Returns the bytes of an attribute of a slot in a log. Returns None if the slot has no attribute
 // of type `kind`.
 fn attribute_in_log<'a>(log: &Log<'a>, kind: u8, id: u16) -> Option<&'a [u8]>
-    requires { HasCompleteLog log.now }
+    requires { EachSlotHasStruct log.now }
     ensures short { IfSome result (λ bytes. length bytes.now ≤ 1022) }
     ensures is { (content : ModelContent) (slot : Slot) → IsContentLog log.now content → slice_get content.slots id ≡ Some slot → option_copied result ≡ attribute_bytes kind slot.attributes }
 {
@@ -57,8 +57,8 @@ fn copy_log_attribute(
     kind: u8,
     id: u16,
 ) -> Result<Option<Vec<u8>>, Error>
-    requires { HasCompleteLog log.now }
-    ensures short { IfOk result AttributeFits }
+    requires { EachSlotHasStruct log.now }
+    ensures short { IfOk result AttributeFitsTag }
     ensures is { (content : ModelContent) (slot : Slot) → IsContentLog log.now content → slice_get content.slots id ≡ Some slot → IfOk result (IsAttribute kind slot.attributes) }
     ensures errors { IfErr result (λ e. e ≡ Error.NoMemory) }
 {
@@ -75,7 +75,7 @@ fn attribute_of_slot<D: BlockDevice>(
 ) -> Result<Option<Vec<u8>>, Error>
     requires can { CanReadPair thread.old slot.pair }
     requires cached_log { IsSome (cached_log thread.old slot.pair) }
-    ensures short { IfOk result AttributeFits }
+    ensures short { IfOk result AttributeFitsTag }
     ensures is { (held : Slot) → IsSpotSlot thread.old.kept slot held → IfOk result (IsAttribute kind held.attributes) }
     ensures no_call { thread.new.kept ≡ thread.old.kept }
     ensures reading { ReadsOrReports thread.old thread.new result }
@@ -85,8 +85,8 @@ fn attribute_of_slot<D: BlockDevice>(
 }
 
 // Returns the slot that a look-up found, if any. The root directory has no slot.
-pub(crate) fn spot_if_found(shown: VisiblePathLookup) -> Option<SlotPosition>
-    ensures { result ≡ lookup_spot shown }
+pub(crate) fn slot_of_lookup(shown: VisiblePathLookup) -> Option<SlotPosition>
+    ensures { result ≡ lookup_slot_position shown }
 {
     match shown {
         VisiblePathLookup::File { slot, .. } => Some(slot),
@@ -103,7 +103,7 @@ fn attribute_if_slot<D: BlockDevice>(
     kind: u8,
 ) -> Result<Option<Vec<u8>>, Error>
     requires { CanReadCachedSlot thread.old slot }
-    ensures short { IfOk result AttributeFits }
+    ensures short { IfOk result AttributeFitsTag }
     ensures is { (attributes : Attributes) → AreAttributesAt thread.old.kept slot attributes → IfOk result (IsAttribute kind attributes) }
     ensures no_call { thread.new.kept ≡ thread.old.kept }
     ensures reading { ReadsOrReports thread.old thread.new result }
@@ -130,18 +130,18 @@ pub fn find_attribute<D: BlockDevice>(
 ) -> Result<FoundAttribute, Error>
     requires { CanSearchFromRoot thread.old root }
     ensures found { IfOk result (λ found. IsFoundNode (disk_tree thread.old.kept.disk thread.old.kept.pairs) path.now found.finding) }
-    ensures short { IfOk result (λ found. AttributeFits found.bytes) }
+    ensures short { IfOk result (λ found. AttributeFitsTag found.bytes) }
     ensures is { IfOk result (λ found. IsAttribute kind (node_attributes_of (disk_tree thread.old.kept.disk thread.old.kept.pairs path.now)) found.bytes) }
     ensures reads { ReadsPathsOnce (ancestor_paths path.now) thread.old thread.new }
     ensures reading { ReadsOrReports thread.old thread.new result }
 {
     let shown = look_up_path(alloc, thread, root, path)?;
-    let bytes = attribute_if_slot(alloc, thread, spot_if_found(shown), kind)?;
+    let bytes = attribute_if_slot(alloc, thread, slot_of_lookup(shown), kind)?;
     // The proof needs the device's block size to show that a list has the size that its entry
     // states.
     let _device = thread.device();
     Ok(FoundAttribute {
-        finding: finding_shown(shown),
+        finding: node_of_lookup(shown),
         bytes,
     })
 }

@@ -6,8 +6,8 @@ ghost use Rattle.lfs_model.specs.session.History.{read_count};
 ghost use Rattle.lfs_model.specs.format.Slots.{zero_gstate};
 ghost use Rattle.lfs_model.specs.format.Thread.{pairs_gstate};
 ghost use Rattle.lfs_model.specs.tree.Shown.{disk_tree};
-ghost use Rattle.lfs_lookup.specs.AtPath.{InlineFitsTag, FoundInlineFits, ParentsAllowLookup, IsLookupResult, node_or_refusal, found_pair_number, storage_size};
-ghost use Rattle.lfs_lookup.specs.AttributeAt.{IsFoundCached};
+ghost use Rattle.lfs_lookup.specs.AtPath.{InlineFitsTag, FoundInlineFitsTag, ParentsAllowLookup, IsLookupResult, node_or_refusal, found_directory_pair_index, storage_size};
+ghost use Rattle.lfs_lookup.specs.AttributeAt.{IsFoundPairCached};
 ghost use Rattle.lfs_lookup.specs.Finds.{IsFoundNode, has_entry_beneath};
 ghost use Rattle.lfs_lookup.specs.declared.found_entries.Node.TheVariants.{Directory, File, Nothing};
 ghost use Rattle.lfs_lookup.specs.LookupReading.{ReadsOrReports};
@@ -18,7 +18,7 @@ use crate::directory::has_entries;
 use crate::entry::FileStorage;
 use crate::found_entries::{FoundNode, Node, NodeAndEmptiness};
 use crate::path::Path;
-use crate::paths::{VisiblePathLookup, look_up_unhidden, moved_slot_spot};
+use crate::paths::{VisiblePathLookup, look_up_visible, moved_slot_position};
 use crate::refusal::{Refusal, to_refusal};
 use lfs_device::{BlockDevice, Error};
 use lfs_thread::Thread;
@@ -41,18 +41,18 @@ pub fn look_up_path<D: BlockDevice>(
 ) -> Result<VisiblePathLookup, Error>
     requires { CanSearchFromRoot thread.old root }
     ensures shown { IfOk result (IsLookupResult thread.old.kept path.now) }
-    ensures cached_log { IfOk result (IsFoundCached thread.new) }
+    ensures cached_log { IfOk result (IsFoundPairCached thread.new) }
     ensures reads { ReadsDirectoriesOnce (pairs_gstate thread.old.kept.pairs ≡ zero_gstate) ParentsAllowLookup (ancestor_paths path.now) thread.old thread.new result }
     ensures reading { ReadsOrReports thread.old thread.new result }
 {
     let names = path.names(alloc)?;
     let state = thread.state();
-    let moved = moved_slot_spot(thread, &state);
-    look_up_unhidden(thread, root, &names, moved)
+    let moved = moved_slot_position(thread, &state);
+    look_up_visible(thread, root, &names, moved)
 }
 
 // Returns the size of a file in bytes.
-fn contents_size(contents: FileStorage) -> u32
+fn stored_file_size(contents: FileStorage) -> u32
     requires { InlineFitsTag contents }
     ensures { result ≡ storage_size contents }
 {
@@ -63,21 +63,21 @@ fn contents_size(contents: FileStorage) -> u32
 }
 
 // Returns the result of a look-up that found a file.
-fn finding_of_file(contents: FileStorage) -> FoundNode
+fn found_file_node(contents: FileStorage) -> FoundNode
     requires { InlineFitsTag contents }
     ensures { result ≡ record { fault = None; node = File (storage_size contents) } }
 {
     FoundNode {
         fault: None,
         node: Node::File {
-            size: contents_size(contents),
+            size: stored_file_size(contents),
         },
     }
 }
 
 // Returns the result of a look-up that found no entry. `fault` is the error that a parent causes,
 // if any.
-fn finding_of_nothing(fault: Option<Refusal>) -> FoundNode
+fn found_no_node(fault: Option<Refusal>) -> FoundNode
     ensures { result ≡ record { fault = fault; node = Nothing } }
 {
     FoundNode {
@@ -87,7 +87,7 @@ fn finding_of_nothing(fault: Option<Refusal>) -> FoundNode
 }
 
 // Returns the result of a look-up that found a directory.
-fn finding_of_directory() -> FoundNode
+fn found_directory_node() -> FoundNode
     ensures { result ≡ record { fault = None; node = Directory } }
 {
     FoundNode {
@@ -98,24 +98,24 @@ fn finding_of_directory() -> FoundNode
 
 /// Converts the result of a look-up to the entry that was found, or to the error that a parent
 /// causes.
-pub fn finding_shown(shown: VisiblePathLookup) -> FoundNode
-    requires { FoundInlineFits shown }
+pub fn node_of_lookup(shown: VisiblePathLookup) -> FoundNode
+    requires { FoundInlineFitsTag shown }
     ensures { result ≡ node_or_refusal shown }
 {
     match shown {
-        VisiblePathLookup::Root => finding_of_directory(),
-        VisiblePathLookup::Directory { .. } => finding_of_directory(),
-        VisiblePathLookup::File { contents, .. } => finding_of_file(contents),
-        VisiblePathLookup::Nothing => finding_of_nothing(None),
-        VisiblePathLookup::ParentIsFile => finding_of_nothing(Some(to_refusal(Error::NotDir))),
-        VisiblePathLookup::ParentIsMissing => finding_of_nothing(Some(to_refusal(Error::NoEnt))),
+        VisiblePathLookup::Root => found_directory_node(),
+        VisiblePathLookup::Directory { .. } => found_directory_node(),
+        VisiblePathLookup::File { contents, .. } => found_file_node(contents),
+        VisiblePathLookup::Nothing => found_no_node(None),
+        VisiblePathLookup::ParentIsFile => found_no_node(Some(to_refusal(Error::NotDir))),
+        VisiblePathLookup::ParentIsMissing => found_no_node(Some(to_refusal(Error::NoEnt))),
     }
 }
 
 /// Returns the index of the first pair of the directory that a look-up found. Returns None if the
 /// look-up found no directory. `root` is the index of the root directory's first pair.
-pub fn first_pair_found(root: usize, shown: VisiblePathLookup) -> Option<usize>
-    ensures { result ≡ found_pair_number root shown }
+pub fn found_directory_index(root: usize, shown: VisiblePathLookup) -> Option<usize>
+    ensures { result ≡ found_directory_pair_index root shown }
 {
     match shown {
         VisiblePathLookup::Root => Some(root),
@@ -146,7 +146,7 @@ pub fn find_node<D: BlockDevice>(
     // The proof needs the device's block size to show that a list has the size that its entry
     // states.
     let _device = thread.device();
-    Ok(finding_shown(shown))
+    Ok(node_of_lookup(shown))
 }
 
 /// Looks up a path, and returns whether it leads to a directory that has entries. Makes at most one
@@ -168,12 +168,12 @@ pub fn path_has_entries<D: BlockDevice>(
     ensures reading { ReadsOrReports thread.old thread.new result }
 {
     let shown = look_up_path(alloc, thread, root, path)?;
-    let has_entries = has_entries(alloc, thread, first_pair_found(root, shown))?;
+    let has_entries = has_entries(alloc, thread, found_directory_index(root, shown))?;
     // The proof needs the device's block size to show that a list has the size that its entry
     // states.
     let _device = thread.device();
     Ok(NodeAndEmptiness {
-        finding: finding_shown(shown),
+        finding: node_of_lookup(shown),
         has_entries,
     })
 }

@@ -5,7 +5,7 @@ ghost use Rattle.std.specs.Option.{option_copied};
 ghost use Rattle.lfs_model.specs.session.History.{read_count};
 ghost use Rattle.lfs_model.specs.format.Slots.{PairContent as ModelContent, Inline, Slot};
 ghost use Rattle.lfs_thread.specs.CachedLog.{IsContentLog, cached_log};
-ghost use Rattle.lfs_lookup.specs.BytesAt.{IsSpotSlot, spot_and_storage};
+ghost use Rattle.lfs_lookup.specs.BytesAt.{IsSpotSlot, file_slot_and_storage};
 ghost use Rattle.lfs_lookup.specs.LookupReading.{ReadsOrReports};
 
 use crate::by_path::look_up_path;
@@ -88,8 +88,8 @@ pub fn read_inline_at<D: BlockDevice>(
 
 /// Returns the slot of the file that a look-up found, and where the file's bytes are stored.
 /// Returns None if the look-up found no file.
-pub fn spot_of_file(shown: VisiblePathLookup) -> Option<(SlotPosition, FileStorage)>
-    ensures { result ≡ spot_and_storage shown }
+pub fn slot_of_file(shown: VisiblePathLookup) -> Option<(SlotPosition, FileStorage)>
+    ensures { result ≡ file_slot_and_storage shown }
 {
     match shown {
         VisiblePathLookup::File { slot, contents } => Some((slot, contents)),

@@ -1,7 +1,7 @@
 // The entries of a pair and of a directory.
 
 ghost use Rattle.std.specs.Prelude.{◌≡◌, ◌<◌, ◌≤◌, ◌+◌, ◌∷◌, [], Some, IfOk, IfSome, drop, false, length, map};
-ghost use Rattle.lfs_model.specs.format.Slots.{address_view};
+ghost use Rattle.lfs_model.specs.format.Slots.{address_of_array};
 ghost use Rattle.lfs_model.specs.format.Thread.{pairs_gstate, unmoved_entries};
 ghost use Rattle.lfs_model.specs.session.History.{read_count};
 ghost use Rattle.lfs_tag.specs.FieldsView.{move_view};
@@ -9,7 +9,7 @@ ghost use Rattle.lfs_thread.specs.ThreadSteps.{thread_pair};
 ghost use Rattle.lfs_lookup.specs.CachedPairs.{ArePairsCached, KeepsCachedPairs};
 ghost use Rattle.lfs_lookup.specs.AtPath.{has_entries_from};
 ghost use Rattle.lfs_lookup.specs.Items.{items_view, named_struct};
-ghost use Rattle.lfs_lookup.specs.Listed.{AreDirectoryEntries, joined_pairs, joined_count_from, moved_slot_id, joined_pairs_from, pair_entries_from};
+ghost use Rattle.lfs_lookup.specs.Listed.{AreDirectoryEntries, joined_pairs, hard_tail_count_from, moved_slot_id, hard_tail_chain_from, directory_entries_from};
 ghost use Rattle.lfs_lookup.specs.LookupReading.{ReadsOrReports};
 ghost use Rattle.lfs_lookup.specs.Searchable.{CanReadPair};
 
@@ -24,7 +24,7 @@ use std::alloc::Global;
 // Returns the id of the slot to which a pending move refers, if that slot is in the pair at address
 // `at`.
 fn moved_id_in(state: &MoveState, at: [u32; 2]) -> Option<usize>
-    ensures { result ≡ moved_slot_id (move_view state.now) (address_view at) }
+    ensures { result ≡ moved_slot_id (move_view state.now) (address_of_array at) }
 {
     if state.kind == DELETE && is_same_pair(state.pair, at) {
         Some(usize::from(state.id))
@@ -57,7 +57,7 @@ fn pair_items<D: BlockDevice>(
 ///
 /// Errors: `Io` if the pair's block can't be read. `NoMemory` if memory for the block, its slots or
 /// the entries can't be allocated.
-pub fn unhidden_pair_items<D: BlockDevice>(
+pub fn pair_entries<D: BlockDevice>(
     alloc: Global,
     thread: &mut Thread<D>,
     index: usize,
@@ -85,8 +85,8 @@ pub fn directory_items<D: BlockDevice>(
 ) -> Result<Vec<NameAndOwnedStruct>, Error>
     requires can { CanReadPair thread.old first }
     requires state { move_view state.now ≡ pairs_gstate thread.old.kept.pairs }
-    ensures items { IfOk result (λ items. items_view items.items ≡ pair_entries_from thread.old.kept.pairs (Some first)) }
-    ensures few { read_count thread.new.kept.history ≤ read_count thread.old.kept.history + joined_count_from thread.old.kept.pairs (Some first) }
+    ensures items { IfOk result (λ items. items_view items.items ≡ directory_entries_from thread.old.kept.pairs (Some first)) }
+    ensures few { read_count thread.new.kept.history ≤ read_count thread.old.kept.history + hard_tail_count_from thread.old.kept.pairs (Some first) }
     ensures kept { ArePairsCached thread.old (joined_pairs (drop first thread.old.kept.pairs)) → read_count thread.new.kept.history ≡ read_count thread.old.kept.history }
     ensures reading { ReadsOrReports thread.old thread.new result }
 {
@@ -105,16 +105,16 @@ pub fn directory_items<D: BlockDevice>(
 /// accepted image, the entries are sorted in the disk's order of names. Makes at most one read for
 /// each pair of the directory, and no read if all of these pairs are cached.
 ///
-/// Errors are those of [`unhidden_pair_items`].
+/// Errors are those of [`pair_entries`].
 pub fn directory_pair_entries<D: BlockDevice>(
     alloc: Global,
     thread: &mut Thread<D>,
     first: usize,
 ) -> Result<Vec<NameAndOwnedStruct>, Error>
     requires { CanReadPair thread.old first }
-    ensures items { IfOk result (λ items. items_view items.items ≡ pair_entries_from thread.old.kept.pairs (Some first)) }
+    ensures items { IfOk result (λ items. items_view items.items ≡ directory_entries_from thread.old.kept.pairs (Some first)) }
     ensures entries { IfOk result (λ items. AreDirectoryEntries thread.old.kept.disk thread.old.kept.pairs first (items_view items.items)) }
-    ensures few { read_count thread.new.kept.history ≤ read_count thread.old.kept.history + joined_count_from thread.old.kept.pairs (Some first) }
+    ensures few { read_count thread.new.kept.history ≤ read_count thread.old.kept.history + hard_tail_count_from thread.old.kept.pairs (Some first) }
     ensures kept { ArePairsCached thread.old (joined_pairs (drop first thread.old.kept.pairs)) → read_count thread.new.kept.history ≡ read_count thread.old.kept.history }
     ensures reading { ReadsOrReports thread.old thread.new result }
 {
@@ -132,9 +132,9 @@ pub(crate) fn items_if_directory<D: BlockDevice>(
 ) -> Result<Vec<NameAndOwnedStruct>, Error>
     requires works { thread.old.failed ≡ false }
     requires below { IfSome from (λ first. first < length thread.old.kept.pairs) }
-    ensures items { IfOk result (λ items. items_view items.items ≡ pair_entries_from thread.old.kept.pairs from) }
-    ensures few { read_count thread.new.kept.history ≤ read_count thread.old.kept.history + joined_count_from thread.old.kept.pairs from }
-    ensures kept { ArePairsCached thread.old (joined_pairs_from thread.old.kept.pairs from) → read_count thread.new.kept.history ≡ read_count thread.old.kept.history }
+    ensures items { IfOk result (λ items. items_view items.items ≡ directory_entries_from thread.old.kept.pairs from) }
+    ensures few { read_count thread.new.kept.history ≤ read_count thread.old.kept.history + hard_tail_count_from thread.old.kept.pairs from }
+    ensures kept { ArePairsCached thread.old (hard_tail_chain_from thread.old.kept.pairs from) → read_count thread.new.kept.history ≡ read_count thread.old.kept.history }
     ensures reading { ReadsOrReports thread.old thread.new result }
 {
     match from {
@@ -146,7 +146,7 @@ pub(crate) fn items_if_directory<D: BlockDevice>(
 /// Returns whether the directory whose first pair has index `from` has an entry. Returns false if
 /// `from` is None. Makes at most one read for each pair of the directory.
 ///
-/// Errors are those of [`unhidden_pair_items`].
+/// Errors are those of [`pair_entries`].
 pub fn has_entries<D: BlockDevice>(
     alloc: Global,
     thread: &mut Thread<D>,
@@ -155,12 +155,12 @@ pub fn has_entries<D: BlockDevice>(
     requires works { thread.old.failed ≡ false }
     requires below { IfSome from (λ first. first < length thread.old.kept.pairs) }
     ensures has { IfOk result (λ has. has ≡ has_entries_from thread.old.kept.pairs from) }
-    ensures few { read_count thread.new.kept.history ≤ read_count thread.old.kept.history + joined_count_from thread.old.kept.pairs from }
+    ensures few { read_count thread.new.kept.history ≤ read_count thread.old.kept.history + hard_tail_count_from thread.old.kept.pairs from }
     ensures reading { ReadsOrReports thread.old thread.new result }
 {
     let mut pair = from;
     while let Some(index) = pair {
-        let items = unhidden_pair_items(alloc, thread, index)?;
+        let items = pair_entries(alloc, thread, index)?;
         if items.len() > 0 {
             return Ok(true);
         }

@@ -1,7 +1,7 @@
 // Decoded structs of slots.
 
 ghost use Rattle.lfs_model.specs.format.Content.{decoded_struct};
-ghost use Rattle.lfs_model.specs.layers.LoggedContent.{IsAllowedPart};
+ghost use Rattle.lfs_model.specs.layers.LoggedContent.{IsNameOrStruct};
 ghost use Rattle.lfs_tag.specs.ContentView.{part_view};
 ghost use Rattle.lfs_lookup.specs.Entry.{IsStructEntry};
 
@@ -27,7 +27,7 @@ pub enum FileOrDirectory {
 /// Decodes a slot's struct. Returns where a file's bytes are stored, or the address of a
 /// directory's first pair (SPEC.md of littlefs, "0x2xx LFS_TYPE_STRUCT").
 pub fn entry_of_struct(structure: &NameOrStruct<'_>) -> FileOrDirectory
-    requires { IsAllowedPart 2 (part_view structure.now) }
+    requires { IsNameOrStruct 2 (part_view structure.now) }
     ensures { IsStructEntry result (decoded_struct structure.now.kind structure.now.bytes.now) }
 {
     match Struct::of(structure).unwrap() {

@@ -1,7 +1,7 @@
 // Reads of all bytes of a file.
 
 ghost use Rattle.std.specs.Prelude.{◌≡◌, IfOk, false, length};
-ghost use Rattle.lfs_model.specs.tree.View.{IsFormedList};
+ghost use Rattle.lfs_model.specs.tree.View.{IsWellFormedList};
 ghost use Rattle.lfs_lookup.specs.FileBytes.{struct_file_bytes};
 ghost use Rattle.lfs_lookup.specs.Items.{owned_view};
 ghost use Rattle.lfs_lookup.specs.LookupReading.{ReadsOrReports};
@@ -29,7 +29,7 @@ pub fn read_struct_bytes<D: BlockDevice>(
     structure: &OwnedStruct,
 ) -> Result<Vec<u8>, Error>
     requires works { thread.old.failed ≡ false }
-    requires list { IsFormedList thread.old.kept.disk (owned_view structure.now) }
+    requires list { IsWellFormedList thread.old.kept.disk (owned_view structure.now) }
     ensures bytes { IfOk result (λ bytes. bytes.items ≡ struct_file_bytes thread.old.kept.disk (owned_view structure.now)) }
     ensures reading { ReadsOrReports thread.old thread.new result }
 {

@@ -12,8 +12,8 @@ ghost use Rattle.lfs_lookup.specs.LookupReading.{ReadsOrReports};
 ghost use Rattle.lfs_lookup.specs.Reads.{ReadsPathsOnce};
 ghost use Rattle.lfs_lookup.specs.Searchable.{CanSearchFromRoot};
 
-use crate::by_path::{finding_shown, look_up_path};
-use crate::bytes::{read_inline_at, spot_of_file};
+use crate::by_path::{look_up_path, node_of_lookup};
+use crate::bytes::{read_inline_at, slot_of_file};
 use crate::entry::FileStorage;
 use crate::found_entries::FoundNode;
 use crate::path::Path;
@@ -85,8 +85,8 @@ pub fn find_file_contents<D: BlockDevice>(
     // The proof needs the device's block size to show that a list has the size that its entry
     // states.
     let _device = thread.device();
-    let finding = finding_shown(shown);
-    let Some((slot, contents)) = spot_of_file(shown) else {
+    let finding = node_of_lookup(shown);
+    let Some((slot, contents)) = slot_of_file(shown) else {
         return Ok(FoundFile {
             finding,
             contents: None,

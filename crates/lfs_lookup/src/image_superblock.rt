@@ -3,7 +3,7 @@
 ghost use Rattle.std.specs.Prelude.{◌≡◌, ◌≤◌, ◌+◌, IfOk, Some, false, length};
 ghost use Rattle.lfs_model.specs.format.EntryTypes.{superblock_fields};
 ghost use Rattle.lfs_model.specs.session.History.{read_count};
-ghost use Rattle.lfs_model.specs.tree.Profile.{image_fields};
+ghost use Rattle.lfs_model.specs.tree.Profile.{image_superblock_fields};
 ghost use Rattle.lfs_model.specs.format.Thread.{count_before_root};
 ghost use Rattle.lfs_model.specs.tree.View.{IsAccepted};
 ghost use Rattle.lfs_tag.specs.FieldsView.{superblock_view};
@@ -41,7 +41,7 @@ pub fn superblock<D: BlockDevice>(
     requires works { thread.old.failed ≡ false }
     requires accepted { IsAccepted thread.old.kept.disk thread.old.kept.pairs }
     requires root { root ≡ count_before_root thread.old.kept.pairs }
-    ensures is { IfOk result (λ f. image_fields thread.old.kept.pairs ≡ Some (superblock_view f)) }
+    ensures is { IfOk result (λ f. image_superblock_fields thread.old.kept.pairs ≡ Some (superblock_view f)) }
     ensures few { read_count thread.new.kept.history ≤ read_count thread.old.kept.history + 1 }
     ensures reading { ReadsOrReports thread.old thread.new result }
 {

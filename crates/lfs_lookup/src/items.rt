@@ -4,11 +4,11 @@ ghost use Rattle.std.specs.Prelude.{◌≡◌, ◌++◌, IfOk, IfErr, OnOk, map}
 ghost use Rattle.std.specs.Option.{option_map};
 ghost use Rattle.lfs_model.specs.format.Slots.{PairContent as ModelContent};
 ghost use Rattle.lfs_model.specs.format.Content.{decoded_struct};
-ghost use Rattle.lfs_model.specs.layers.LoggedContent.{IsFormedSlot, AreWellFormed, IsAllowedPart};
+ghost use Rattle.lfs_model.specs.layers.LoggedContent.{IsWellFormedSlot, AreWellFormed, IsNameOrStruct};
 ghost use Rattle.lfs_thread.specs.CachedLog.{IsContentLog};
 ghost use Rattle.lfs_tag.specs.ContentView.{part_view, slot_view};
-ghost use Rattle.lfs_lookup.specs.ByName.{AreShorterFirst};
-ghost use Rattle.lfs_lookup.specs.Items.{item_view, items_view, optional_entry_list, unhidden_entries, raw_entries, raw_entry, owned_view, slots_except};
+ghost use Rattle.lfs_lookup.specs.ByName.{AreSortedShorterFirst};
+ghost use Rattle.lfs_lookup.specs.Items.{item_view, items_view, optional_entry_list, visible_slot_entries, raw_entries, raw_entry, owned_view, slots_except};
 
 use lfs_device::Error;
 use lfs_tag::{Content, Log, NameOrStruct, Slot, Struct};
@@ -37,7 +37,7 @@ pub struct NameAndOwnedStruct {
 
 /// Decodes a slot's struct, and copies the inline bytes of a file.
 pub fn owned_struct(alloc: Global, part: &NameOrStruct<'_>) -> Result<OwnedStruct, AllocError>
-    requires { IsAllowedPart 2 (part_view part.now) }
+    requires { IsNameOrStruct 2 (part_view part.now) }
     ensures { IfOk result (λ s. owned_view s ≡ decoded_struct part.now.kind part.now.bytes.now) }
 {
     match Struct::of(part).unwrap() {
@@ -53,7 +53,7 @@ pub fn owned_struct(alloc: Global, part: &NameOrStruct<'_>) -> Result<OwnedStruc
 // Returns the entry of a slot. Returns None for the superblock's slot, and for a slot that lacks a
 // name or a struct.
 fn item_of_slot(alloc: Global, slot: &Slot<'_>) -> Result<Option<NameAndOwnedStruct>, AllocError>
-    requires { IsFormedSlot (slot_view slot.now) }
+    requires { IsWellFormedSlot (slot_view slot.now) }
     ensures { IfOk result (λ item. option_map item_view item ≡ raw_entry (slot_view slot.now)) }
 {
     let (Some(name), Some(part)) = (slot.name, slot.structure) else {
@@ -73,7 +73,7 @@ fn push_slot_item(
     items: &mut Vec<NameAndOwnedStruct>,
     slot: &Slot<'_>,
 ) -> Result<(), AllocError>
-    requires { IsFormedSlot (slot_view slot.now) }
+    requires { IsWellFormedSlot (slot_view slot.now) }
     ensures { OnOk result (items_view items.new.items ≡ items_view items.old.items ++ optional_entry_list (raw_entry (slot_view slot.now))) }
 {
     if let Some(item) = item_of_slot(alloc, slot)? {
@@ -112,7 +112,7 @@ pub(crate) fn items_in_log(
     moved: Option<usize>,
 ) -> Result<Vec<NameAndOwnedStruct>, Error>
     requires { (content : ModelContent) × IsContentLog log.now content }
-    ensures items { (content : ModelContent) → IsContentLog log.now content → IfOk result (λ items. items_view items.items ≡ unhidden_entries moved content.slots) }
+    ensures items { (content : ModelContent) → IsContentLog log.now content → IfOk result (λ items. items_view items.items ≡ visible_slot_entries moved content.slots) }
     ensures errors { IfErr result (λ e. e ≡ Error.NoMemory) }
 {
     let mut content = Content::read(alloc, log)?;
@@ -123,7 +123,7 @@ pub(crate) fn items_in_log(
 
 // Sorts entries by name. A name that is a prefix of another comes first.
 pub(crate) fn sort_shorter_first(items: &mut Vec<NameAndOwnedStruct>)
-    ensures { AreShorterFirst (items_view items.old.items) (items_view items.new.items) }
+    ensures { AreSortedShorterFirst (items_view items.old.items) (items_view items.new.items) }
 {
     items.sort_unstable_by(|a, b| a.name.cmp(&b.name));
 }

@@ -27,9 +27,11 @@ mod walks;
 
 pub use attribute_sizes::attributes_size_at;
 pub use attributes::find_attribute;
-pub use by_path::{find_node, finding_shown, first_pair_found, look_up_path, path_has_entries};
-pub use bytes::{read_inline_at, spot_of_file};
-pub use directory::{directory_items, directory_pair_entries, has_entries, unhidden_pair_items};
+pub use by_path::{
+    find_node, found_directory_index, look_up_path, node_of_lookup, path_has_entries,
+};
+pub use bytes::{read_inline_at, slot_of_file};
+pub use directory::{directory_items, directory_pair_entries, has_entries, pair_entries};
 pub use entry::{FileOrDirectory, FileStorage, entry_of_struct};
 pub use escape::push_escaped_path;
 pub use file_bytes::read_struct_bytes;
@@ -43,5 +45,5 @@ pub use path::Path;
 pub use paths::{PathLookup, VisiblePathLookup, look_up};
 pub use profile::{find_profile_breach, follows_hard_tail};
 pub use refusal::{Refusal, refuse_if, to_refusal};
-pub use search::{SlotPosition, find_unhidden};
+pub use search::{SlotPosition, find_visible};
 pub use walks::{TreeItem, walk_tree};

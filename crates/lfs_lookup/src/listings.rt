@@ -3,16 +3,16 @@
 ghost use Rattle.std.specs.Prelude.{◌≡◌, ◌≤◌, ◌+◌, ◌++◌, ◌∷◌, [], IfOk, map, sum_by};
 ghost use Rattle.lfs_model.specs.crash.Frame.{directory_pair_count, ancestor_paths};
 ghost use Rattle.lfs_model.specs.session.History.{read_count};
-ghost use Rattle.lfs_model.specs.session.Effects.{items_at};
+ghost use Rattle.lfs_model.specs.session.Effects.{listed_entries_at};
 ghost use Rattle.lfs_model.specs.tree.Shown.{disk_tree};
 ghost use Rattle.lfs_lookup.specs.CachedPairs.{AreDirectoriesCached};
 ghost use Rattle.lfs_lookup.specs.Finds.{IsFoundNode, listed_item_view};
 ghost use Rattle.lfs_lookup.specs.Items.{item_view, items_view, owned_view};
-ghost use Rattle.lfs_lookup.specs.ListAt.{AreInLimits, StructFitsTag, IsInLimits, name_and_size, listed_struct_size};
+ghost use Rattle.lfs_lookup.specs.ListAt.{AreNamedStructsInLimits, StructFitsTag, IsNamedStructInLimits, name_and_size, listed_struct_size};
 ghost use Rattle.lfs_lookup.specs.LookupReading.{ReadsOrReports};
 ghost use Rattle.lfs_lookup.specs.Searchable.{CanSearchFromRoot};
 
-use crate::by_path::{finding_shown, first_pair_found, look_up_path};
+use crate::by_path::{found_directory_index, look_up_path, node_of_lookup};
 use crate::directory::items_if_directory;
 use crate::found_entries::Listing;
 use crate::items::{NameAndOwnedStruct, OwnedStruct, sort_shorter_first};
@@ -37,7 +37,7 @@ fn listed_size(structure: &OwnedStruct) -> Option<u32>
 
 // Converts an entry to its name, kind and size.
 fn to_list_item(item: NameAndOwnedStruct) -> ListItem
-    requires { IsInLimits (item_view item) }
+    requires { IsNamedStructInLimits (item_view item) }
     ensures { listed_item_view result ≡ name_and_size (item_view item) }
 {
     let stat = Stat::from_size(listed_size(&item.structure));
@@ -53,7 +53,7 @@ fn to_list_item(item: NameAndOwnedStruct) -> ListItem
 
 // Converts entries to their names, kinds and sizes.
 fn to_list_items(alloc: Global, items: Vec<NameAndOwnedStruct>) -> Result<Vec<ListItem>, AllocError>
-    requires { AreInLimits (items_view items.items) }
+    requires { AreNamedStructsInLimits (items_view items.items) }
     ensures { IfOk result (λ listed. map listed_item_view listed.items ≡ map name_and_size (items_view items.items)) }
 {
     let mut listed = Vec::new(alloc);
@@ -79,13 +79,13 @@ pub fn list_directory<D: BlockDevice>(
 ) -> Result<Listing, Error>
     requires { CanSearchFromRoot thread.old root }
     ensures found { IfOk result (λ listing. IsFoundNode (disk_tree thread.old.kept.disk thread.old.kept.pairs) path.now listing.finding) }
-    ensures items { IfOk result (λ listing. map listed_item_view listing.items.items ≡ items_at (disk_tree thread.old.kept.disk thread.old.kept.pairs) path.now) }
+    ensures items { IfOk result (λ listing. map listed_item_view listing.items.items ≡ listed_entries_at (disk_tree thread.old.kept.disk thread.old.kept.pairs) path.now) }
     ensures few { read_count thread.new.kept.history ≤ read_count thread.old.kept.history + sum_by (directory_pair_count thread.old.kept.pairs) (ancestor_paths path.now ++ path.now ∷ []) }
     ensures kept { AreDirectoriesCached thread.old (ancestor_paths path.now ++ path.now ∷ []) → read_count thread.new.kept.history ≡ read_count thread.old.kept.history }
     ensures reading { ReadsOrReports thread.old thread.new result }
 {
     let shown = look_up_path(alloc, thread, root, path)?;
-    let mut items = items_if_directory(alloc, thread, first_pair_found(root, shown))?;
+    let mut items = items_if_directory(alloc, thread, found_directory_index(root, shown))?;
     sort_shorter_first(&mut items);
     // The proof needs that blocks consist of bytes to show that inline contents are short. The
     // proof also needs the device's block size to show that a list has the size that its entry
@@ -93,7 +93,7 @@ pub fn list_directory<D: BlockDevice>(
     let _device = thread.device();
     let listed = to_list_items(alloc, items)?;
     Ok(Listing {
-        finding: finding_shown(shown),
+        finding: node_of_lookup(shown),
         items: listed,
     })
 }

@@ -3,22 +3,22 @@
 ghost use Rattle.std.specs.Prelude.{◌≡◌, None, ◌<◌, ◌≤◌, ◌+◌, IfOk, map, sum_by, ◌++◌, ◌∷◌, [], drop};
 ghost use Rattle.lfs_model.specs.crash.Frame.{directory_pair_count, ancestor_paths};
 ghost use Rattle.lfs_model.specs.session.History.{read_count};
-ghost use Rattle.lfs_model.specs.session.InDirectory.{joined_count};
+ghost use Rattle.lfs_model.specs.session.InDirectory.{joined_pair_count};
 ghost use Rattle.lfs_model.specs.format.Slots.{zero_gstate};
 ghost use Rattle.lfs_model.specs.tree.Tree.{Path};
 ghost use Rattle.lfs_model.specs.tree.View.{IsAccepted};
 ghost use Rattle.lfs_tag.specs.FieldsView.{move_view};
 ghost use Rattle.lfs_lookup.specs.AtPath.{ParentsAllowLookup};
-ghost use Rattle.lfs_lookup.specs.AttributeAt.{IsFoundCached};
-ghost use Rattle.lfs_lookup.specs.Halves.{ReadsBinarySearches, ReadsBinarySearch};
+ghost use Rattle.lfs_lookup.specs.AttributeAt.{IsFoundPairCached};
+ghost use Rattle.lfs_lookup.specs.Halves.{ReadsAtMostBinarySearches, ReadsAtMostBinarySearch};
 ghost use Rattle.lfs_lookup.specs.LookupReading.{ReadsOrReports};
-ghost use Rattle.lfs_lookup.specs.NameSearch.{HidesOnlySlot};
-ghost use Rattle.lfs_lookup.specs.LookupPaths.{LeadsToPair, ParentReached, IsParentAt, IsVisibleEntry, IsNamedEntry, LeadsToResult, IsUnhiddenResult, parent_refusal};
+ghost use Rattle.lfs_lookup.specs.NameSearch.{IsOnlyMovedSlot};
+ghost use Rattle.lfs_lookup.specs.LookupPaths.{LeadsToPair, IsPathParent, IsParentAt, IsVisibleNameLookup, IsNameLookupResult, IsResultOfPath, IsVisibleLookupResult, parent_refusal};
 ghost use Rattle.lfs_lookup.specs.Reads.{ReadsDirectoryOnce, ReadsDirectoriesOnce};
-ghost use Rattle.lfs_lookup.specs.Searchable.{CanSearchRecovered, CanSearchUnhidden};
+ghost use Rattle.lfs_lookup.specs.Searchable.{CanSearchRecovered, CanSearchHidingMoved};
 
 use crate::entry::{FileOrDirectory, FileStorage};
-use crate::search::{NamePositionInDirectory, SlotPosition, find_name, find_unhidden};
+use crate::search::{NamePositionInDirectory, SlotPosition, find_name, find_visible};
 use lfs_device::{BlockDevice, Error};
 use lfs_tag::MoveState;
 use lfs_tag::kinds::DELETE;
@@ -90,12 +90,12 @@ pub enum VisiblePathLookup {
 
 // Returns the slot that counts as deleted because the pending move in `state` refers to it
 // (DESIGN.md of littlefs, "The move problem"). Returns None if no move is pending.
-pub(crate) fn moved_slot_spot<D: BlockDevice>(
+pub(crate) fn moved_slot_position<D: BlockDevice>(
     thread: &Thread<D>,
     state: &MoveState,
 ) -> Option<SlotPosition>
     requires { IsAccepted thread.now.kept.disk thread.now.kept.pairs }
-    ensures hides { HidesOnlySlot (move_view state.now) result 0 thread.now.kept.pairs }
+    ensures hides { IsOnlyMovedSlot (move_view state.now) result 0 thread.now.kept.pairs }
     ensures none { move_view state.now ≡ zero_gstate → result ≡ None }
 {
     if state.kind != DELETE {
@@ -114,13 +114,13 @@ fn find_subdirectory<D: BlockDevice>(
     name: &[u8],
     moved: Option<SlotPosition>,
 ) -> Result<Parent, Error>
-    requires can { CanSearchUnhidden thread.old moved }
+    requires can { CanSearchHidingMoved thread.old moved }
     requires reached { (path : Path) × LeadsToPair thread.old.kept.pairs path first }
     ensures answer { IfOk result (λ parent. (path : Path) → LeadsToPair thread.old.kept.pairs path first → IsParentAt thread.old.kept (path ++ name.now ∷ []) parent) }
     ensures reads { ReadsDirectoryOnce moved first thread.old thread.new result }
     ensures reading { ReadsOrReports thread.old thread.new result }
 {
-    match find_unhidden(thread, first, name, moved)? {
+    match find_visible(thread, first, name, moved)? {
         Some((_, FileOrDirectory::Directory(at))) => {
             let next = number_at_address(thread, at).unwrap();
             Ok(Parent::Directory(next))
@@ -141,9 +141,9 @@ pub(crate) fn find_directory<D: BlockDevice>(
     path: &[&[u8]],
     moved: Option<SlotPosition>,
 ) -> Result<Parent, Error>
-    requires can { CanSearchUnhidden thread.old moved }
+    requires can { CanSearchHidingMoved thread.old moved }
     requires root { LeadsToPair thread.old.kept.pairs [] root }
-    ensures answer { IfOk result (ParentReached thread.old.kept (map (λ name. name.now) path.now)) }
+    ensures answer { IfOk result (IsPathParent thread.old.kept (map (λ name. name.now) path.now)) }
     ensures reads { ReadsDirectoriesOnce (moved ≡ None) (λ parent. parent_refusal parent ≡ None) (ancestor_paths (map (λ name. name.now) path.now)) thread.old thread.new result }
     ensures reading { ReadsOrReports thread.old thread.new result }
 {
@@ -166,9 +166,9 @@ fn search_directory<D: BlockDevice>(
 ) -> Result<PathLookup, Error>
     requires can { CanSearchRecovered thread.old }
     requires reached { (above : Path) × LeadsToPair thread.old.kept.pairs above parent }
-    ensures answer { IfOk result (λ found. (above : Path) → LeadsToPair thread.old.kept.pairs above parent → IsNamedEntry thread.old.kept.disk.order thread.old.kept.pairs above name.now found) }
-    ensures few { read_count thread.new.kept.history ≤ read_count thread.old.kept.history + joined_count (drop parent thread.old.kept.pairs) }
-    ensures halves { ReadsBinarySearch thread.old thread.new parent }
+    ensures answer { IfOk result (λ found. (above : Path) → LeadsToPair thread.old.kept.pairs above parent → IsNameLookupResult thread.old.kept.disk.order thread.old.kept.pairs above name.now found) }
+    ensures few { read_count thread.new.kept.history ≤ read_count thread.old.kept.history + joined_pair_count (drop parent thread.old.kept.pairs) }
+    ensures halves { ReadsAtMostBinarySearch thread.old thread.new parent }
     ensures reading { ReadsOrReports thread.old thread.new result }
 {
     match find_name(thread, parent, name)? {
@@ -205,9 +205,9 @@ pub fn look_up<D: BlockDevice>(
 ) -> Result<PathLookup, Error>
     requires can { CanSearchRecovered thread.old }
     requires root { LeadsToPair thread.old.kept.pairs [] root }
-    ensures answer { IfOk result (LeadsToResult thread.old.kept (map (λ name. name.now) path.now)) }
+    ensures answer { IfOk result (IsResultOfPath thread.old.kept (map (λ name. name.now) path.now)) }
     ensures few { read_count thread.new.kept.history ≤ read_count thread.old.kept.history + sum_by (directory_pair_count thread.old.kept.pairs) (ancestor_paths (map (λ name. name.now) path.now)) }
-    ensures halves { ReadsBinarySearches thread.old thread.new (ancestor_paths (map (λ name. name.now) path.now)) }
+    ensures halves { ReadsAtMostBinarySearches thread.old thread.new (ancestor_paths (map (λ name. name.now) path.now)) }
     ensures reading { ReadsOrReports thread.old thread.new result }
 {
     let Some((name, above)) = path.split_last() else {
@@ -227,14 +227,14 @@ fn look_up_name<D: BlockDevice>(
     name: &[u8],
     moved: Option<SlotPosition>,
 ) -> Result<VisiblePathLookup, Error>
-    requires can { CanSearchUnhidden thread.old moved }
+    requires can { CanSearchHidingMoved thread.old moved }
     requires reached { (above : Path) × LeadsToPair thread.old.kept.pairs above parent }
-    ensures answer { IfOk result (λ shown. (above : Path) → LeadsToPair thread.old.kept.pairs above parent → IsVisibleEntry thread.old.kept.pairs moved (above ++ name.now ∷ []) shown) }
-    ensures cached_log { IfOk result (IsFoundCached thread.new) }
+    ensures answer { IfOk result (λ shown. (above : Path) → LeadsToPair thread.old.kept.pairs above parent → IsVisibleNameLookup thread.old.kept.pairs moved (above ++ name.now ∷ []) shown) }
+    ensures cached_log { IfOk result (IsFoundPairCached thread.new) }
     ensures reads { ReadsDirectoryOnce moved parent thread.old thread.new result }
     ensures reading { ReadsOrReports thread.old thread.new result }
 {
-    match find_unhidden(thread, parent, name, moved)? {
+    match find_visible(thread, parent, name, moved)? {
         Some((slot, FileOrDirectory::Directory(at))) => {
             let first = number_at_address(thread, at).unwrap();
             Ok(VisiblePathLookup::Directory { slot, first })
@@ -252,16 +252,16 @@ fn look_up_name<D: BlockDevice>(
 // found is cached afterwards.
 //
 // Errors are those of `find_name`.
-pub(crate) fn look_up_unhidden<D: BlockDevice>(
+pub(crate) fn look_up_visible<D: BlockDevice>(
     thread: &mut Thread<D>,
     root: usize,
     path: &[&[u8]],
     moved: Option<SlotPosition>,
 ) -> Result<VisiblePathLookup, Error>
-    requires can { CanSearchUnhidden thread.old moved }
+    requires can { CanSearchHidingMoved thread.old moved }
     requires root { LeadsToPair thread.old.kept.pairs [] root }
-    ensures answer { IfOk result (IsUnhiddenResult thread.old.kept moved (map (λ name. name.now) path.now)) }
-    ensures cached_log { IfOk result (IsFoundCached thread.new) }
+    ensures answer { IfOk result (IsVisibleLookupResult thread.old.kept moved (map (λ name. name.now) path.now)) }
+    ensures cached_log { IfOk result (IsFoundPairCached thread.new) }
     ensures reads { ReadsDirectoriesOnce (moved ≡ None) ParentsAllowLookup (ancestor_paths (map (λ name. name.now) path.now)) thread.old thread.new result }
     ensures reading { ReadsOrReports thread.old thread.new result }
 {

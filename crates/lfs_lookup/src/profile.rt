@@ -2,21 +2,21 @@
 // (docs/GLOSSARY.md) that the image breaks.
 
 ghost use Rattle.std.specs.Prelude.{List, ◌≡◌, ◌↔◌, ◌<◌, ◌⊎◌, IsTrue, All, IfOk, IfErr, IfSome, MatchOption, None, Some, false, length, map, true};
-ghost use Rattle.lfs_model.specs.format.Content.{complete_slot, complete_slots, decoded_struct};
+ghost use Rattle.lfs_model.specs.format.Content.{decoded_slot, decoded_slots, decoded_struct};
 ghost use Rattle.lfs_model.specs.format.EntryTypes.{superblock_fields};
 ghost use Rattle.lfs_model.specs.format.Disk.{inline_limit};
-ghost use Rattle.lfs_model.specs.format.Slots.{PairContent as ModelContent, Inline, Slot as ModelSlot, is_superblock, address_view};
+ghost use Rattle.lfs_model.specs.format.Slots.{PairContent as ModelContent, Inline, Slot as ModelSlot, is_superblock, address_of_array};
 ghost use Rattle.lfs_model.specs.format.Thread.{count_before_root};
 ghost use Rattle.lfs_model.specs.tree.Profile.{InlineBytesFit};
-ghost use Rattle.lfs_model.specs.layers.ProfileBreaches.{IsBreachIfAny, IsOtherLimit};
+ghost use Rattle.lfs_model.specs.layers.ProfileBreaches.{IsBreachIfAny, IsDifferingLimit};
 ghost use Rattle.lfs_model.specs.tree.View.{IsAccepted};
-ghost use Rattle.lfs_model.specs.layers.WrittenContent.{RawContentFits};
+ghost use Rattle.lfs_model.specs.layers.WrittenContent.{RawContentFitsInPair};
 ghost use Rattle.lfs_model.specs.declared.breaches.ProfileBreach.TheVariants.{EmptyPair, TooLarge};
 ghost use Rattle.lfs_tag.specs.ContentView.{attribute_view, content_view, slot_view};
 ghost use Rattle.lfs_tag.specs.FieldsView.{superblock_view};
 ghost use Rattle.lfs_thread.specs.CachedLog.{IsContentLog};
 ghost use Rattle.lfs_thread.specs.ThreadSteps.{thread_pair};
-ghost use Rattle.lfs_lookup.specs.ProfileChecks.{IsSlotsBreach, ChargeFits, IsPairBreach, IsSlotBreach, HasProfileLimits, HasSuperblockStruct, follows_tail_at};
+ghost use Rattle.lfs_lookup.specs.ProfileChecks.{IsSlotsBreachIfAny, EntryFitsHalfPair, IsPairBreachIfAny, IsSlotBreachIfAny, HasProfileLimits, HasSuperblockStruct, follows_hard_tail_at};
 ghost use Rattle.lfs_lookup.specs.LookupReading.{ReadsOrReports};
 
 use lfs_device::{BlockDevice, Error, Geometry};
@@ -37,7 +37,7 @@ struct SlotPlace {
 // ---- the choice of the breach that is reported
 
 // Returns the rank of a breach's rule. The breach with the lowest rank is reported.
-fn rule_order(breach: ProfileBreach) -> u32 {
+fn breach_rank(breach: ProfileBreach) -> u32 {
     match breach {
         ProfileBreach::OtherLimits { .. } => 0,
         ProfileBreach::LongInline { .. } => 1,
@@ -47,7 +47,7 @@ fn rule_order(breach: ProfileBreach) -> u32 {
 }
 
 // Returns the breach whose rule has the lower rank, or `first` if the ranks are equal.
-fn breach_to_tell(
+fn breach_to_report(
     first: Option<ProfileBreach>,
     next: Option<ProfileBreach>,
 ) -> Option<ProfileBreach>
@@ -55,7 +55,7 @@ fn breach_to_tell(
     ensures either { (result ≡ first) ⊎ (result ≡ next) }
 {
     match (first, next) {
-        (Some(one), Some(other)) if rule_order(one) <= rule_order(other) => first,
+        (Some(one), Some(other)) if breach_rank(one) <= breach_rank(other) => first,
         (Some(_), None) => first,
         _ => next,
     }
@@ -65,7 +65,7 @@ fn breach_to_tell(
 
 // Returns the first limit of a superblock that differs from the profile's limit.
 fn other_limit(geometry: &Geometry, fields: &Superblock) -> Option<OtherLimit>
-    ensures found { IfSome result (IsOtherLimit geometry.now.profile (superblock_view fields.now)) }
+    ensures found { IfSome result (IsDifferingLimit geometry.now.profile (superblock_view fields.now)) }
     ensures none { result ≡ None → HasProfileLimits geometry.now.profile (superblock_view fields.now) }
 {
     if fields.name_max != geometry.name_max() {
@@ -81,9 +81,9 @@ fn other_limit(geometry: &Geometry, fields: &Superblock) -> Option<OtherLimit>
 }
 
 // Returns the first limit in a superblock's struct that differs from the profile's limit.
-fn other_limit_of(geometry: &Geometry, structure: &NameOrStruct<'_>) -> Option<OtherLimit>
+fn struct_differing_limit(geometry: &Geometry, structure: &NameOrStruct<'_>) -> Option<OtherLimit>
     requires { length structure.now.bytes.now ≡ 24 }
-    ensures found { IfSome result (IsOtherLimit geometry.now.profile (superblock_fields structure.now.bytes.now)) }
+    ensures found { IfSome result (IsDifferingLimit geometry.now.profile (superblock_fields structure.now.bytes.now)) }
     ensures none { result ≡ None → HasProfileLimits geometry.now.profile (superblock_fields structure.now.bytes.now) }
 {
     match <&[u8; 24]>::try_from(structure.bytes) {
@@ -99,10 +99,10 @@ fn breach_of_superblock(
     structure: &NameOrStruct<'_>,
 ) -> Option<ProfileBreach>
     requires { length structure.now.bytes.now ≡ 24 }
-    ensures { (s : ModelSlot) → is_superblock s ≡ true → s.struct ≡ Inline structure.now.bytes.now → IsSlotBreach geometry.now.profile geometry.now.block_size geometry.now.page (address_view place.pair) place.slot s result }
+    ensures { (s : ModelSlot) → is_superblock s ≡ true → s.struct ≡ Inline structure.now.bytes.now → IsSlotBreachIfAny geometry.now.profile geometry.now.block_size geometry.now.page (address_of_array place.pair) place.slot s result }
 {
     let SlotPlace { pair, slot } = place;
-    match other_limit_of(geometry, structure) {
+    match struct_differing_limit(geometry, structure) {
         Some(limit) => Some(ProfileBreach::OtherLimits { pair, slot, limit }),
         None => None,
     }
@@ -117,8 +117,12 @@ fn inline_fits(geometry: &Geometry, structure: &NameOrStruct<'_>) -> bool
 
 // Returns whether an entry uses at most half of a pair, even with the longest inline contents that
 // it may ever have.
-fn charge_fits(geometry: &Geometry, name: &NameOrStruct<'_>, attributes: &[Attribute<'_>]) -> bool
-    ensures { (s : ModelSlot) → s.name ≡ name.now.bytes.now → s.attributes ≡ map attribute_view attributes.now → IsTrue result ↔ ChargeFits geometry.now.profile geometry.now.block_size geometry.now.page s }
+fn fits_half_pair(
+    geometry: &Geometry,
+    name: &NameOrStruct<'_>,
+    attributes: &[Attribute<'_>],
+) -> bool
+    ensures { (s : ModelSlot) → s.name ≡ name.now.bytes.now → s.attributes ≡ map attribute_view attributes.now → IsTrue result ↔ EntryFitsHalfPair geometry.now.profile geometry.now.block_size geometry.now.page s }
 {
     let charge = attributes_size(attributes)
         .saturating_add(name.bytes.len() as u64)
@@ -135,13 +139,13 @@ fn breach_of_entry(
     attributes: &[Attribute<'_>],
 ) -> Option<ProfileBreach>
     ensures { (s : ModelSlot) → is_superblock s ≡ false → s.name ≡ name.now.bytes.now → s.struct ≡ decoded_struct structure.now.kind structure.now.bytes.now → s.attributes ≡ map attribute_view attributes.now
-        → IsSlotBreach geometry.now.profile geometry.now.block_size geometry.now.page (address_view place.pair) place.slot s result }
+        → IsSlotBreachIfAny geometry.now.profile geometry.now.block_size geometry.now.page (address_of_array place.pair) place.slot s result }
 {
     let SlotPlace { pair, slot } = place;
     if !inline_fits(geometry, structure) {
         return Some(ProfileBreach::LongInline { pair, slot });
     }
-    if !charge_fits(geometry, name, attributes) {
+    if !fits_half_pair(geometry, name, attributes) {
         return Some(ProfileBreach::TooLarge { pair });
     }
     None
@@ -149,8 +153,8 @@ fn breach_of_entry(
 
 // Returns the rule of the writing profile that a slot breaks, if any.
 fn breach_of_slot(geometry: &Geometry, place: SlotPlace, slot: &Slot<'_>) -> Option<ProfileBreach>
-    requires { (s : ModelSlot) × ((complete_slot (slot_view slot.now) ≡ Some s) × HasSuperblockStruct s) }
-    ensures { (s : ModelSlot) → complete_slot (slot_view slot.now) ≡ Some s → HasSuperblockStruct s → IsSlotBreach geometry.now.profile geometry.now.block_size geometry.now.page (address_view place.pair) place.slot s result }
+    requires { (s : ModelSlot) × ((decoded_slot (slot_view slot.now) ≡ Some s) × HasSuperblockStruct s) }
+    ensures { (s : ModelSlot) → decoded_slot (slot_view slot.now) ≡ Some s → HasSuperblockStruct s → IsSlotBreachIfAny geometry.now.profile geometry.now.block_size geometry.now.page (address_of_array place.pair) place.slot s result }
 {
     let (Some(name), Some(structure)) = (slot.name, slot.structure) else {
         return None;
@@ -163,13 +167,13 @@ fn breach_of_slot(geometry: &Geometry, place: SlotPlace, slot: &Slot<'_>) -> Opt
 
 // Returns a rule of the writing profile that the slots of the pair at address `pair` break, if any.
 fn breach_of_slots(geometry: &Geometry, pair: [u32; 2], slots: &[Slot<'_>]) -> Option<ProfileBreach>
-    requires { (all : List ModelSlot) × ((complete_slots (map slot_view slots.now) ≡ Some all) × All HasSuperblockStruct all) }
-    ensures { (all : List ModelSlot) → complete_slots (map slot_view slots.now) ≡ Some all → All HasSuperblockStruct all → IsSlotsBreach geometry.now.profile geometry.now.block_size geometry.now.page (address_view pair) all result }
+    requires { (all : List ModelSlot) × ((decoded_slots (map slot_view slots.now) ≡ Some all) × All HasSuperblockStruct all) }
+    ensures { (all : List ModelSlot) → decoded_slots (map slot_view slots.now) ≡ Some all → All HasSuperblockStruct all → IsSlotsBreachIfAny geometry.now.profile geometry.now.block_size geometry.now.page (address_of_array pair) all result }
 {
     let mut found = None;
     for (id, slot) in slots.iter().enumerate() {
         let place = SlotPlace { pair, slot: id };
-        found = breach_to_tell(found, breach_of_slot(geometry, place, slot));
+        found = breach_to_report(found, breach_of_slot(geometry, place, slot));
     }
     found
 }
@@ -177,7 +181,7 @@ fn breach_of_slots(geometry: &Geometry, pair: [u32; 2], slots: &[Slot<'_>]) -> O
 // ---- pairs
 
 // Returns a breach if a pair that follows a hard tail has no slot.
-fn breach_if_empty(pair: [u32; 2], follows: bool, slots: &[Slot<'_>]) -> Option<ProfileBreach>
+fn empty_pair_breach(pair: [u32; 2], follows: bool, slots: &[Slot<'_>]) -> Option<ProfileBreach>
     ensures { MatchOption result (follows ≡ true → ¬ (length slots.now ≡ 0)) (λ b. (b ≡ EmptyPair pair) × (follows ≡ true) × (length slots.now ≡ 0)) }
 {
     if follows && slots.is_empty() {
@@ -188,12 +192,12 @@ fn breach_if_empty(pair: [u32; 2], follows: bool, slots: &[Slot<'_>]) -> Option<
 }
 
 // Returns a breach if a pair's content is too large.
-fn breach_of_size(
+fn oversized_pair_breach(
     geometry: &Geometry,
     pair: [u32; 2],
     content: &Content<'_>,
 ) -> Option<ProfileBreach>
-    ensures { MatchOption result (RawContentFits geometry.now.block_size geometry.now.page (content_view content.now)) (λ b. (b ≡ TooLarge pair) × ¬ RawContentFits geometry.now.block_size geometry.now.page (content_view content.now)) }
+    ensures { MatchOption result (RawContentFitsInPair geometry.now.block_size geometry.now.page (content_view content.now)) (λ b. (b ≡ TooLarge pair) × ¬ RawContentFitsInPair geometry.now.block_size geometry.now.page (content_view content.now)) }
 {
     if content_fits(content, *geometry) {
         None
@@ -212,18 +216,18 @@ fn breach_of_log(
     follows: bool,
 ) -> Result<Option<ProfileBreach>, Error>
     requires { (content : ModelContent) × (IsContentLog log.now content × All HasSuperblockStruct content.slots) }
-    ensures is { (content : ModelContent) → IsContentLog log.now content → All HasSuperblockStruct content.slots → IfOk result (IsPairBreach geometry.now.profile geometry.now.block_size geometry.now.page follows (record { at = address_view pair; content = content })) }
+    ensures is { (content : ModelContent) → IsContentLog log.now content → All HasSuperblockStruct content.slots → IfOk result (IsPairBreachIfAny geometry.now.profile geometry.now.block_size geometry.now.page follows (record { at = address_of_array pair; content = content })) }
     ensures errors { IfErr result (λ e. e ≡ Error.NoMemory) }
 {
     let content = Content::read(alloc, log)?;
     let of_slots = breach_of_slots(geometry, pair, &content.slots);
-    let empty = breach_if_empty(pair, follows, &content.slots);
-    let large = breach_of_size(geometry, pair, &content);
-    Ok(breach_to_tell(breach_to_tell(of_slots, empty), large))
+    let empty = empty_pair_breach(pair, follows, &content.slots);
+    let large = oversized_pair_breach(geometry, pair, &content);
+    Ok(breach_to_report(breach_to_report(of_slots, empty), large))
 }
 
 // Returns a rule of the writing profile that the pair at an index breaks, if any.
-fn breach_at<D: BlockDevice>(
+fn breach_of_pair<D: BlockDevice>(
     alloc: Global,
     thread: &mut Thread<D>,
     geometry: &Geometry,
@@ -233,7 +237,7 @@ fn breach_at<D: BlockDevice>(
     requires works { thread.old.failed ≡ false }
     requires below { index < length thread.old.kept.pairs }
     requires shaped { All HasSuperblockStruct (thread_pair thread.old.kept index).content.slots }
-    ensures is { IfOk result (IsPairBreach geometry.now.profile geometry.now.block_size geometry.now.page follows (thread_pair thread.old.kept index)) }
+    ensures is { IfOk result (IsPairBreachIfAny geometry.now.profile geometry.now.block_size geometry.now.page follows (thread_pair thread.old.kept index)) }
     ensures reading { ReadsOrReports thread.old thread.new result }
 {
     thread.load_pair(index)?;
@@ -248,7 +252,7 @@ fn breach_at<D: BlockDevice>(
 pub fn follows_hard_tail<D: BlockDevice>(thread: &Thread<D>, root: usize, index: usize) -> bool
     requires works { thread.now.failed ≡ false }
     requires below { index < length thread.now.kept.pairs }
-    ensures { result ≡ follows_tail_at root thread.now.kept.pairs index }
+    ensures { result ≡ follows_hard_tail_at root thread.now.kept.pairs index }
 {
     index > root && thread.next(index - 1).is_some()
 }
@@ -281,8 +285,8 @@ pub fn find_profile_breach<D: BlockDevice>(
     let mut found = None;
     for index in 0..thread.len() {
         let follows = follows_hard_tail(thread, root, index);
-        let next = breach_at(alloc, thread, &geometry, index, follows)?;
-        found = breach_to_tell(found, next);
+        let next = breach_of_pair(alloc, thread, &geometry, index, follows)?;
+        found = breach_to_report(found, next);
         if let Some(ProfileBreach::OtherLimits { .. }) = found {
             return Ok(found);
         }

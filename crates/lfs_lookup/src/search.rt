@@ -2,15 +2,15 @@
 
 ghost use Rattle.std.specs.Prelude.{◌≡◌, ◌<◌, ◌≤◌, ◌+◌, ◌-◌, ◌/◌, ◌∷◌, [], false, length, drop, IfOk, IfSome, IsSome, OnOk};
 ghost use Rattle.lfs_model.specs.session.History.{read_count};
-ghost use Rattle.lfs_model.specs.session.InDirectory.{HaveNoSuperblock, joined_count};
+ghost use Rattle.lfs_model.specs.session.InDirectory.{HaveNoSuperblock, joined_pair_count};
 ghost use Rattle.lfs_model.specs.format.Slots.{PairContent};
 ghost use Rattle.lfs_thread.specs.CachedLog.{IsContentLog, cached_log};
 ghost use Rattle.lfs_thread.specs.ThreadSteps.{thread_pair};
 ghost use Rattle.lfs_lookup.specs.CachedPairs.{KeepsCachedPairs};
 ghost use Rattle.lfs_lookup.specs.Listed.{joined_pairs};
 ghost use Rattle.lfs_lookup.specs.LookupReading.{ReadsOrReports};
-ghost use Rattle.lfs_lookup.specs.Halves.{EndsWithoutTail};
-ghost use Rattle.lfs_lookup.specs.NameSearch.{FindsInDirectory, FindsInPair, FindsUnhidden, HasCompleteLog, AreOrdered, CachesFoundPair, StartsSearch, skipped_id};
+ghost use Rattle.lfs_lookup.specs.Halves.{LastHasNoHardTail};
+ghost use Rattle.lfs_lookup.specs.NameSearch.{IsNamePositionInDirectory, IsNamePositionInPair, IsVisibleNameResult, EachSlotHasStruct, AreDirectoryNamesSorted, CachesFoundPair, SearchStartsAt, skipped_id};
 ghost use Rattle.lfs_lookup.specs.Reads.{ReadsDirectoryOnce};
 ghost use Rattle.lfs_lookup.specs.Searchable.{CanReadPair};
 
@@ -50,8 +50,8 @@ fn find_in_log(
     name: &[u8],
     skip: Option<u16>,
 ) -> NamePositionInPair
-    requires { HasCompleteLog log.now }
-    ensures { (content : PairContent) → IsContentLog log.now content → FindsInPair order skip content.slots name.now result }
+    requires { EachSlotHasStruct log.now }
+    ensures { (content : PairContent) → IsContentLog log.now content → IsNamePositionInPair order skip content.slots name.now result }
 {
     match find(log, order, name, skip) {
         Lookup::Found(id) => {
@@ -70,7 +70,7 @@ fn find_in_pair<D: BlockDevice>(
     skip: Option<u16>,
 ) -> Result<NamePositionInPair, Error>
     requires { CanReadPair thread.old pair }
-    ensures answer { IfOk result (FindsInPair thread.old.kept.disk.order skip (thread_pair thread.old.kept pair).content.slots name.now) }
+    ensures answer { IfOk result (IsNamePositionInPair thread.old.kept.disk.order skip (thread_pair thread.old.kept pair).content.slots name.now) }
     ensures cached_log { OnOk result (IsSome (cached_log thread.new pair)) }
     ensures few { read_count thread.new.kept.history ≤ read_count thread.old.kept.history + 1 }
     ensures loads { KeepsCachedPairs (thread_pair thread.old.kept pair ∷ []) thread.old thread.new result }
@@ -87,9 +87,9 @@ fn find_in_pair<D: BlockDevice>(
 fn directory_end<D: BlockDevice>(thread: &Thread<D>, first: usize) -> usize
     requires works { thread.now.failed ≡ false }
     requires below { first < length thread.now.kept.pairs }
-    ensures count { result ≡ first + joined_count (drop first thread.now.kept.pairs) }
+    ensures count { result ≡ first + joined_pair_count (drop first thread.now.kept.pairs) }
     ensures within { result ≤ length thread.now.kept.pairs }
-    ensures soft { EndsWithoutTail (joined_pairs (drop first thread.now.kept.pairs)) }
+    ensures soft { LastHasNoHardTail (joined_pairs (drop first thread.now.kept.pairs)) }
 {
     let count = thread.len();
     let mut pair = first;
@@ -101,7 +101,7 @@ fn directory_end<D: BlockDevice>(thread: &Thread<D>, first: usize) -> usize
 
 // Returns the index of the pair to search next, among the pairs from `low` to just before `high`.
 // This is the middle pair, or the pair `low` if the middle one has no slots.
-fn middle_pair_number<D: BlockDevice>(thread: &Thread<D>, low: usize, high: usize) -> usize
+fn middle_search_pair<D: BlockDevice>(thread: &Thread<D>, low: usize, high: usize) -> usize
     requires works { thread.now.failed ≡ false }
     requires some { low < high }
     requires below { high ≤ length thread.now.kept.pairs }
@@ -119,9 +119,9 @@ fn middle_pair_number<D: BlockDevice>(thread: &Thread<D>, low: usize, high: usiz
 
 // Returns the index of the pair at which the search of a directory begins: the first pair, or the
 // next one if the first has no slots. So a new name isn't written to a first pair that was emptied.
-fn search_start<D: BlockDevice>(thread: &Thread<D>, first: usize) -> usize
+fn first_searched_pair<D: BlockDevice>(thread: &Thread<D>, first: usize) -> usize
     requires can { CanReadPair thread.now first }
-    ensures { StartsSearch thread.now.kept first result }
+    ensures { SearchStartsAt thread.now.kept first result }
 {
     match thread.next(first) {
         Some(next) if thread.slot_count(first) == 0 => next,
@@ -130,14 +130,14 @@ fn search_start<D: BlockDevice>(thread: &Thread<D>, first: usize) -> usize
 }
 
 // Searches as `find_name` does, in the directory's pairs from index `first` on.
-fn find_from<D: BlockDevice>(
+fn binary_search_name<D: BlockDevice>(
     thread: &mut Thread<D>,
     first: usize,
     name: &[u8],
 ) -> Result<NamePositionInDirectory, Error>
     requires can { CanReadPair thread.old first }
     requires entries { HaveNoSuperblock (drop (first + 1) thread.old.kept.pairs) }
-    ensures answer { IfOk result (FindsInDirectory thread.old.kept.disk.order thread.old.kept.pairs first name.now) }
+    ensures answer { IfOk result (IsNamePositionInDirectory thread.old.kept.disk.order thread.old.kept.pairs first name.now) }
     ensures cached_log { IfOk result (CachesFoundPair thread.new) }
     ensures reads { ReadsDirectoryOnce None first thread.old thread.new result }
     ensures reading { ReadsOrReports thread.old thread.new result }
@@ -146,7 +146,7 @@ fn find_from<D: BlockDevice>(
     let mut high = directory_end(thread, first);
     let mut spot = SlotPosition { pair: first, id: 0 };
     while low < high {
-        let pair = middle_pair_number(thread, low, high);
+        let pair = middle_search_pair(thread, low, high);
         let count = thread.slot_count(pair);
         if count == 0 && pair > first {
             // This pair has no names, and all names before it are less.
@@ -176,7 +176,7 @@ fn find_from<D: BlockDevice>(
 }
 
 // Finds a name in the directory whose first pair has index `first`, or finds where the name would
-// be inserted. Ignores a pending move, unlike `find_unhidden`. The search is binary because a
+// be inserted. Ignores a pending move, unlike `find_visible`. The search is binary because a
 // directory's names are sorted along its pairs. Makes at most one read for each pair of the
 // directory, and at most 1 + log2 n reads if each of its n pairs has a slot.
 //
@@ -189,27 +189,27 @@ pub(crate) fn find_name<D: BlockDevice>(
 ) -> Result<NamePositionInDirectory, Error>
     requires can { CanReadPair thread.old first }
     requires entries { HaveNoSuperblock (drop (first + 1) thread.old.kept.pairs) }
-    ensures answer { IfOk result (FindsInDirectory thread.old.kept.disk.order thread.old.kept.pairs first name.now) }
+    ensures answer { IfOk result (IsNamePositionInDirectory thread.old.kept.disk.order thread.old.kept.pairs first name.now) }
     ensures cached_log { IfOk result (CachesFoundPair thread.new) }
     ensures reads { ReadsDirectoryOnce None first thread.old thread.new result }
     ensures reading { ReadsOrReports thread.old thread.new result }
 {
-    let start = search_start(thread, first);
-    find_from(thread, start, name)
+    let start = first_searched_pair(thread, first);
+    binary_search_name(thread, start, name)
 }
 
 // Finds the entry with a name in one pair after another. The slot `moved` counts as deleted. All
-// other clauses are those of `find_unhidden`.
-fn find_along_tails<D: BlockDevice>(
+// other clauses are those of `find_visible`.
+fn linear_search_name<D: BlockDevice>(
     thread: &mut Thread<D>,
     first: usize,
     name: &[u8],
     moved: Option<SlotPosition>,
 ) -> Result<Option<(SlotPosition, FileOrDirectory)>, Error>
     requires { CanReadPair thread.old first }
-    ensures answer { IfOk result (FindsUnhidden thread.old.kept.pairs moved first name.now) }
+    ensures answer { IfOk result (IsVisibleNameResult thread.old.kept.pairs moved first name.now) }
     ensures cached_log { IfOk result (λ found. IfSome found (λ f. IsSome (cached_log thread.new f.0.pair))) }
-    ensures few { read_count thread.new.kept.history ≤ read_count thread.old.kept.history + joined_count (drop first thread.old.kept.pairs) }
+    ensures few { read_count thread.new.kept.history ≤ read_count thread.old.kept.history + joined_pair_count (drop first thread.old.kept.pairs) }
     ensures loads { KeepsCachedPairs (joined_pairs (drop first thread.old.kept.pairs)) thread.old thread.new result }
     ensures reading { ReadsOrReports thread.old thread.new result }
 {
@@ -242,21 +242,21 @@ fn find_along_tails<D: BlockDevice>(
 ///
 /// Errors: `Io` if a read fails. `NoMemory` if memory for a block can't be allocated. Neither error
 /// makes the thread fail.
-pub fn find_unhidden<D: BlockDevice>(
+pub fn find_visible<D: BlockDevice>(
     thread: &mut Thread<D>,
     first: usize,
     name: &[u8],
     moved: Option<SlotPosition>,
 ) -> Result<Option<(SlotPosition, FileOrDirectory)>, Error>
     requires can { CanReadPair thread.old first }
-    requires in_order { moved ≡ None → AreOrdered thread.old.kept.disk.order thread.old.kept.pairs first }
-    ensures answer { IfOk result (FindsUnhidden thread.old.kept.pairs moved first name.now) }
+    requires in_order { moved ≡ None → AreDirectoryNamesSorted thread.old.kept.disk.order thread.old.kept.pairs first }
+    ensures answer { IfOk result (IsVisibleNameResult thread.old.kept.pairs moved first name.now) }
     ensures cached_log { IfOk result (λ found. IfSome found (λ f. IsSome (cached_log thread.new f.0.pair))) }
     ensures reads { ReadsDirectoryOnce moved first thread.old thread.new result }
     ensures reading { ReadsOrReports thread.old thread.new result }
 {
     match moved {
-        Some(_) => find_along_tails(thread, first, name, moved),
+        Some(_) => linear_search_name(thread, first, name, moved),
         None => match find_name(thread, first, name)? {
             NamePositionInDirectory::Found(spot, entry) => Ok(Some((spot, entry))),
             NamePositionInDirectory::Place(_) => Ok(None),

@@ -6,7 +6,7 @@ ghost use Rattle.lfs_model.specs.tree.View.{IsAccepted};
 ghost use Rattle.lfs_tag.specs.FieldsView.{move_view};
 ghost use Rattle.lfs_lookup.specs.Items.{item_view, items_view, owned_view};
 ghost use Rattle.lfs_lookup.specs.LookupReading.{ReadsOrReports};
-ghost use Rattle.lfs_lookup.specs.TreeWalk.{PushesEntriesBelow, ArePushed, HasFirstIfDirectory, AreWalkItems, pairs_addresses, walked_entry, tree_item_view, tree_items_view, walked_entries};
+ghost use Rattle.lfs_lookup.specs.TreeWalk.{PushesEntriesBelow, AreEntriesPushed, HasFirstPairIfDirectory, AreWalkItems, pairs_addresses, with_full_path, tree_item_view, tree_items_view, with_full_paths};
 
 use crate::addresses::thread_addresses;
 use crate::directory::directory_items;
@@ -31,7 +31,7 @@ fn tree_item_beneath(
     path: &[u8],
     item: NameAndOwnedStruct,
 ) -> Result<TreeItem, AllocError>
-    ensures { IfOk result (λ found. tree_item_view found ≡ walked_entry path.now (item_view item)) }
+    ensures { IfOk result (λ found. tree_item_view found ≡ with_full_path path.now (item_view item)) }
 {
     let mut below = Vec::from_slice(alloc, path)?;
     below.push(b'/')?;
@@ -49,7 +49,7 @@ fn push_beneath_path(
     path: &[u8],
     mut items: Vec<NameAndOwnedStruct>,
 ) -> Result<(), AllocError>
-    ensures { OnOk result (tree_items_view pending.new.items ≡ tree_items_view pending.old.items ++ reverse (walked_entries path.now (items_view items.items))) }
+    ensures { OnOk result (tree_items_view pending.new.items ≡ tree_items_view pending.old.items ++ reverse (with_full_paths path.now (items_view items.items))) }
 {
     while let Some(item) = items.pop() {
         let found = tree_item_beneath(alloc, path, item)?;
@@ -71,7 +71,7 @@ fn push_directory_items<D: BlockDevice>(
     requires works { thread.old.failed ≡ false }
     requires below { first < length thread.old.kept.pairs }
     requires state { move_view state.now ≡ pairs_gstate thread.old.kept.pairs }
-    ensures pushed { OnOk result (ArePushed thread.old.kept.pairs path.now first (tree_items_view pending.old.items) (tree_items_view pending.new.items)) }
+    ensures pushed { OnOk result (AreEntriesPushed thread.old.kept.pairs path.now first (tree_items_view pending.old.items) (tree_items_view pending.new.items)) }
     ensures reading { ReadsOrReports thread.old thread.new result }
 {
     let mut items = directory_items(alloc, thread, state, first)?;
@@ -91,7 +91,7 @@ fn push_below_entry<D: BlockDevice>(
 ) -> Result<(), Error>
     requires works { thread.old.failed ≡ false }
     requires all { addresses.now ≡ pairs_addresses thread.old.kept.pairs }
-    requires begins { HasFirstIfDirectory thread.old.kept.pairs (owned_view found.now.structure) }
+    requires begins { HasFirstPairIfDirectory thread.old.kept.pairs (owned_view found.now.structure) }
     requires state { move_view state.now ≡ pairs_gstate thread.old.kept.pairs }
     ensures pushed { OnOk result (PushesEntriesBelow thread.old.kept.pairs (tree_item_view found.now) (tree_items_view pending.old.items) (tree_items_view pending.new.items)) }
     ensures reading { ReadsOrReports thread.old thread.new result }

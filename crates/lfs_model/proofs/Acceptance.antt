@@ -1,7 +1,7 @@
 -- An image is accepted where tests say so, which compute on a literal image.
 use Rattle.std.proofs.Common.{ℕ, ◌≡◌, ◌<◌, inl, inr, Bool, true, false, not, ◌&&◌, ◌||◌, ◌==◌, nat_eq, List, [], ◌∷◌, Option, Some, None, refl, ap, AllPairs, arith, option_and_then, length, eqb-true, ltb-true, ◌⊎◌, ap₂, drop}
 use Rattle.std.specs.Prelude.{All, Any, nat_lt, slice_get, codes}
-use Rattle.lfs_model.proofs.Common.{AllByRecursion, list_all, option_map_or, and_parts, and_from, or_cases, All-from_recursion, All-head, All-tail, Disk, block_count, Name, name_cmp, same_name, is_less, is_valid_name, Slot, SlotKind, File, Directory, Superblock, Struct, Inline, Ctz, Branch, Gstate, same_pair, is_superblock, content_at, current_block, Pair, anchor_address, AreLinked, pairs_blocks, pairs_from_root, first_address, pairs_from_filled, pairs_gstate, root_address, superblock_first, Path, root_slot, branch_address, slot_at_path, address_at_path, names_at, accepts_version, first_slot_name, first_pair_slots, IsAccepted, BeginsWith, IsSuperblock, BeginsWithSuperblock, SameExceptVersion, IsTreeEntry, HasKind, IsFormedList, HasValidMove, IsThreadEntry, IsEntry, superblock_entry, chain_pairs, after_chain, LeadsTo, IsReachedBySome, all_directories, all_entries, all_unmoved_slots, used_blocks, same_path}
+use Rattle.lfs_model.proofs.Common.{AllByRecursion, list_all, option_map_or, and_parts, and_from, or_cases, All-from_recursion, All-head, All-tail, Disk, block_count, Name, name_cmp, same_name, is_less, is_valid_name, Slot, SlotKind, File, Directory, Superblock, Struct, Inline, Ctz, Branch, Gstate, same_pair, is_superblock, content_at, current_block, Pair, superblock_pair_address, AreLinkedByTails, pairs_blocks, pairs_from_root, first_address, pairs_from_nonempty, pairs_gstate, root_address, begins_with_superblock, Path, root_slot, struct_directory_address, slot_at_path, address_at_path, names_at, accepts_version, first_slot_name, first_pair_slots, IsAccepted, HasFirstLogEntry, IsSuperblockStruct, BeginsWithSuperblock, SameExceptVersion, IsFileOrDirectory, IsKindOfStruct, IsWellFormedList, HasValidMove, IsThreadEntry, IsEntry, superblock_entry, superblock_chain_pairs, pairs_after_chain, IsDirectoryAtPath, IsReachedDirectory, all_directories, all_entries, all_unmoved_slots, used_blocks, same_path}
 use Rattle.std.specs.List.{list_any, IsDistinct}
 use Rattle.std.specs.declared.cmp.Ordering.{Ordering}
 use Rattle.std.specs.declared.cmp.Ordering.TheVariants.{Less, Equal, Greater}
@@ -83,7 +83,7 @@ has_struct_of_its_kind Superblock s = false
 abbrev pub is_entry : Slot → Bool
 is_entry s = is_valid_name s.name && has_struct_of_its_kind s.kind s.struct
 
-suits_from : (k : SlotKind) (s : Struct) → has_struct_of_its_kind k s ≡ true → HasKind k s
+suits_from : (k : SlotKind) (s : Struct) → has_struct_of_its_kind k s ≡ true → IsKindOfStruct k s
 suits_from File (Inline bytes) e = tt
 suits_from File (Ctz head size) e = tt
 suits_from File (Branch to) e = absurd (cc)
@@ -92,7 +92,7 @@ suits_from Directory (Ctz head size) e = absurd (cc)
 suits_from Directory (Branch to) e = tt
 suits_from Superblock s e = absurd (cc)
 
-entry_from : (s : Slot) → is_entry s ≡ true → IsTreeEntry s
+entry_from : (s : Slot) → is_entry s ≡ true → IsFileOrDirectory s
 entry_from s e = let both = and_parts (is_valid_name s.name) (has_struct_of_its_kind s.kind s.struct) e in record { name = both.0; struct = suits_from s.kind s.struct both.1 }
 
 abbrev pub is_inline : AcceptedVersions → List ℕ → Struct → Bool
@@ -117,17 +117,17 @@ superblock_from versions bytes [] e = tt
 superblock_from versions bytes (s ∷ slots) e =
     let one = and_parts (is_superblock s) (is_inline versions bytes s.struct && list_all is_entry slots) e in
     let two = and_parts (is_inline versions bytes s.struct) (list_all is_entry slots) one.1 in
-    (one.0, inline_from versions bytes s.struct two.0, all_from is_entry IsTreeEntry entry_from slots two.1)
+    (one.0, inline_from versions bytes s.struct two.0, all_from is_entry IsFileOrDirectory entry_from slots two.1)
 
 -- ---- what a path leads to
 
 abbrev pub on_branches : (Path → ℕ × ℕ → Bool) → Outline → Bool
-on_branches T xs = list_all (λ f. option_map_or (T f.0) (branch_address f.1.struct) true) xs
+on_branches T xs = list_all (λ f. option_map_or (T f.0) (struct_directory_address f.1.struct) true) xs
 
-on_branch : (T : Path → ℕ × ℕ → Bool) (xs : Outline) (path : Path) (s : Slot) (at : ℕ × ℕ) → on_branches T xs ≡ true → found_in path xs ≡ Some s → branch_address s.struct ≡ Some at → T path at ≡ true
+on_branch : (T : Path → ℕ × ℕ → Bool) (xs : Outline) (path : Path) (s : Slot) (at : ℕ × ℕ) → on_branches T xs ≡ true → found_in path xs ≡ Some s → struct_directory_address s.struct ≡ Some at → T path at ≡ true
 on_branch T xs path s at e found branch =
-    let here : option_map_or (T path) (branch_address s.struct) true ≡ true =
-    found_holds (λ p u. option_map_or (T p) (branch_address u.struct) true ≡ true) xs (each_from (λ f. option_map_or (T f.0) (branch_address f.1.struct) true) xs e) path s found in
+    let here : option_map_or (T path) (struct_directory_address s.struct) true ≡ true =
+    found_holds (λ p u. option_map_or (T p) (struct_directory_address u.struct) true ≡ true) xs (each_from (λ f. option_map_or (T f.0) (struct_directory_address f.1.struct) true) xs e) path s found in
     rw branch at here
 
 -- the directories that paths of at most k names lead to
@@ -135,10 +135,10 @@ abbrev pub outline_in : ℕ → List Pair → Outline
 outline_in k ps = outline k (all_entries ps) (root_slot (root_address ps))
 
 pub led : (k : ℕ) (ps : List Pair) → is_outlined k (all_entries ps) (root_slot (root_address ps)) ≡ true → (T : Path → ℕ × ℕ → Bool) → on_branches T (outline_in k ps) ≡ true →
-    (path : Path) (at : ℕ × ℕ) → LeadsTo ps path at → T path at ≡ true
+    (path : Path) (at : ℕ × ℕ) → IsDirectoryAtPath ps path at → T path at ≡ true
 led k ps whole T e path at leads = go (slot_at_path (all_entries ps) (root_slot (root_address ps)) path) (outlined k (all_entries ps) (root_slot (root_address ps)) whole path) leads
   where
-    go : (o : Option Slot) → found_in path (outline_in k ps) ≡ o → option_and_then (λ s. branch_address s.struct) o ≡ Some at → T path at ≡ true
+    go : (o : Option Slot) → found_in path (outline_in k ps) ≡ o → option_and_then (λ s. struct_directory_address s.struct) o ≡ Some at → T path at ≡ true
     go None found is = absurd (cc)
     go (Some s) found is = on_branch T (outline_in k ps) path s at e found is
 
@@ -153,15 +153,15 @@ is_once xs path at = on_branches (λ other to. not (same_pair at to) || same_pat
 abbrev leads_to : List Pair → ℕ × ℕ → Path → Bool
 leads_to ps first path = option_map_or (same_pair first) (address_at_path (all_entries ps) (root_address ps) path) false
 
-reached_from : (ps : List Pair) (first : ℕ × ℕ) (xs : Outline) → list_any (λ f. leads_to ps first f.0) xs ≡ true → IsReachedBySome ps first
+reached_from : (ps : List Pair) (first : ℕ × ℕ) (xs : Outline) → list_any (λ f. leads_to ps first f.0) xs ≡ true → IsReachedDirectory ps first
 reached_from ps first [] e = absurd (cc)
 reached_from ps first (x ∷ xs) e = go (or_cases (leads_to ps first x.0) (list_any (λ f. leads_to ps first f.0) xs) e) (reached_from ps first xs)
   where
-    here : (o : Option (ℕ × ℕ)) → address_at_path (all_entries ps) (root_address ps) x.0 ≡ o → option_map_or (same_pair first) o false ≡ true → IsReachedBySome ps first
+    here : (o : Option (ℕ × ℕ)) → address_at_path (all_entries ps) (root_address ps) x.0 ≡ o → option_map_or (same_pair first) o false ≡ true → IsReachedDirectory ps first
     here None leads h = absurd (cc)
     here (Some at) leads h = (x.0, at, (leads, h))
 
-    go : (leads_to ps first x.0 ≡ true) ⊎ (list_any (λ f. leads_to ps first f.0) xs ≡ true) → (list_any (λ f. leads_to ps first f.0) xs ≡ true → IsReachedBySome ps first) → IsReachedBySome ps first
+    go : (leads_to ps first x.0 ≡ true) ⊎ (list_any (λ f. leads_to ps first f.0) xs ≡ true) → (list_any (λ f. leads_to ps first f.0) xs ≡ true → IsReachedDirectory ps first) → IsReachedDirectory ps first
     go (inl h) ih = here (address_at_path (all_entries ps) (root_address ps) x.0) refl h
     go (inr h) ih = ih h
 
@@ -206,7 +206,7 @@ abbrev pub is_struct : Disk → List ℕ → Bool
 is_struct disk bytes =
     length bytes == 24 && (accepts_version disk.profile.versions (little_number 4 bytes) && (little_number 4 (drop 4 bytes) == disk.block_size && little_number 4 (drop 8 bytes) == block_count disk))
 
-struct_from : (disk : Disk) (bytes : List ℕ) → is_struct disk bytes ≡ true → IsSuperblock disk bytes
+struct_from : (disk : Disk) (bytes : List ℕ) → is_struct disk bytes ≡ true → IsSuperblockStruct disk bytes
 struct_from disk bytes e =
     let one = and_parts (length bytes == 24) (accepts_version disk.profile.versions (little_number 4 bytes) && (little_number 4 (drop 4 bytes) == disk.block_size && little_number 4 (drop 8 bytes) == block_count disk)) e in
     let two = and_parts (accepts_version disk.profile.versions (little_number 4 bytes)) (little_number 4 (drop 4 bytes) == disk.block_size && little_number 4 (drop 8 bytes) == block_count disk) one.1 in
@@ -224,8 +224,8 @@ tests disk ps bytes k =
     list_all (λ b. nat_lt b (block_count disk)) (pairs_blocks ps)
     ∷ are_apart (pairs_blocks ps)
     ∷ is_struct disk bytes
-    ∷ list_all (λ p. has_superblock disk.profile.versions bytes p.content.slots) (chain_pairs ps)
-    ∷ list_all (λ p. list_all is_entry p.content.slots) (after_chain ps)
+    ∷ list_all (λ p. has_superblock disk.profile.versions bytes p.content.slots) (superblock_chain_pairs ps)
+    ∷ list_all (λ p. list_all is_entry p.content.slots) (pairs_after_chain ps)
     ∷ is_outlined k (all_entries ps) (root_slot (root_address ps))
     ∷ on_branches (λ path at. rise disk.order (names_at (all_entries ps) at)) (outline_in k ps)
     ∷ on_branches (λ path at. begins ps at) (outline_in k ps)
@@ -233,16 +233,16 @@ tests disk ps bytes k =
     ∷ ((pairs_gstate ps).sync || list_all (λ d. list_any (λ f. leads_to ps d.at f.0) (outline_in k ps)) (all_directories ps))
     ∷ is_move ps (pairs_gstate ps)
     ∷ are_apart (used_blocks disk ps)
-    ∷ superblock_first (first_pair_slots (pairs_from_root ps))
+    ∷ begins_with_superblock (first_pair_slots (pairs_from_root ps))
     ∷ []
 
 -- these pairs are on the disk, and the tests pass
 pub record IsImage (disk : Disk) (ps : List Pair) (bytes : List ℕ) (k : ℕ) : Type 0 where
-  pub links : AreLinked (Some anchor_address) ps
+  pub links : AreLinkedByTails (Some superblock_pair_address) ps
   pub contents : AllByRecursion (λ p. content_at disk p.at ≡ Some p.content) ps
-  pub first : BeginsWith (current_block disk (first_address (pairs_from_filled ps))) superblock_entry
-  pub named : first_slot_name (pairs_from_filled ps) ≡ Some (codes "littlefs")
-  pub lists : AllByRecursion (λ s. IsFormedList disk s.struct) (all_unmoved_slots ps)
+  pub first : HasFirstLogEntry (current_block disk (first_address (pairs_from_nonempty ps))) superblock_entry
+  pub named : first_slot_name (pairs_from_nonempty ps) ≡ Some (codes "littlefs")
+  pub lists : AllByRecursion (λ s. IsWellFormedList disk s.struct) (all_unmoved_slots ps)
   pub pass : list_all (λ b. b) (tests disk ps bytes k) ≡ true
 
 pub image_is_outlined : (disk : Disk) (ps : List Pair) (bytes : List ℕ) (k : ℕ) → IsImage disk ps bytes k → is_outlined k (all_entries ps) (root_slot (root_address ps)) ≡ true
@@ -262,14 +262,14 @@ image_is_accepted disk ps bytes k h =
       first = h.first;
       named = h.named;
       root = t.1.1.1.1.1.1.1.1.1.1.1.1.0;
-      superblock = (bytes, (struct_from disk bytes t.1.1.0, all_from (λ p. has_superblock disk.profile.versions bytes p.content.slots) (λ p. BeginsWithSuperblock disk.profile.versions bytes p.content.slots) (λ p. superblock_from disk.profile.versions bytes p.content.slots) (chain_pairs ps) t.1.1.1.0));
-      slots = all_from (λ p. list_all is_entry p.content.slots) (λ p. All IsTreeEntry p.content.slots) (λ p. all_from is_entry IsTreeEntry entry_from p.content.slots) (after_chain ps) t.1.1.1.1.0;
+      superblock = (bytes, (struct_from disk bytes t.1.1.0, all_from (λ p. has_superblock disk.profile.versions bytes p.content.slots) (λ p. BeginsWithSuperblock disk.profile.versions bytes p.content.slots) (λ p. superblock_from disk.profile.versions bytes p.content.slots) (superblock_chain_pairs ps) t.1.1.1.0));
+      slots = all_from (λ p. list_all is_entry p.content.slots) (λ p. All IsFileOrDirectory p.content.slots) (λ p. all_from is_entry IsFileOrDirectory entry_from p.content.slots) (pairs_after_chain ps) t.1.1.1.1.0;
       order = λ path at l. rise_from disk.order (names_at (all_entries ps) at) (led k ps whole (λ path at. rise disk.order (names_at (all_entries ps) at)) t.1.1.1.1.1.1.0 path at l);
       branches = λ path at l. Any-from_list_any (λ d. same_pair d.at at) (all_directories ps) (led k ps whole (λ path at. begins ps at) t.1.1.1.1.1.1.1.0 path at l);
       once = λ path other at to l m same. one path other at to same (led k ps whole (λ other to. not (same_pair at to) || same_path path other) (led k ps whole (is_once (outline_in k ps)) t.1.1.1.1.1.1.1.1.0 path at l) other to m);
-      reached = λ clear. let here = rw clear at t.1.1.1.1.1.1.1.1.1.0 in all_from (λ d. list_any (λ f. leads_to ps d.at f.0) (outline_in k ps)) (λ d. IsReachedBySome ps d.at) (λ d. reached_from ps d.at (outline_in k ps)) (all_directories ps) here;
+      reached = λ clear. let here = rw clear at t.1.1.1.1.1.1.1.1.1.0 in all_from (λ d. list_any (λ f. leads_to ps d.at f.0) (outline_in k ps)) (λ d. IsReachedDirectory ps d.at) (λ d. reached_from ps d.at (outline_in k ps)) (all_directories ps) here;
       move = move_from ps (pairs_gstate ps) t.1.1.1.1.1.1.1.1.1.1.0;
-      lists = All-from_recursion (λ s. IsFormedList disk s.struct) (all_unmoved_slots ps) h.lists;
+      lists = All-from_recursion (λ s. IsWellFormedList disk s.struct) (all_unmoved_slots ps) h.lists;
       owned_once = distinct_from (used_blocks disk ps) t.1.1.1.1.1.1.1.1.1.1.1.0;
     }
   where

@@ -1,7 +1,7 @@
 -- A question to a session on a fresh disk.
 use Rattle.std.proofs.Common.{◌≡◌, true, List, [], ◌∷◌, None, refl, subst, ap, arith}
 use Rattle.std.specs.Prelude.{codes}
-use Rattle.lfs_model.proofs.Common.{block_count, default_profile, content_at, zero_gstate, Pair, IsAccepted, IsWritable, fresh_pair, empty_tree, read_count, Healthy, mounted_session, IsPerformed, Session, DiskSummary, IsRecovered, IsStep, IsArrangedEffect, small_image, fresh_state}
+use Rattle.lfs_model.proofs.Common.{block_count, default_profile, content_at, zero_gstate, Pair, IsAccepted, IsWritable, fresh_pair, empty_tree, read_count, Healthy, mounted_session, IsPerformed, Session, DiskSummary, IsRecovered, IsStep, IsDiskEffectWithLayout, small_image, fresh_state}
 use Rattle.lfs_model.specs.session.Operations as ops
 use Rattle.lfs_model.proofs.Uniqueness.{one_thread}
 use Rattle.lfs_model.proofs.Fresh.{accepted, writable}
@@ -15,7 +15,7 @@ op = ops.Stat (codes "/")
 abbrev around : DiskSummary
 around = record { writable = true; profile = default_profile; block_size = 1024; page = 128; block_count = 2; used = 0 ∷ 1 ∷ []; gstate = zero_gstate }
 
-pub carried : (s : Session) (ps qs : List Pair) → IsAccepted small_image ps → IsAccepted small_image qs → IsArrangedEffect small_image ps s op [] small_image qs
+pub carried : (s : Session) (ps qs : List Pair) → IsAccepted small_image ps → IsAccepted small_image qs → IsDiskEffectWithLayout small_image ps s op [] small_image qs
 carried s ps qs a b =
     let same = one_thread (content_at small_image) (block_count small_image) ps qs a.thread b.thread in
     record {

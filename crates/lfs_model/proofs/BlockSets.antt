@@ -4,7 +4,7 @@ use Rattle.lfs_model.proofs.Common.{Contains, count_by, slice_get, cases_eq, len
 use Rattle.std.specs.List.{IsDistinct}
 use Rattle.std.proofs.lemmas.List.Sums.{sum_by-set}
 use Rattle.lfs_model.specs.layers.BlockSets.{AreInFlight, AreUsed}
-use Rattle.lfs_model.proofs.Counts.{number_occurrences, once_from_distinct, count_here}
+use Rattle.lfs_model.proofs.Counts.{occurrence_count, once_from_distinct, count_here}
 
 -- ---- what a list contains
 
@@ -18,18 +18,18 @@ Contains-head b bs = (0, omega arith, refl)
 pub Contains-tail : (x b : ℕ) (bs : List ℕ) → Contains bs b → Contains (x ∷ bs) b
 Contains-tail x b bs (k, lt, is) = (suc k, omega arith, is)
 
-pub number_occurrences-Contains : (bs : List ℕ) (b : ℕ) → Contains bs b → 1 ≤ number_occurrences b bs
-number_occurrences-Contains [] b has = absurd (omega (arith, has.1))
-number_occurrences-Contains (x ∷ bs) b has = ⊎_elim
-    (λ same. let here = count_here b bs in let is : number_occurrences b (x ∷ bs) ≡ number_occurrences b (b ∷ bs) = ap (λ y. number_occurrences b (y ∷ bs)) same in omega (arith, here, is))
-    (λ behind. omega (arith, number_occurrences-Contains bs b behind))
+pub occurrence_count-Contains : (bs : List ℕ) (b : ℕ) → Contains bs b → 1 ≤ occurrence_count b bs
+occurrence_count-Contains [] b has = absurd (omega (arith, has.1))
+occurrence_count-Contains (x ∷ bs) b has = ⊎_elim
+    (λ same. let here = count_here b bs in let is : occurrence_count b (x ∷ bs) ≡ occurrence_count b (b ∷ bs) = ap (λ y. occurrence_count b (y ∷ bs)) same in omega (arith, here, is))
+    (λ behind. omega (arith, occurrence_count-Contains bs b behind))
     (Contains-cons x b bs has)
 
-pub Contains-number_occurrences : (bs : List ℕ) (b : ℕ) → 1 ≤ number_occurrences b bs → Contains bs b
-Contains-number_occurrences [] b some = absurd (omega (arith, some))
-Contains-number_occurrences (x ∷ bs) b some = go (nat_eq b x) refl some (Contains-number_occurrences bs b)
+pub Contains-occurrence_count : (bs : List ℕ) (b : ℕ) → 1 ≤ occurrence_count b bs → Contains bs b
+Contains-occurrence_count [] b some = absurd (omega (arith, some))
+Contains-occurrence_count (x ∷ bs) b some = go (nat_eq b x) refl some (Contains-occurrence_count bs b)
   where
-    go : (t : Bool) → nat_eq b x ≡ t → 1 ≤ cond t 1 0 + number_occurrences b bs → (1 ≤ number_occurrences b bs → Contains bs b) → Contains (x ∷ bs) b
+    go : (t : Bool) → nat_eq b x ≡ t → 1 ≤ cond t 1 0 + occurrence_count b bs → (1 ≤ occurrence_count b bs → Contains bs b) → Contains (x ∷ bs) b
     go true e k next = (0, omega arith, sym (eqb-true b x e))
     go false e k next = Contains-tail x b bs (next (omega (arith, k)))
 
@@ -39,7 +39,7 @@ tail_distinct b bs distinct = distinct.1
 
 pub not_behind : (b : ℕ) (bs : List ℕ) → IsDistinct nat_eq (b ∷ bs) → ¬ (Contains bs b)
 not_behind b bs distinct has =
-    absurd (omega (arith, once_from_distinct (b ∷ bs) distinct b, count_here b bs, number_occurrences-Contains bs b has))
+    absurd (omega (arith, once_from_distinct (b ∷ bs) distinct b, count_here b bs, occurrence_count-Contains bs b has))
 
 -- ---- one block's state changed
 

@@ -1,7 +1,7 @@
 -- An image breaks a rule, by tests that compute on a literal image.
 use Rattle.std.proofs.Common.{ℕ, ◌≡◌, ◌<◌, true, false, not, List, Some, refl, sym, ap, ◌∙◌, ltb-true, true≢false}
 use Rattle.std.specs.Prelude.{AllPairs, nat_lt}
-use Rattle.lfs_model.proofs.Common.{AllByRecursion, list_all, All-from_recursion, list_any-from_Any, content_at, Disk, block_count, Name, name_cmp, IsReachedBySome, all_directories, all_entries, Inline, Slot, same_pair, AreLinked, BeginsDirectory, IsThread, Pair, anchor_address, pairs_blocks, pairs_gstate, root_address, Path, root_slot, same_path, RepeatsSuperblockStruct, HasValidMove, IsTreeEntry, IsFormedList, accepts_version, AreFirstPairs, IsDiskSuperblock, LeadsByTails, superblock_fields}
+use Rattle.lfs_model.proofs.Common.{AllByRecursion, list_all, All-from_recursion, list_any-from_Any, content_at, Disk, block_count, Name, name_cmp, IsReachedDirectory, all_directories, all_entries, Inline, Slot, same_pair, AreLinkedByTails, BeginsDirectory, IsThread, Pair, superblock_pair_address, pairs_blocks, pairs_gstate, root_address, Path, root_slot, same_path, RepeatsSuperblockStruct, HasValidMove, IsFileOrDirectory, IsWellFormedList, accepts_version, AreFirstThreadPairs, IsDiskSuperblock, AreLinkedUpTo, superblock_fields}
 use Rattle.std.specs.declared.cmp.Ordering.TheVariants.{Less}
 use Rattle.lfs_model.specs.declared.limits.AcceptedVersions.{AcceptedVersions}
 use Rattle.lfs_model.specs.declared.order.NameOrder.{NameOrder}
@@ -13,11 +13,11 @@ use Rattle.lfs_model.proofs.Refusals.{ctz_to, entry_to, inline_to, is_list_if_ct
 -- ---- the thread
 
 -- these pairs come first in the thread
-pub begins_with : (disk : Disk) (ps : List Pair) (next : ℕ × ℕ) → LeadsByTails (Some anchor_address) ps (Some next) → AllByRecursion (λ p. content_at disk p.at ≡ Some p.content) ps → AreFirstPairs disk ps next
+pub begins_with : (disk : Disk) (ps : List Pair) (next : ℕ × ℕ) → AreLinkedUpTo (Some superblock_pair_address) ps (Some next) → AllByRecursion (λ p. content_at disk p.at ≡ Some p.content) ps → AreFirstThreadPairs disk ps next
 begins_with disk ps next links contents = record { links = links; contents = All-from_recursion (λ p. content_at disk p.at ≡ Some p.content) ps contents }
 
 -- these pairs are the thread
-pub is_thread : (disk : Disk) (ps : List Pair) → AreLinked (Some anchor_address) ps → AllByRecursion (λ p. content_at disk p.at ≡ Some p.content) ps
+pub is_thread : (disk : Disk) (ps : List Pair) → AreLinkedByTails (Some superblock_pair_address) ps → AllByRecursion (λ p. content_at disk p.at ≡ Some p.content) ps
     → list_all (λ b. nat_lt b (block_count disk)) (pairs_blocks ps) ≡ true → are_apart (pairs_blocks ps) ≡ true → IsThread (content_at disk) (block_count disk) ps
 is_thread disk ps links contents within apart = record {
   links = links;
@@ -37,7 +37,7 @@ no_superblock_of_disk disk s bytes is fails h =
 pub no_same_superblock : (versions : AcceptedVersions) (bytes : List ℕ) (s : Slot) → accepts_version versions (superblock_fields bytes).version ≡ true → is_inline versions bytes s.struct ≡ false → ¬ RepeatsSuperblockStruct versions bytes s
 no_same_superblock versions bytes s accepted fails (own, (is, same)) = true≢false (sym (inline_to versions bytes bytes (record { len = refl; version = accepted; rest = refl }) s.struct own is same) ∙ fails)
 
-pub no_entry : (s : Slot) → is_entry s ≡ false → ¬ IsTreeEntry s
+pub no_entry : (s : Slot) → is_entry s ≡ false → ¬ IsFileOrDirectory s
 no_entry s fails h = true≢false (sym (entry_to s h) ∙ fails)
 
 pub no_rise : (order : NameOrder) (names : List Name) → rise order names ≡ false → ¬ AllPairs (λ a b. name_cmp order a b ≡ Less) names
@@ -51,11 +51,11 @@ paths_differ path other apart is = true≢false (sym (path_itself path) ∙ ap (
 
 -- paths of at most k names lead to all directories, and none of them to this one
 pub no_path_leads : (ps : List Pair) (k : ℕ) (first : ℕ × ℕ) → is_outlined k (all_entries ps) (root_slot (root_address ps)) ≡ true
-    → on_branches (λ path at. not (same_pair first at)) (outline_in k ps) ≡ true → ¬ IsReachedBySome ps first
+    → on_branches (λ path at. not (same_pair first at)) (outline_in k ps) ≡ true → ¬ IsReachedDirectory ps first
 no_path_leads ps k first whole none (path, at, (leads, same)) = true≢false (sym (led k ps whole (λ p x. not (same_pair first x)) none path at leads) ∙ ap not same)
 
 pub no_valid_move : (ps : List Pair) → is_move ps (pairs_gstate ps) ≡ false → ¬ HasValidMove ps (pairs_gstate ps)
 no_valid_move ps fails h = true≢false (sym (move_to ps (pairs_gstate ps) h) ∙ fails)
 
-pub no_list : (disk : Disk) (s : Slot) → is_list_if_ctz disk s.struct ≡ false → ¬ IsFormedList disk s.struct
+pub no_list : (disk : Disk) (s : Slot) → is_list_if_ctz disk s.struct ≡ false → ¬ IsWellFormedList disk s.struct
 no_list disk s fails h = true≢false (sym (ctz_to disk s.struct h) ∙ fails)

@@ -1,7 +1,7 @@
 -- Calls that conform: one more, and what they left, which is among what a stop in them may leave.
 use Rattle.std.proofs.Common.{◌≡◌, ℕ, Bool, false, List, [], ◌∷◌, length, inl, inr, refl, sym, ap, subst, ◌∙◌, arith}
 use Rattle.std.specs.Prelude.{Contains}
-use Rattle.lfs_model.proofs.Common.{cases_lt, get_or_past, All-cons, All-contains, Blocks, SameExcept, block_bytes, programmed, block_log, DeviceCall, Read, Program, Erase, Blank, CallEvent, call_event, CallConforms, CallsConform, LeftByLoss, may_stop_leave, MayProgramLeave, ErasesCleanly, erases_cleanly}
+use Rattle.lfs_model.proofs.Common.{cases_lt, get_or_past, All-cons, All-contains, Blocks, SameExcept, block_bytes, programmed, block_log, DeviceCall, Read, Program, Erase, Blank, CallEvent, call_event, CallConforms, CallsConform, LeftByLoss, power_loss_may_leave, MayProgramLeave, ErasesCleanly, erases_cleanly}
 use Rattle.std.proofs.lemmas.List.Elements.{All-same}
 use Rattle.lfs_model.proofs.Overwrites.{block_bytes-programmed}
 
@@ -72,7 +72,7 @@ left_by_program block off bytes before after same done = elim (cases_lt block (l
 pub conforming_stops : (e : CallEvent) → CallConforms e → e.failed ≡ false → ErasesCleanly e → LeftByLoss e e.after
 conforming_stops e conforms ok cleanly = go e.call refl cleanly
   where
-    go : (call : DeviceCall) → e.call ≡ call → erases_cleanly call e.failed e.before e.after → may_stop_leave call e.before e.after
+    go : (call : DeviceCall) → e.call ≡ call → erases_cleanly call e.failed e.before e.after → power_loss_may_leave call e.before e.after
     go (Read block off len) is clean = conforms.reads block off len is ok
     go (Program block off bytes) is clean =
         let same = conforms.others block off bytes is ok in

@@ -1,7 +1,7 @@
 -- Where slots stand once a pair among others is gone: a piece is cut out.
 use Rattle.std.proofs.Common.{ℕ, ◌≡◌, false, true, List, [], ◌∷◌, ◌++◌, map, Option, None, refl, sym, ap, subst, ◌∙◌, append_assoc}
 use Rattle.std.specs.Prelude.{◌≢◌}
-use Rattle.lfs_model.proofs.Common.{Disk, FitsPair, continued_address, pair_with_slots, same_pair, Pair, is_hard_tail}
+use Rattle.lfs_model.proofs.Common.{Disk, IsFittingPair, continued_directory_address, pair_with_slots, same_pair, Pair, is_hard_tail}
 use Rattle.lfs_model.proofs.Alike.{SameSlots}
 use Rattle.lfs_model.proofs.Became.{Became}
 use Rattle.lfs_model.proofs.Counts.{Each, each_left, each_right}
@@ -39,9 +39,9 @@ splits (x ∷ xs) ys (f ∷ front) g back e =
 abbrev pub AreKnown : Disk → Pair → Option (ℕ × ℕ) → List Piece → Type 0
 AreKnown disk g from [] = Unit {0}
 AreKnown disk g from (Stays ps ∷ pieces) = AreKnown disk g (onward_all from ps) pieces
-AreKnown disk g from (Keeps o slots os ∷ pieces) = FitsPair disk (pair_with_slots slots o) × OldStays from o slots os × (o ≡ g → ⊥) × AreKnown disk g (continued_address from o) pieces
+AreKnown disk g from (Keeps o slots os ∷ pieces) = IsFittingPair disk (pair_with_slots slots o) × OldStays from o slots os × (o ≡ g → ⊥) × AreKnown disk g (continued_directory_address from o) pieces
 AreKnown disk g from (Gains p slots q more ∷ pieces) =
-    (q.at ≡ p.at) × (all_slots (q ∷ more) ≡ slots) × Became disk p (pair_with_slots slots p) q more × (slots ≢ []) × (p ≡ g → ⊥) × AreKnown disk g (continued_address from p) pieces
+    (q.at ≡ p.at) × (all_slots (q ∷ more) ≡ slots) × Became disk p (pair_with_slots slots p) q more × (slots ≢ []) × (p ≡ g → ⊥) × AreKnown disk g (continued_directory_address from p) pieces
 AreKnown disk g from (Goes p ∷ pieces) = ⊥
 
 -- with the pair g cut out
@@ -65,8 +65,8 @@ module _ (disk : Disk) (d : ℕ × ℕ) (g : Pair) (address : same_pair g.at d �
   all_there : (from : Option (ℕ × ℕ)) (pieces : List Piece) → AreKnown disk g from pieces → Each Apart (olds_of pieces) → AreThere disk d from pieces
   all_there from [] k a = tt
   all_there from (Stays ps ∷ pieces) k a = (each_left Apart ps (olds_of pieces) a, all_there (onward_all from ps) pieces k (each_right Apart ps (olds_of pieces) a))
-  all_there from (Keeps o slots os ∷ pieces) k a = (a.0, k.0, k.1, all_there (continued_address from o) pieces k.3 a.1)
-  all_there from (Gains p slots q more ∷ pieces) k a = (a.0, k.0, k.1, k.2, k.3, all_there (continued_address from p) pieces k.5 a.1)
+  all_there from (Keeps o slots os ∷ pieces) k a = (a.0, k.0, k.1, all_there (continued_directory_address from o) pieces k.3 a.1)
+  all_there from (Gains p slots q more ∷ pieces) k a = (a.0, k.0, k.1, k.2, k.3, all_there (continued_directory_address from p) pieces k.5 a.1)
   all_there from (Goes p ∷ pieces) k a = absurd k
 
   pub cut_out : (from : Option (ℕ × ℕ)) (pieces : List Piece) (front back : List Pair) → olds_of pieces ≡ front ++ g ∷ back → onward_all from front ≡ None → Each Apart front → Each Apart back → AreKnown disk g from pieces
@@ -78,7 +78,7 @@ module _ (disk : Disk) (d : ℕ × ℕ) (g : Pair) (address : same_pair g.at d �
       go : ((rest : List Pair) → olds_of pieces ≡ rest ++ g ∷ back → onward_all (onward_all from ps) rest ≡ None → Each Apart rest → IsCutOut disk d g (onward_all from ps) pieces)
           → Splits ps (olds_of pieces) front g back → IsCutOut disk d g from (Stays ps ∷ pieces)
       go next (Here rest is h) =
-          let ends : onward_all from ps ≡ onward_all (continued_address (onward_all from front) g) rest = ap (onward_all from) is ∙ onward_append from front (g ∷ rest) in
+          let ends : onward_all from ps ≡ onward_all (continued_directory_address (onward_all from front) g) rest = ap (onward_all from) is ∙ onward_append from front (g ∷ rest) in
           let apart = subst (Each Apart) h b in
           record {
             all = Stays front ∷ Goes g ∷ Stays rest ∷ pieces;
@@ -96,7 +96,7 @@ module _ (disk : Disk) (d : ℕ × ℕ) (g : Pair) (address : same_pair g.at d �
                 soft,
                 (
                   each_left Apart rest (olds_of pieces) apart,
-                  all_there (onward_all (continued_address (onward_all from front) g) rest) pieces (subst (λ z. AreKnown disk g z pieces) ends k) (each_right Apart rest (olds_of pieces) apart),
+                  all_there (onward_all (continued_directory_address (onward_all from front) g) rest) pieces (subst (λ z. AreKnown disk g z pieces) ends k) (each_right Apart rest (olds_of pieces) apart),
                 ),
               ),
             );
@@ -117,7 +117,7 @@ module _ (disk : Disk) (d : ℕ × ℕ) (g : Pair) (address : same_pair g.at d �
   cut_out from (Keeps o slots os ∷ pieces) [] back e n a b k = absurd (k.2 (let h : o ≡ g = cc in h))
   cut_out from (Keeps o slots os ∷ pieces) (f ∷ front) back e n a b k =
       let h : f ≡ o = cc in
-      let c = cut_out (continued_address from o) pieces front back (let z : olds_of pieces ≡ front ++ g ∷ back = cc in z) (ap (λ z. onward_all (continued_address from z) front) (sym h) ∙ n) a.1 b k.3 in
+      let c = cut_out (continued_directory_address from o) pieces front back (let z : olds_of pieces ≡ front ++ g ∷ back = cc in z) (ap (λ z. onward_all (continued_directory_address from z) front) (sym h) ∙ n) a.1 b k.3 in
       record {
         all = Keeps o slots os ∷ c.all;
         olds = ap (λ z. o ∷ z) c.olds;
@@ -131,7 +131,7 @@ module _ (disk : Disk) (d : ℕ × ℕ) (g : Pair) (address : same_pair g.at d �
   cut_out from (Gains p slots q more ∷ pieces) [] back e n a b k = absurd (k.4 (let h : p ≡ g = cc in h))
   cut_out from (Gains p slots q more ∷ pieces) (f ∷ front) back e n a b k =
       let h : f ≡ p = cc in
-      let c = cut_out (continued_address from p) pieces front back (let z : olds_of pieces ≡ front ++ g ∷ back = cc in z) (ap (λ z. onward_all (continued_address from z) front) (sym h) ∙ n) a.1 b k.5 in
+      let c = cut_out (continued_directory_address from p) pieces front back (let z : olds_of pieces ≡ front ++ g ∷ back = cc in z) (ap (λ z. onward_all (continued_directory_address from z) front) (sym h) ∙ n) a.1 b k.5 in
       record {
         all = Gains p slots q more ∷ c.all;
         olds = ap (λ z. p ∷ z) c.olds;

@@ -1,11 +1,11 @@
 -- A loss of power in the first turn of a life, and in a later one.
 use Rattle.std.proofs.Common.{◌≡◌, inl, inr, false, List, [], ◌∷◌, refl, sym, ap, subst, ◌∙◌}
 use Rattle.std.specs.Prelude.{Any}
-use Rattle.lfs_model.proofs.Common.{append_cancel_right, Blocks, Disk, ordered_disk, Tree, IsWritable, IsWritableDisk, disk_tree, Reply, is_remount, SystemState, IsTreeStep, HasDiskTree, LeftByLoss, ErasesCleanly, with_blocks, KeepsTree, AllCallsSince}
+use Rattle.lfs_model.proofs.Common.{append_cancel_right, Blocks, Disk, disk_with_order, Tree, IsWritable, IsWritableDisk, disk_tree, Reply, is_remount, SystemState, IsTreeStep, HasDiskTree, LeftByLoss, ErasesCleanly, with_blocks, KeepsTree, AllCallsSince}
 use Rattle.lfs_model.proofs.Counts.{Each}
 use Rattle.lfs_model.specs.declared.order.NameOrder.{NameOrder}
 use Rattle.lfs_model.specs.crash.Lives.{Turn, IsTurn, IsLife}
-use Rattle.lfs_model.specs.crash.RepeatedPowerLoss.{LeftInCall, LeftBetween, LossInLife, MeetsRunPremises}
+use Rattle.lfs_model.specs.crash.RepeatedPowerLoss.{LeftInCall, LeftBetween, LossInLife, MeetsCrashSafetyPremises}
 use Rattle.lfs_model.proofs.Histories.{AllCallsSince-until, AllCallsSince-behind}
 use Rattle.lfs_model.proofs.Sites.{among_from}
 use Rattle.lfs_model.proofs.SessionSteps.{IsHealthy, true_from, session_step_is_healthy}
@@ -80,7 +80,7 @@ later from to turn turns left tree one (inr h) = inr h
 
 -- an answered turn in front of others that are survived
 pub further : (from to : SystemState) (turn : Turn) (turns : List Turn) (reply : Reply) (left : Disk) → IsTurn from turn → IsTreeStep from turn.op reply turn.to → IsLife turn.to turns to →
-    (MeetsRunPremises turn.to to → (left : Disk) → LeftBetween turn.to to left → IsSurvivedWith (LossInLife turn.to turns to) (NoRemount turns) left) → MeetsRunPremises from to → LeftBetween from to left →
+    (MeetsCrashSafetyPremises turn.to to → (left : Disk) → LeftBetween turn.to to left → IsSurvivedWith (LossInLife turn.to turns to) (NoRemount turns) left) → MeetsCrashSafetyPremises from to → LeftBetween from to left →
     IsSurvivedWith (LossInLife from (turn ∷ turns) to) (NoRemount (turn ∷ turns)) left
 further from to turn turns reply left one step rest last may stop = go stop
   where
@@ -96,7 +96,7 @@ further from to turn turns reply left one step rest last may stop = go stop
     healthy : IsHealthy from.state
     healthy = subst IsHealthy (sym may.agrees.healthy) tt
 
-    may_later : MeetsRunPremises turn.to to
+    may_later : MeetsCrashSafetyPremises turn.to to
     may_later = record {
       agrees = true_from turn.to (session_step_is_healthy from turn.to turn.op reply step healthy) step.agrees;
       profile = turn_keeps IsWritable profile_stays from turn.to turn.op reply step healthy may.profile;
@@ -107,10 +107,10 @@ further from to turn turns reply left one step rest last may stop = go stop
     here k = in_first from to turn turns left one rest may.agrees may.profile (AllCallsSince-until may.cleanly first second) k
 
     -- with its names in the order that they have then
-    there : (order : NameOrder) → (is_remount turn.op ≡ false → order ≡ left.order) → LeftBetween turn.to to (ordered_disk order left) → Here
+    there : (order : NameOrder) → (is_remount turn.op ≡ false → order ≡ left.order) → LeftBetween turn.to to (disk_with_order order left) → Here
     there order kept k =
-        let s = last may_later (ordered_disk order left) k in
-        record { order = s.order; stays = λ none. s.stays none.1 ∙ kept none.0; tree = s.tree; cut = later from to turn turns (ordered_disk s.order left) s.tree one s.cut; safe = s.safe }
+        let s = last may_later (disk_with_order order left) k in
+        record { order = s.order; stays = λ none. s.stays none.1 ∙ kept none.0; tree = s.tree; cut = later from to turn turns (disk_with_order s.order left) s.tree one s.cut; safe = s.safe }
 
     in_part : (blocks : Blocks) → left ≡ with_blocks blocks from.disk → IsEither from turn.to to blocks → Here
     in_part blocks e (inl k) = here (inr (inl (blocks, (e, k))))
@@ -119,7 +119,7 @@ further from to turn turns reply left one step rest last may stop = go stop
         (inr (inl (
           blocks,
           (
-            ap (ordered_disk turn.to.disk.order) e ∙ same_blocks (ordered_disk turn.to.disk.order from.disk) turn.to.disk blocks (shape_in_order (is_remount turn.op) from.disk turn.to.disk step.geometry),
+            ap (disk_with_order turn.to.disk.order) e ∙ same_blocks (disk_with_order turn.to.disk.order from.disk) turn.to.disk blocks (shape_in_order (is_remount turn.op) from.disk turn.to.disk step.geometry),
             k,
           ),
         )))

@@ -1,13 +1,13 @@
 -- The entry of an empty directory goes, and then its pair: what each of the two steps comes to, in an accepted image.
 use Rattle.std.proofs.Common.{ℕ, ◌≡◌, true, false, List, [], ◌∷◌, ◌++◌, length, Option, Some, None, refl, sym, ap, subst, ◌∙◌, arith}
 use Rattle.std.specs.Prelude.{◌≢◌, ◌&&◌, is_some}
-use Rattle.lfs_model.proofs.Common.{recursion_from_All, tree_with_subtree, tree_removing, Disk, Session, slot_of, Branch, Slot, Tail, is_superblock, zero_gstate, same_pair, path_or_root, Pair, pairs_gstate, is_hard_tail, count_before_root, Path, IsAccepted, IsWritable, LeadsTo, all_unmoved_slots, all_entries, disk_tree, used_blocks}
-use Rattle.lfs_model.specs.layers.StepResults.{tail_past_drop}
+use Rattle.lfs_model.proofs.Common.{recursion_from_All, tree_with_subtree, tree_removing, Disk, Session, slot_of_path, Branch, Slot, Tail, is_superblock, zero_gstate, same_pair, path_or_root, Pair, pairs_gstate, is_hard_tail, count_before_root, Path, IsAccepted, IsWritable, IsDirectoryAtPath, all_unmoved_slots, all_entries, disk_tree, used_blocks}
+use Rattle.lfs_model.specs.layers.StepResults.{predecessor_tail_after_drop}
 use Rattle.lfs_model.specs.session.Operations as ops
 use Rattle.lfs_model.proofs.Alike.{alike_itself, SameSlots, alike_append}
 use Rattle.lfs_model.proofs.Changes.{IsChangedImage, SameFiles, slots_files}
 use Rattle.lfs_model.proofs.Committed.{CompletesOperation}
-use Rattle.lfs_model.proofs.Counts.{number_occurrences, each_left, each_right}
+use Rattle.lfs_model.proofs.Counts.{occurrence_count, each_left, each_right}
 use Rattle.lfs_model.proofs.Drops.{softened}
 use Rattle.lfs_model.proofs.Files.{SameFileBlocks}
 use Rattle.lfs_model.proofs.Global.{HasNoMove}
@@ -31,7 +31,7 @@ pub record Unlinks (disk middle : Disk) (w : Site) (p q : Pair) (l r : List Slot
   pub other : is_superblock u ≡ false
   pub old_writable : IsWritable disk (thread_at w (p ∷ []))
   pub writable : IsWritable middle (thread_at w (q ∷ []))
-  pub leads : LeadsTo (thread_at w (p ∷ [])) P a
+  pub leads : IsDirectoryAtPath (thread_at w (p ∷ [])) P a
   pub same : same_pair (begin_of w (p ∷ [])) a ≡ true
   pub branch : u.struct ≡ Branch d
   pub empty : all_entries (thread_at w (p ∷ [])) d ≡ []
@@ -102,13 +102,13 @@ module _ (disk middle : Disk) (w : Site) (p q : Pair) (l r : List Slot) (u : Slo
                 alike = subst (λ z. SameSlots (w.chain ++ z) (w.chain ++ (k.front ++ y ∷ k.back))) (sym k.are)
                     (alike_append w.chain (k.front ++ k.x ∷ k.back) w.chain (k.front ++ y ∷ k.back) (alike_itself w.chain)
                     (alike_append k.front (k.x ∷ k.back) k.front (y ∷ k.back) (alike_itself k.front) (gone.at, gone.slots, alike_itself k.back)));
-                named = subst (λ z. slot_of z path_there ≡ Some u) k.were
+                named = subst (λ z. slot_of_path z path_there ≡ Some u) k.were
                     (rmdir_named disk middle new w p [] q l r u c.step c.other c.writable P a c.leads c.same d c.branch c.empty c.sync c.settled k.front k.x o y k.back k.there address alone gone);
               }
 
 -- ---- the tail
 
-pub over_soft : (f g : Option Tail) → is_hard_tail f ≡ false → tail_past_drop f g ≡ softened g
+pub over_soft : (f g : Option Tail) → is_hard_tail f ≡ false → predecessor_tail_after_drop f g ≡ softened g
 over_soft f None h = refl
 over_soft f (Some t) h = ap (λ b. Some (record { hard = b && t.hard; to = t.to })) h
 
@@ -120,14 +120,14 @@ module _ (disk new : Disk) (ahead : List Pair) (p q : Pair) (back : List Pair) (
   same_files = subst (SameFiles disk new) (unmoved_in (pairs_gstate (ahead ++ p ∷ back)) none (ahead ++ p ∷ back) ∙ slots_append ahead (p ∷ back))
       (recursion_from_All (λ (s : Slot). SameFileBlocks disk new s.struct) (all_unmoved_slots (ahead ++ p ∷ back)) on.files)
 
-  stays_same : (ss : List Slot) → SameFiles disk new ss → (b : ℕ) → number_occurrences b (file_blocks new ss) ≡ number_occurrences b (file_blocks disk ss)
-  stays_same ss h b = ap (number_occurrences b) (slots_files disk new ss on.geometry h)
+  stays_same : (ss : List Slot) → SameFiles disk new ss → (b : ℕ) → occurrence_count b (file_blocks new ss) ≡ occurrence_count b (file_blocks disk ss)
+  stays_same ss h b = ap (occurrence_count b) (slots_files disk new ss on.geometry h)
 
-  no_blocks : (b : ℕ) → number_occurrences b (file_blocks disk (u ∷ [])) ≡ 0
-  no_blocks b = ap (λ z. number_occurrences b (file_blocks disk (record u { struct = z } ∷ []))) branch
+  no_blocks : (b : ℕ) → occurrence_count b (file_blocks disk (u ∷ [])) ≡ 0
+  no_blocks b = ap (λ z. occurrence_count b (file_blocks disk (record u { struct = z } ∷ []))) branch
 
   -- a directory's entry has no list, so the image uses the same
-  pub unlinked_count : (b : ℕ) → number_occurrences b (used_blocks new (ahead ++ q ∷ back)) ≡ number_occurrences b (used_blocks disk (ahead ++ p ∷ back))
+  pub unlinked_count : (b : ℕ) → occurrence_count b (used_blocks new (ahead ++ q ∷ back)) ≡ occurrence_count b (used_blocks disk (ahead ++ p ∷ back))
   unlinked_count b =
       let f = all_slots ahead in
       let g = all_slots back in
@@ -142,8 +142,8 @@ module _ (disk new : Disk) (ahead : List Pair) (p q : Pair) (back : List Pair) (
       let e4 = stays_same g h4 b in
       let a1 = count_used b new (ahead ++ q ∷ back) still in
       let a2 = count_used b disk (ahead ++ p ∷ back) none in
-      let b1 = ap (λ z. number_occurrences b (file_blocks new z)) (slots_append ahead (q ∷ back) ∙ ap (λ z. f ++ (z ++ g)) kept) in
-      let b2 = ap (λ z. number_occurrences b (file_blocks disk z)) (slots_append ahead (p ∷ back) ∙ ap (λ z. f ++ (z ++ g)) held) in
+      let b1 = ap (λ z. occurrence_count b (file_blocks new z)) (slots_append ahead (q ∷ back) ∙ ap (λ z. f ++ (z ++ g)) kept) in
+      let b2 = ap (λ z. occurrence_count b (file_blocks disk z)) (slots_append ahead (p ∷ back) ∙ ap (λ z. f ++ (z ++ g)) held) in
       let c1 = count_files b new f ((l ++ r) ++ g) in
       let c2 = count_files b new (l ++ r) g in
       let c3 = count_files b new l r in
@@ -156,5 +156,5 @@ module _ (disk new : Disk) (ahead : List Pair) (p q : Pair) (back : List Pair) (
       let d2 = blocks_append ahead (p ∷ back) b in
       let d3 = blocks_append (q ∷ []) back b in
       let d4 = blocks_append (p ∷ []) back b in
-      let d5 = ap (λ (x : ℕ × ℕ). number_occurrences b (x.0 ∷ x.1 ∷ [])) at in
+      let d5 = ap (λ (x : ℕ × ℕ). occurrence_count b (x.0 ∷ x.1 ∷ [])) at in
       omega arith

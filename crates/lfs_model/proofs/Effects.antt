@@ -1,7 +1,7 @@
 -- What each change does to the slots, the tail and the move state of a pair.
 use Rattle.std.proofs.Common.{ℕ, ◌≡◌, ◌+◌, ◌-◌, ◌/◌, ◌%◌, ◌^◌, ◌<◌, ◌≤◌, ◌==◌, ◌&&◌, Bool, true, false, cond, not, List, [], ◌∷◌, ◌++◌, length, take, drop, Some, None, refl, sym, ap, ◌∙◌, arith, replicate, eq-eqb}
 use Rattle.std.specs.Prelude.{slice_set, nat_le, is_some}
-use Rattle.lfs_model.proofs.Common.{insert, remove, list_all, option_and_then, option_map, ne_eqb, le-leb, lt-ltb, and_from, or_right, append-nil, length-take-le, length-insert, set-append_seam, get_or-append_seam, make_tag, tag_type, tag_id, tag_length, tag_class, LogEntry, Gstate, RawSlot, RawContent, content_after_entry, content_after, slots_after, slot_changed_at, padded_slots, empty_slot, slot_of_id, attributes_with, attributes_without, is_known_tag, allows_any_length, requires_eight_bytes, requires_no_bytes, move_type, has_needed_id, is_attribute_removal, no_id, create_tag_type, delete_tag_type, tail_if_any, log_entry, first_attribute_type, IsAllowedPart, AreWords, MoveStateFits, ContentChange, Create, Delete, PutStruct, PutAttribute, RemoveAttribute, PutTail, PutMove, change_entries, entries_of_changes, is_storable, content_with_changes}
+use Rattle.lfs_model.proofs.Common.{insert, remove, list_all, option_and_then, option_map, ne_eqb, le-leb, lt-ltb, and_from, or_right, append-nil, length-take-le, length-insert, set-append_seam, get_or-append_seam, make_tag, tag_type, tag_id, tag_length, tag_class, LogEntry, Gstate, RawSlot, RawContent, content_after_entry, content_after, slots_after, slot_changed_at, padded_slots, empty_slot, slot_of_id, attributes_with, attributes_without, is_known_tag, allows_any_length, requires_eight_bytes, requires_no_bytes, move_state_type, has_needed_id, is_attribute_removal, no_id, create_tag_type, delete_tag_type, tail_if_not_null, log_entry, first_attribute_type, IsNameOrStruct, AreU32Addresses, MoveStateFits, ContentChange, Create, Delete, PutStruct, PutAttribute, RemoveAttribute, PutTail, PutMove, change_entries, entries_of_changes, is_storable, content_with_changes}
 use Rattle.lfs_model.proofs.WrittenAnew.{tag_type-make_tag, tag_id-make_tag, tag_length-make_tag, then, decoded_address-address_bytes, decoded_gstate-bytes_of_move_state}
 
 -- ---- one after the other
@@ -38,7 +38,7 @@ one_entry : (c d : RawContent) (e : LogEntry) → content_after_entry c e ≡ So
 one_entry c d e h = ap (option_and_then (λ x. Some x)) h
 
 -- the part is in the table under any id
-in_table_at : (class : ℕ) (part : ℕ × List ℕ) (id : ℕ) → class < 5 → id < 2 ^ 10 → IsAllowedPart class part → is_known_tag (make_tag part.0 id (length part.1)) ≡ true
+in_table_at : (class : ℕ) (part : ℕ × List ℕ) (id : ℕ) → class < 5 → id < 2 ^ 10 → IsNameOrStruct class part → is_known_tag (make_tag part.0 id (length part.1)) ≡ true
 in_table_at class part id c i h =
     let of : part.0 / 2 ^ 8 ≡ class = h.of_class in
     let short : length part.1 < 0x3ff = h.short in
@@ -78,7 +78,7 @@ IsNamed slots id = is_some (slot_of_id slots id).name ≡ true
 abbrev pub with_struct : ℕ × List ℕ → RawSlot → RawSlot
 with_struct part s = record s { struct = Some part }
 
-pub puts_struct : (c : RawContent) (id kind : ℕ) (bytes : List ℕ) → id < 0x3ff → IsNamed c.slots id → IsAllowedPart 2 (kind, bytes)
+pub puts_struct : (c : RawContent) (id kind : ℕ) (bytes : List ℕ) → id < 0x3ff → IsNamed c.slots id → IsNameOrStruct 2 (kind, bytes)
     → Does (PutStruct id kind bytes) c (record c { slots = slot_changed_at (with_struct (kind, bytes)) c.slots id })
 puts_struct c id type bytes small named part = record {
   storable = and_from _ _ (lt-ltb id no_id small) (and_from _ _ (and_from _ _ (le-leb 0x200 type (omega arith)) (lt-ltb type 0x300 (omega arith))) (le-leb (length bytes) 1022 (omega arith)));
@@ -124,7 +124,7 @@ attribute_in_table tag attribute small kind = go (is_attribute_removal tag)
     third : (first_attribute_type + attribute) / 2 ^ 8 == 3 ≡ true
     third = eq-eqb ((first_attribute_type + attribute) / 2 ^ 8) 3 (omega arith)
 
-    go : (b : Bool) → cond b (tag_class tag == 3) (cond (allows_any_length tag) true (cond (requires_eight_bytes tag) (tag_length tag == 8) (cond (requires_no_bytes tag) (tag_length tag == 0) (tag_type tag == move_type && tag_length tag == 12)))) ≡ true
+    go : (b : Bool) → cond b (tag_class tag == 3) (cond (allows_any_length tag) true (cond (requires_eight_bytes tag) (tag_length tag == 8) (cond (requires_no_bytes tag) (tag_length tag == 0) (tag_type tag == move_state_type && tag_length tag == 12)))) ≡ true
     go true = rw (kind, third) refl
     go false = rw (kind, third) refl
 
@@ -201,7 +201,7 @@ long_enough slots id there =
     let none : id + 1 - length slots ≡ 0 = omega arith in
     ap (λ n. slots ++ replicate n empty_slot) none ∙ append-nil slots
 
-pub creates : (c : RawContent) (id type : ℕ) (name : List ℕ) → id < 0x3ff → id ≤ length c.slots → IsAllowedPart 0 (type, name)
+pub creates : (c : RawContent) (id type : ℕ) (name : List ℕ) → id < 0x3ff → id ≤ length c.slots → IsNameOrStruct 0 (type, name)
     → Does (Create id type name) c (record c { slots = insert c.slots id (slot_named (type, name)) })
 creates c id type name small fits part = record {
   storable = and_from _ _ (lt-ltb id no_id small) (and_from _ _ (lt-ltb type 0x100 (omega arith)) (le-leb (length name) 1022 (omega arith)));
@@ -254,7 +254,7 @@ abbrev pub slot_with : ℕ × List ℕ → ℕ × List ℕ → RawSlot
 slot_with name part = record { name = Some name; struct = Some part; attributes = [] }
 
 pub creates_with_struct : (c : RawContent) (id type : ℕ) (name : List ℕ) (kind : ℕ) (bytes : List ℕ) (changes : List ContentChange) (e : RawContent) →
-    id < 0x3ff → id ≤ length c.slots → IsAllowedPart 0 (type, name) → IsAllowedPart 2 (kind, bytes) →
+    id < 0x3ff → id ≤ length c.slots → IsNameOrStruct 0 (type, name) → IsNameOrStruct 2 (kind, bytes) →
     content_with_changes (record c { slots = insert c.slots id (slot_with (type, name) (kind, bytes)) }) changes ≡ Some e →
     content_with_changes c (Create id type name ∷ PutStruct id kind bytes ∷ changes) ≡ Some e
 creates_with_struct c id type name kind bytes changes e small fits is_name is_struct others =
@@ -268,11 +268,11 @@ creates_with_struct c id type name kind bytes changes e small fits is_name is_st
 
 -- ---- tails and move states
 
-tail_after : (c : RawContent) (hard : Bool) (pair : ℕ × ℕ) → AreWords pair → content_after c (change_entries (PutTail hard (Some pair))) ≡ Some (record c { tail = tail_if_any hard pair })
-tail_after c true pair h = ap (λ p. Some (record c { tail = tail_if_any true p })) (decoded_address-address_bytes pair h)
-tail_after c false pair h = ap (λ p. Some (record c { tail = tail_if_any false p })) (decoded_address-address_bytes pair h)
+tail_after : (c : RawContent) (hard : Bool) (pair : ℕ × ℕ) → AreU32Addresses pair → content_after c (change_entries (PutTail hard (Some pair))) ≡ Some (record c { tail = tail_if_not_null hard pair })
+tail_after c true pair h = ap (λ p. Some (record c { tail = tail_if_not_null true p })) (decoded_address-address_bytes pair h)
+tail_after c false pair h = ap (λ p. Some (record c { tail = tail_if_not_null false p })) (decoded_address-address_bytes pair h)
 
-pub puts_tail : (c : RawContent) (hard : Bool) (pair : ℕ × ℕ) → AreWords pair → Does (PutTail hard (Some pair)) c (record c { tail = tail_if_any hard pair })
+pub puts_tail : (c : RawContent) (hard : Bool) (pair : ℕ × ℕ) → AreU32Addresses pair → Does (PutTail hard (Some pair)) c (record c { tail = tail_if_not_null hard pair })
 puts_tail c hard pair h = record {
   storable = and_from _ _ (lt-ltb pair.0 (2 ^ 32) h.0) (lt-ltb pair.1 (2 ^ 32) h.1);
   makes = tail_after c hard pair h;

@@ -2,7 +2,7 @@
 use Rattle.std.proofs.Common.{ℕ, zero, suc, ◌≡◌, ◌+◌, ◌<◌, true, false, cond, slice_get, get_or, List, [], ◌∷◌, ◌++◌, length, Option, Some, None, refl, sym, ap, subst, ◌∙◌, arith, append_assoc, length-append, Bool, nat_eq}
 use Rattle.std.specs.List.{IsDistinct}
 use Rattle.std.specs.Prelude.{is_some}
-use Rattle.lfs_model.proofs.Common.{append-nil, same_Some, Disk, directory_address, continued_address, same_pair, Pair, pairs_from_root, first_address, pairs_gstate, is_hard_tail, root_address, pairs_blocks, Path, IsAccepted, LeadsTo, all_entries}
+use Rattle.lfs_model.proofs.Common.{append-nil, same_Some, Disk, directory_address, continued_directory_address, same_pair, Pair, pairs_from_root, first_address, pairs_gstate, is_hard_tail, root_address, pairs_blocks, Path, IsAccepted, IsDirectoryAtPath, all_entries}
 use Rattle.lfs_model.proofs.Found.{HasDirectory, led_directory}
 use Rattle.lfs_model.proofs.Global.{HasNoMove}
 use Rattle.lfs_model.proofs.Indexes.{site_shows}
@@ -12,7 +12,7 @@ use Rattle.lfs_model.proofs.Pairs.{pair_back, pair_on}
 use Rattle.lfs_model.proofs.Searches.{same_number, avoids_behind, avoids_front}
 use Rattle.lfs_model.proofs.Sites.{Site, dirs_at, thread_at}
 use Rattle.lfs_model.proofs.Superblocks.{IsChain, pairs_behind}
-use Rattle.lfs_model.proofs.Writable.{ends_joined}
+use Rattle.lfs_model.proofs.Writable.{last_tail_is_hard}
 use Rattle.lfs_model.proofs.Counts.{Each, each_append, each_left, each_right}
 use Rattle.lfs_model.proofs.RemovedDirectory.{onward_append, before_gone, from_kept}
 use Rattle.lfs_model.proofs.TwoPlaces.{two}
@@ -56,11 +56,11 @@ where_is (a ∷ xs) p ys (f ∷ front) x o back e =
 
 pub soft_end : (from : Option (ℕ × ℕ)) (xs : List Pair) (x : Pair) → is_hard_tail x.content.tail ≡ false → onward_all from (xs ++ x ∷ []) ≡ None
 soft_end from [] x e = ap (λ b. cond b (Some (directory_address from x)) None) e
-soft_end from (z ∷ xs) x e = soft_end (continued_address from z) xs x e
+soft_end from (z ∷ xs) x e = soft_end (continued_directory_address from z) xs x e
 
-pub flag_from : (from : Option (ℕ × ℕ)) (xs : List Pair) → is_some (onward_all from xs) ≡ ends_joined (is_some from) xs
+pub flag_from : (from : Option (ℕ × ℕ)) (xs : List Pair) → is_some (onward_all from xs) ≡ last_tail_is_hard (is_some from) xs
 flag_from from [] = refl
-flag_from from (x ∷ xs) = flag_from (continued_address from x) xs ∙ ap (λ b. ends_joined b xs) (onward_some from x)
+flag_from from (x ∷ xs) = flag_from (continued_directory_address from x) xs ∙ ap (λ b. last_tail_is_hard b xs) (onward_some from x)
 
 ends_last : (xs : List Pair) (x : Pair) → Ends (xs ++ x ∷ []) → is_hard_tail x.content.tail ≡ false
 ends_last [] x h = h
@@ -113,10 +113,10 @@ front_of dirs d h not_root = by h.before refl
         }
 
 -- the root isn't named by an entry
-pub not_the_root : (disk : Disk) (ps : List Pair) (P : Path) (n : List ℕ) (d : ℕ × ℕ) → IsAccepted disk ps → LeadsTo ps (P ++ n ∷ []) d → same_pair (root_address ps) d ≡ true → ⊥
+pub not_the_root : (disk : Disk) (ps : List Pair) (P : Path) (n : List ℕ) (d : ℕ × ℕ) → IsAccepted disk ps → IsDirectoryAtPath ps (P ++ n ∷ []) d → same_pair (root_address ps) d ≡ true → ⊥
 not_the_root disk ps P n d ok led e = path_some P n (ok.once [] (P ++ n ∷ []) (root_address ps) d refl led e)
 
-pub has_front : (disk : Disk) (chain dirs : List Pair) (P : Path) (n : List ℕ) (d : ℕ × ℕ) → IsAccepted disk (chain ++ dirs) → IsChain chain dirs → LeadsTo (chain ++ dirs) (P ++ n ∷ []) d → HasFront dirs d
+pub has_front : (disk : Disk) (chain dirs : List Pair) (P : Path) (n : List ℕ) (d : ℕ × ℕ) → IsAccepted disk (chain ++ dirs) → IsChain chain dirs → IsDirectoryAtPath (chain ++ dirs) (P ++ n ∷ []) d → HasFront dirs d
 has_front disk chain dirs P n d ok is_chain led =
     let h = led_directory disk (chain ++ dirs) (P ++ n ∷ []) d ok led in
     subst (λ z. HasFront z d) (pairs_behind chain dirs is_chain) (front_of (pairs_from_root (chain ++ dirs)) d h

@@ -1,14 +1,14 @@
 -- What images show, from what computes.
 use Rattle.std.proofs.Common.{ℕ, ◌≡◌, Bool, true, false, List, [], ◌∷◌, Option, Some, refl, sym, ap, ◌∙◌, option_map, cond, map}
 use Rattle.std.specs.Prelude.{find}
-use Rattle.lfs_model.proofs.Common.{Disk, default_profile, Slot, File, Directory, Inline, Ctz, Branch, Tail, Gstate, Pair, pairs_gstate, root_address, Path, Node, root_slot, struct_node, HasDiskView, disk_view, all_entries, struct_list_bytes, disk_tree, used_blocks, same_path, superblock_slot, tree_of_nodes}
+use Rattle.lfs_model.proofs.Common.{Disk, default_profile, Slot, File, Directory, Inline, Ctz, Branch, Tail, Gstate, Pair, pairs_gstate, root_address, Path, Node, root_slot, struct_node, HasDiskView, disk_view, all_entries, disk_list_bytes, disk_tree, used_blocks, same_path, superblock_slot, tree_of_nodes}
 use Rattle.lfs_model.specs.examples.Images.{nodes_view}
 use Rattle.lfs_model.proofs.Outlines.{Outline, found_in, outlined}
 use Rattle.lfs_model.proofs.Acceptance.{IsImage, image_is_accepted, image_is_outlined, outline_in}
 
 -- the nodes of the outline
 abbrev pub nodes_in : Disk → List Pair → ℕ → List (Path × Node)
-nodes_in disk ps k = map (λ f. (f.0, struct_node (struct_list_bytes disk) (all_entries ps) f.1.attributes f.1.struct)) (outline_in k ps)
+nodes_in disk ps k = map (λ f. (f.0, struct_node (disk_list_bytes disk) (all_entries ps) f.1.attributes f.1.struct)) (outline_in k ps)
 
 found_nodes : (node : Slot → Node) (xs : Outline) (path : Path) → tree_of_nodes (map (λ (f : Path × Slot). (f.0, node f.1)) xs) path ≡ option_map node (found_in path xs)
 found_nodes node [] path = refl
@@ -28,8 +28,8 @@ image_shows disk ps bytes k h nodes gstate used nodes_are gstate_is used_are =
   where
     tree_at : (path : Path) → disk_tree disk ps path ≡ tree_of_nodes (nodes_in disk ps k) path
     tree_at path =
-        ap (option_map (λ s. struct_node (struct_list_bytes disk) (all_entries ps) s.attributes s.struct)) (sym (outlined k (all_entries ps) (root_slot (root_address ps)) (image_is_outlined disk ps bytes k h) path))
-        ∙ sym (found_nodes (λ s. struct_node (struct_list_bytes disk) (all_entries ps) s.attributes s.struct) (outline_in k ps) path)
+        ap (option_map (λ s. struct_node (disk_list_bytes disk) (all_entries ps) s.attributes s.struct)) (sym (outlined k (all_entries ps) (root_slot (root_address ps)) (image_is_outlined disk ps bytes k h) path))
+        ∙ sym (found_nodes (λ s. struct_node (disk_list_bytes disk) (all_entries ps) s.attributes s.struct) (outline_in k ps) path)
 
 -- ---- pairs, written out
 

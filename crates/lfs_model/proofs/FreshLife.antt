@@ -2,7 +2,7 @@
 use Rattle.std.proofs.Common.{[], ◌∷◌, None, refl, sym}
 use Rattle.std.specs.Prelude.{codes}
 use Rattle.lfs_model.specs.session.Operations as ops
-use Rattle.lfs_model.specs.crash.RepeatedPowerLoss.{MeetsRunPremises}
+use Rattle.lfs_model.specs.crash.RepeatedPowerLoss.{MeetsCrashSafetyPremises}
 use Rattle.lfs_model.proofs.Common.{Healthy, HealthyHasDiskTree, empty_tree, mounted_session, small_image, fresh_state}
 use Rattle.lfs_model.proofs.AskedStep.{turn}
 use Rattle.lfs_model.proofs.Fresh.{shows}
@@ -16,5 +16,5 @@ lived = (record { ends = tree_step fresh_state fresh_state _ _ turn; survives_lo
 pub agrees : HealthyHasDiskTree fresh_state.disk fresh_state.state
 agrees = (pairs, (are_accepted, sym (shows small_image)))
 
-pub premises : MeetsRunPremises fresh_state fresh_state
+pub premises : MeetsCrashSafetyPremises fresh_state fresh_state
 premises = record { agrees = record { session = mounted_session empty_tree; healthy = refl; shows = agrees }; profile = in_profile; cleanly = record { events = []; extends = refl; each = tt } }

@@ -2,7 +2,7 @@
 use Rattle.std.proofs.Common.{ℕ, ◌≡◌, ◌⊎◌, inl, inr, ◌+◌, ◌<◌, Bool, true, false, cond, nat_eq, List, [], ◌∷◌, ◌++◌, length, Option, Some, None, refl, sym, ap, subst, ◌∙◌, arith, append_assoc, length-append}
 use Rattle.std.specs.List.{IsDistinct}
 use Rattle.std.specs.Prelude.{is_some}
-use Rattle.lfs_model.proofs.Common.{tree_with_subtree, tree_removing, Disk, directory_address, continued_address, Session, slot_of, Branch, Slot, is_superblock, zero_gstate, same_pair, path_or_root, Pair, pairs_blocks, pairs_gstate, is_hard_tail, count_before_root, Path, IsAccepted, IsWritable, LeadsTo, all_entries, disk_tree}
+use Rattle.lfs_model.proofs.Common.{tree_with_subtree, tree_removing, Disk, directory_address, continued_directory_address, Session, slot_of_path, Branch, Slot, is_superblock, zero_gstate, same_pair, path_or_root, Pair, pairs_blocks, pairs_gstate, is_hard_tail, count_before_root, Path, IsAccepted, IsWritable, IsDirectoryAtPath, all_entries, disk_tree}
 use Rattle.lfs_model.specs.session.Operations as ops
 use Rattle.lfs_model.proofs.Alike.{SameSlots, alike_append, alike_itself}
 use Rattle.lfs_model.proofs.Changes.{IsChangedImage}
@@ -22,7 +22,7 @@ use Rattle.lfs_model.proofs.EmptyDirectories.{Ahead, Behind, Itself, Next, Where
 
 hard_end : (from : Option (ℕ × ℕ)) (xs : List Pair) (x : Pair) → is_hard_tail x.content.tail ≡ true → is_some (onward_all from (xs ++ x ∷ [])) ≡ true
 hard_end from [] x e = ap (λ b. is_some (cond b (Some (directory_address from x)) None)) e
-hard_end from (z ∷ xs) x e = hard_end (continued_address from z) xs x e
+hard_end from (z ∷ xs) x e = hard_end (continued_directory_address from z) xs x e
 
 same_last : (xs : List Pair) (x : Pair) (ys : List Pair) (y : Pair) → xs ++ x ∷ [] ≡ ys ++ y ∷ [] → SameParts xs x [] ys y []
 same_last xs x ys y e = same_parts xs x [] ys y [] (let a = length-append xs (x ∷ []) in let b = length-append ys (y ∷ []) in let n = ap length e in omega arith) e
@@ -33,7 +33,7 @@ pub record UnlinksWhole (disk middle : Disk) (w : Site) (x0 e q : Pair) (u : Slo
   pub other : is_superblock u ≡ false
   pub old_writable : IsWritable disk (thread_at w (x0 ∷ e ∷ []))
   pub writable : IsWritable middle (thread_at w (q ∷ []))
-  pub leads : LeadsTo (thread_at w (x0 ∷ e ∷ [])) P a
+  pub leads : IsDirectoryAtPath (thread_at w (x0 ∷ e ∷ [])) P a
   pub same : same_pair (begin_of w (x0 ∷ e ∷ [])) a ≡ true
   pub branch : u.struct ≡ Branch d
   pub empty : all_entries (thread_at w (x0 ∷ e ∷ [])) d ≡ []
@@ -106,7 +106,7 @@ module _ (disk middle : Disk) (w : Site) (x0 e q : Pair) (u : Slot) (P : Path) (
         apart = h.apart;
         stays = (h.from, refl);
         alike = h.alike;
-        named = subst (λ z. slot_of z path_there ≡ Some u) h.were
+        named = subst (λ z. slot_of_path z path_there ≡ Some u) h.were
             (rmdir_named disk middle new w x0 (e ∷ []) q x0.content.slots [] u c.step c.other c.writable P a c.leads c.same d c.branch c.empty c.sync c.settled f x o y rest there address alone gone);
       } in
       subst (λ z. CompletesOperation disk z s (ops.Remove path) new (w.chain ++ (f ++ y ∷ rest))) (sym h.were)

@@ -1,7 +1,7 @@
 -- Two pairs of one thread: a slot of the one comes into the other, and a set move hides it where it stood.
 use Rattle.std.proofs.Common.{ℕ, zero, suc, ◌≡◌, Bool, true, false, cond, not, nat_eq, List, [], ◌∷◌, ◌++◌, length, take, drop, refl, sym, ap, ap₂, subst, ◌∙◌, arith, append_assoc, remove, Less}
 use Rattle.std.specs.Prelude.{◌≢◌, ◌&&◌}
-use Rattle.lfs_model.proofs.Common.{flat_map, append-nil, filter-append, Disk, Name, Slot, Gstate, is_superblock, same_pair, Pair, pairs_gstate, slots_not_moved, unmoved_entries, pair_directories, Path, EntryMap, all_directories, all_entries, LeadsTo, directory_slots}
+use Rattle.lfs_model.proofs.Common.{flat_map, append-nil, filter-append, Disk, Name, Slot, Gstate, is_superblock, same_pair, Pair, pairs_gstate, slots_not_moved, unmoved_entries, pair_directories, Path, DirectoryEntryMap, all_directories, all_entries, IsDirectoryAtPath, directory_slots}
 use Rattle.lfs_model.specs.declared.order.NameOrder.{NameOrder}
 use Rattle.lfs_model.specs.format.Names.{name_cmp}
 use Rattle.lfs_model.proofs.Counts.{Each, each_append, each_left, each_right, each_weaker, each_always, each_pieces, each_joined}
@@ -132,8 +132,8 @@ greater_parts (x ∷ xs) ys name h = greater_parts xs ys name (record {
 module _ (disk new : Disk) (wo : Site) (o : Pair) (lo : List Slot) (u : Slot) (ro : List Slot)
     (w : Site) (p : Pair) (q : Pair) (more : List Pair) (extra : List ℕ) (l : List Slot) (v : Slot) (r : List Slot)
     (step : IsMoveSet disk new wo o lo u ro w p [] q more extra l [] v r)
-    (P : Path) (b : ℕ × ℕ) (leads : LeadsTo (thread_at w (p ∷ [])) P b) (same_old : same_pair (begin_of wo (o ∷ [])) b ≡ true)
-    (Q : Path) (a : ℕ × ℕ) (arrives : LeadsTo (thread_at w (p ∷ [])) Q a) (same : same_pair (begin_of w (p ∷ [])) a ≡ true) where
+    (P : Path) (b : ℕ × ℕ) (leads : IsDirectoryAtPath (thread_at w (p ∷ [])) P b) (same_old : same_pair (begin_of wo (o ∷ [])) b ≡ true)
+    (Q : Path) (a : ℕ × ℕ) (arrives : IsDirectoryAtPath (thread_at w (p ∷ [])) Q a) (same : same_pair (begin_of w (p ∷ [])) a ≡ true) where
   abbrev ps : List Pair
   ps = thread_at w (p ∷ [])
 
@@ -146,7 +146,7 @@ module _ (disk new : Disk) (wo : Site) (o : Pair) (lo : List Slot) (u : Slot) (r
   abbrev dirs : List Pair
   dirs = dirs_at w (p ∷ [])
 
-  abbrev E0 : EntryMap
+  abbrev E0 : DirectoryEntryMap
   E0 = all_entries ps
 
   were : all_directories ps ≡ pair_directories g dirs
@@ -198,7 +198,7 @@ module _ (disk new : Disk) (wo : Site) (o : Pair) (lo : List Slot) (u : Slot) (r
       ∙ shown_of g step.no_move wo (o ∷ []) lo (u ∷ []) ro (append-nil o.content.slots ∙ step.was_there)
       ∙ ap (λ s. shown_before wo lo ++ (s ++ shown_behind wo ro)) (entry_only u step.other)
 
-  abbrev E1 : EntryMap
+  abbrev E1 : DirectoryEntryMap
   E1 = put E0 b (remove (E0 b) (place_at wo lo))
 
   hidden_there : flat_map (unmoved_entries g) wo.left ++ (flat_map (unmoved_entries h) (o ∷ []) ++ flat_map (unmoved_entries g) wo.right) ≡ remove (E0 b) (place_at wo lo)

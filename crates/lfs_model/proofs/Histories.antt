@@ -1,8 +1,8 @@
 -- What follows from the history of a device, for those who call it.
 use Rattle.std.proofs.Common.{◌≡◌, ◌≢◌, ◌≤◌, ℕ, ◌+◌, Bool, true, false, not, ◌&&◌, if◌then◌else◌, nat_le, nat_lt, ◌==◌, length, arith, List, [], ◌∷◌, ◌++◌, refl, sym, ◌∙◌, ap, subst, append_assoc}
 use Rattle.std.specs.Prelude.{All}
-use Rattle.lfs_model.proofs.Common.{nat_tests, append_cancel_right, Blocks, LeftByLoss, may_stop_leave, DeviceCall, CallEvent, call_event, Read, Program, Erase, Blank, read_count, program_count, fault_count, is_unprogrammed_byte, AllCalls, AllCallsSince, IsRead, LossLeavesAtWorst, HoldsAtLosses}
-use Rattle.lfs_model.specs.session.History.{call_reads, may_leave, erase_count, call_blanks, blank_count, unprogrammed_after, AreUnprogrammed, StayUnprogrammed, OnlyReadsSince}
+use Rattle.lfs_model.proofs.Common.{nat_tests, append_cancel_right, Blocks, LeftByLoss, power_loss_may_leave, DeviceCall, CallEvent, call_event, Read, Program, Erase, Blank, read_count, program_count, fault_count, is_unprogrammed_byte, AllCalls, AllCallsSince, IsRead, LossLeavesAtWorst, HoldsAtLosses}
+use Rattle.lfs_model.specs.session.History.{call_reads, may_leave_at_worst, erase_count, call_blank_answers, blank_answer_count, unprogrammed_after, AreUnprogrammed, OthersStayUnprogrammed, OnlyReadsSince}
 
 -- Calls that all have P: none yet, one more, those of another stretch, and what P implies.
 
@@ -117,13 +117,13 @@ erases_in_reads blocks (e ∷ events) old each =
     let rest = erases_in_reads blocks events old each.1 in
     omega arith
 
-blanks_in_read : (call : DeviceCall) → call_reads call ≡ 1 → call_blanks call ≡ 0
+blanks_in_read : (call : DeviceCall) → call_reads call ≡ 1 → call_blank_answers call ≡ 0
 blanks_in_read (Read block off len) is = refl
 blanks_in_read (Program block off bytes) is = refl
 blanks_in_read (Erase block) is = refl
 blanks_in_read (Blank block off len) is = absurd (cc)
 
-blanks_in_reads : (blocks : Blocks) (events old : List CallEvent) → AllCalls (IsRead blocks) events → blank_count (events ++ old) ≡ blank_count old
+blanks_in_reads : (blocks : Blocks) (events old : List CallEvent) → AllCalls (IsRead blocks) events → blank_answer_count (events ++ old) ≡ blank_answer_count old
 blanks_in_reads blocks [] old each = refl
 blanks_in_reads blocks (e ∷ events) old each =
     let here = blanks_in_read e.call each.0.reads in
@@ -146,8 +146,8 @@ program_count-read_count {blocks} {old} since = ap program_count since.extends �
 pub erase_count-read_count : {blocks : Blocks} {old new : List CallEvent} → OnlyReadsSince blocks old new → erase_count new ≡ erase_count old
 erase_count-read_count {blocks} {old} since = ap erase_count since.extends ∙ erases_in_reads blocks since.events old since.each
 
-pub blank_count-read_count : {blocks : Blocks} {old new : List CallEvent} → OnlyReadsSince blocks old new → blank_count new ≡ blank_count old
-blank_count-read_count {blocks} {old} since = ap blank_count since.extends ∙ blanks_in_reads blocks since.events old since.each
+pub blank_answer_count-read_count : {blocks : Blocks} {old new : List CallEvent} → OnlyReadsSince blocks old new → blank_answer_count new ≡ blank_answer_count old
+blank_answer_count-read_count {blocks} {old} since = ap blank_answer_count since.extends ∙ blanks_in_reads blocks since.events old since.each
 
 pub is_unprogrammed_byte-read_count : {blocks : Blocks} {old new : List CallEvent} (block k : ℕ) → OnlyReadsSince blocks old new → is_unprogrammed_byte new block k ≡ is_unprogrammed_byte old block k
 is_unprogrammed_byte-read_count {blocks} {old} block k since = ap (λ (h : List CallEvent). is_unprogrammed_byte h block k) since.extends ∙ unprogrammed_in_reads blocks since.events old block k since.each
@@ -163,7 +163,7 @@ HoldsAtLosses-read_count {P = P} stopped since here = AllCallsSince-weaker (λ e
 pub LossLeavesAtWorst-read : (e : CallEvent) (disk : Blocks) → call_reads e.call ≡ 1 → LossLeavesAtWorst e disk → disk ≡ e.before
 LossLeavesAtWorst-read e = at_call e.call e.before
   where
-    at_call : (call : DeviceCall) (before disk : Blocks) → call_reads call ≡ 1 → may_leave call before disk → disk ≡ before
+    at_call : (call : DeviceCall) (before disk : Blocks) → call_reads call ≡ 1 → may_leave_at_worst call before disk → disk ≡ before
     at_call (Read block off len) before disk is left = left
     at_call (Program block off bytes) before disk is left = absurd (cc)
     at_call (Erase block) before disk is left = absurd (cc)
@@ -172,7 +172,7 @@ LossLeavesAtWorst-read e = at_call e.call e.before
 pub LeftByLoss-read : (e : CallEvent) (disk : Blocks) → call_reads e.call ≡ 1 → LeftByLoss e disk → disk ≡ e.before
 LeftByLoss-read e = at_call e.call e.before
   where
-    at_call : (call : DeviceCall) (before disk : Blocks) → call_reads call ≡ 1 → may_stop_leave call before disk → disk ≡ before
+    at_call : (call : DeviceCall) (before disk : Blocks) → call_reads call ≡ 1 → power_loss_may_leave call before disk → disk ≡ before
     at_call (Read block off len) before disk is left = left
     at_call (Program block off bytes) before disk is left = absurd (cc)
     at_call (Erase block) before disk is left = absurd (cc)
@@ -201,21 +201,21 @@ is_unprogrammed_byte-blank {block = block} is k above below = ap (λ (h : List C
 
 -- What was unprogrammed outside some blocks and still is.
 
-pub StayUnprogrammed-refl : (bs : List ℕ) (history : List CallEvent) → StayUnprogrammed bs history history
-StayUnprogrammed-refl bs history = record { stays = λ b k apart was. was }
+pub OthersStayUnprogrammed-refl : (bs : List ℕ) (history : List CallEvent) → OthersStayUnprogrammed bs history history
+OthersStayUnprogrammed-refl bs history = record { stays = λ b k apart was. was }
 
-pub StayUnprogrammed-trans : {bs : List ℕ} {old mid new : List CallEvent} → StayUnprogrammed bs old mid → StayUnprogrammed bs mid new → StayUnprogrammed bs old new
-StayUnprogrammed-trans first second = record { stays = λ b k apart was. second.stays b k apart (first.stays b k apart was) }
+pub OthersStayUnprogrammed-trans : {bs : List ℕ} {old mid new : List CallEvent} → OthersStayUnprogrammed bs old mid → OthersStayUnprogrammed bs mid new → OthersStayUnprogrammed bs old new
+OthersStayUnprogrammed-trans first second = record { stays = λ b k apart was. second.stays b k apart (first.stays b k apart was) }
 
 -- outside more blocks
-pub StayUnprogrammed-wider : {bs : List ℕ} (cs : List ℕ) {old new : List CallEvent} → ((b : ℕ) → All (λ c. c ≢ b) cs → All (λ c. c ≢ b) bs) → StayUnprogrammed bs old new → StayUnprogrammed cs old new
-StayUnprogrammed-wider cs among same = record { stays = λ b k apart was. same.stays b k (among b apart) was }
+pub OthersStayUnprogrammed-wider : {bs : List ℕ} (cs : List ℕ) {old new : List CallEvent} → ((b : ℕ) → All (λ c. c ≢ b) cs → All (λ c. c ≢ b) bs) → OthersStayUnprogrammed bs old new → OthersStayUnprogrammed cs old new
+OthersStayUnprogrammed-wider cs among same = record { stays = λ b k apart was. same.stays b k (among b apart) was }
 
-pub StayUnprogrammed-read_count : (bs : List ℕ) {blocks : Blocks} {old new : List CallEvent} → OnlyReadsSince blocks old new → StayUnprogrammed bs old new
-StayUnprogrammed-read_count bs since = record { stays = λ b k apart was. is_unprogrammed_byte-read_count b k since ∙ was }
+pub OthersStayUnprogrammed-read_count : (bs : List ℕ) {blocks : Blocks} {old new : List CallEvent} → OnlyReadsSince blocks old new → OthersStayUnprogrammed bs old new
+OthersStayUnprogrammed-read_count bs since = record { stays = λ b k apart was. is_unprogrammed_byte-read_count b k since ∙ was }
 
-pub StayUnprogrammed-erase : {old new : List CallEvent} {erased : ℕ} {before after : Blocks} {failed : Bool} → new ≡ call_event (Erase erased) before after failed ∷ old → StayUnprogrammed (erased ∷ []) old new
-StayUnprogrammed-erase {old} {new} {erased} is = record { stays = step }
+pub OthersStayUnprogrammed-erase : {old new : List CallEvent} {erased : ℕ} {before after : Blocks} {failed : Bool} → new ≡ call_event (Erase erased) before after failed ∷ old → OthersStayUnprogrammed (erased ∷ []) old new
+OthersStayUnprogrammed-erase {old} {new} {erased} is = record { stays = step }
   where
     step : (b k : ℕ) → All (λ c. c ≢ b) (erased ∷ []) → is_unprogrammed_byte old b k ≡ true → is_unprogrammed_byte new b k ≡ true
     step b k apart was =
@@ -223,9 +223,9 @@ StayUnprogrammed-erase {old} {new} {erased} is = record { stays = step }
         let other : (b == erased) ≡ false = grind (arith, nat_tests, differs) in
         ap (λ (h : List CallEvent). is_unprogrammed_byte h b k) is ∙ grind (arith, nat_tests, was, other)
 
-pub StayUnprogrammed-program : {old new : List CallEvent} {programmed off : ℕ} {bytes : List ℕ} {before after : Blocks} {failed : Bool} → new ≡ call_event (Program programmed off bytes) before after failed ∷ old
-    → StayUnprogrammed (programmed ∷ []) old new
-StayUnprogrammed-program {old} {new} {programmed} is = record { stays = step }
+pub OthersStayUnprogrammed-program : {old new : List CallEvent} {programmed off : ℕ} {bytes : List ℕ} {before after : Blocks} {failed : Bool} → new ≡ call_event (Program programmed off bytes) before after failed ∷ old
+    → OthersStayUnprogrammed (programmed ∷ []) old new
+OthersStayUnprogrammed-program {old} {new} {programmed} is = record { stays = step }
   where
     step : (b k : ℕ) → All (λ c. c ≢ b) (programmed ∷ []) → is_unprogrammed_byte old b k ≡ true → is_unprogrammed_byte new b k ≡ true
     step b k apart was =
@@ -238,20 +238,20 @@ kept_or_true : (x was : Bool) → was ≡ true → (if x then true else was) ≡
 kept_or_true true was is = refl
 kept_or_true false was is = is
 
-pub StayUnprogrammed-blank : {old new : List CallEvent} (bs : List ℕ) {block off len : ℕ} {before after : Blocks} {failed : Bool} → new ≡ call_event (Blank block off len) before after failed ∷ old → StayUnprogrammed bs old new
-StayUnprogrammed-blank {old} bs {block} {off} {len} {failed = failed} is = record {
+pub OthersStayUnprogrammed-blank : {old new : List CallEvent} (bs : List ℕ) {block off len : ℕ} {before after : Blocks} {failed : Bool} → new ≡ call_event (Blank block off len) before after failed ∷ old → OthersStayUnprogrammed bs old new
+OthersStayUnprogrammed-blank {old} bs {block} {off} {len} {failed = failed} is = record {
   stays = λ b k apart was. ap (λ (h : List CallEvent). is_unprogrammed_byte h b k) is ∙ kept_or_true (not failed && (b == block && nat_le off k && nat_lt k (off + len))) (is_unprogrammed_byte old b k) was;
 }
 
 -- where a part of a block is unprogrammed and stays so
-pub AreUnprogrammed-stays : {bs : List ℕ} {old new : List CallEvent} {low high : ℕ} (block : ℕ) → StayUnprogrammed bs old new → All (λ c. c ≢ block) bs → AreUnprogrammed old block low high → AreUnprogrammed new block low high
+pub AreUnprogrammed-stays : {bs : List ℕ} {old new : List CallEvent} {low high : ℕ} (block : ℕ) → OthersStayUnprogrammed bs old new → All (λ c. c ≢ block) bs → AreUnprogrammed old block low high → AreUnprogrammed new block low high
 AreUnprogrammed-stays block same apart was k above below = same.stays block k apart (was k above below)
 
 -- what a stop leaves in the sharper sense it leaves at worst
 pub LeftByLoss-worst : (e : CallEvent) (disk : Blocks) → LeftByLoss e disk → LossLeavesAtWorst e disk
 LeftByLoss-worst e = at_call e.call e.before
   where
-    at_call : (call : DeviceCall) (before disk : Blocks) → may_stop_leave call before disk → may_leave call before disk
+    at_call : (call : DeviceCall) (before disk : Blocks) → power_loss_may_leave call before disk → may_leave_at_worst call before disk
     at_call (Read block off len) before disk left = left
     at_call (Program block off bytes) before disk left = left.0
     at_call (Erase block) before disk left = left.0

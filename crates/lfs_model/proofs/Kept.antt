@@ -1,6 +1,6 @@
 -- What runs of a session keep: the session that the accepted operations define, the writing profile, and nothing to recover.
 use Rattle.std.proofs.Common.{◌≡◌, Bool, true, false, cond, List, [], ◌∷◌, Option, Some, None, refl, sym, ap, subst, ◌∙◌}
-use Rattle.lfs_model.proofs.Common.{same_Some, Disk, block_count, ordered_disk, content_at, Pair, Tree, IsAccepted, IsWritable, disk_tree, CallEvent, Operation, Reply, Refusal, Session, DiskSummary, operation_result, operation_effect, unless_refused, operation_refusal, SessionHealth, HasFailed, Healthy, is_remount, remount_result, nonremount_result, mounted_session, IsFreshDisk, fresh_pair, empty_tree, IsRecovered, SystemState, ShowsTree, HealthyHasDiskTree, is_refusal, EffectRelation, IsDiskEffect, IsStepWith, IsTreeStep, AreSteps, HasDiskTree, IsMounted}
+use Rattle.lfs_model.proofs.Common.{same_Some, Disk, block_count, disk_with_order, content_at, Pair, Tree, IsAccepted, IsWritable, disk_tree, CallEvent, Operation, Reply, Refusal, Session, DiskSummary, operation_result, operation_effect, unless_refused, operation_refusal, SessionHealth, HasFailed, Healthy, is_remount, remount_result, nonremount_result, mounted_session, IsFreshDisk, fresh_pair, empty_tree, IsRecovered, SystemState, ShowsTree, HealthyHasDiskTree, is_refusal, EffectRelation, IsDiskEffect, IsStepWith, IsTreeStep, AreSteps, HasDiskTree, IsJustMounted}
 use Rattle.lfs_model.specs.session.Operations as ops
 use Rattle.lfs_model.specs.session.Headline.{LeadsFromFresh, session_after, session_after_all, IsRecoveredDisk, SessionMatchesDisk}
 use Rattle.lfs_model.proofs.Uniqueness.{one_thread}
@@ -43,7 +43,7 @@ defined_next around from to op reply s healthy agrees turn =
     refused a None e = same_effect a around s op ∙ sym (ap (λ b. cond b s effect) (no_refusal a s op)) ∙ ap (λ r. cond (is_refusal r) s effect) e
     refused a (Some error) e = ap (λ r. cond (is_refusal r) s effect) e
 
-    remount : (shown : Option Tree) → ShowsTree (ordered_disk to.disk.order from.disk) shown → remount_result shown ≡ (Some reply, to.state) → to.state ≡ Healthy (cond (is_refusal reply) s (mounted_session s.tree))
+    remount : (shown : Option Tree) → ShowsTree (disk_with_order to.disk.order from.disk) shown → remount_result shown ≡ (Some reply, to.state) → to.state ≡ Healthy (cond (is_refusal reply) s (mounted_session s.tree))
     remount None h e = absurd (let k = ap (λ (z : Option Reply × SessionHealth). z.0) e in cc)
     remount (Some tree) h e =
         let done = same_Some ops.Done reply (ap (λ (z : Option Reply × SessionHealth). z.0) e) in
@@ -142,14 +142,14 @@ fresh_begins from fresh mounts =
     )
 
 -- with a mount
-pub mount_begins : (disk : Disk) (at : SystemState) → IsMounted disk at → HasDiskTree at
+pub mount_begins : (disk : Disk) (at : SystemState) → IsJustMounted disk at → HasDiskTree at
 mount_begins disk at m = record { session = mounted_session m.tree; healthy = m.healthy; shows = subst (λ d. ShowsTree d (Some m.tree)) (sym m.on) m.shows }
 
 -- a remount is a mount, also of a session that had failed
-pub remount_mounts : {E : EffectRelation} (from to : SystemState) → IsStepWith E from ops.Remount ops.Done to → IsMounted to.disk to
+pub remount_mounts : {E : EffectRelation} (from to : SystemState) → IsStepWith E from ops.Remount ops.Done to → IsJustMounted to.disk to
 remount_mounts from to turn = go turn.answered.shown turn.answered.answers
   where
-    go : (shown : Option Tree) → remount_result shown ≡ (Some ops.Done, to.state) → IsMounted to.disk to
+    go : (shown : Option Tree) → remount_result shown ≡ (Some ops.Done, to.state) → IsJustMounted to.disk to
     go None e = absurd (let k = ap (λ (z : Option Reply × SessionHealth). z.0) e in cc)
     go (Some tree) e =
         let healthy = sym (ap (λ (z : Option Reply × SessionHealth). z.1) e) in

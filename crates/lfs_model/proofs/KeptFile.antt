@@ -1,10 +1,10 @@
 -- Operations that find nothing to do on the disk with a file `b`, and what would be too much of them.
 use Rattle.std.proofs.Common.{ℕ, ◌≡◌, List, [], ◌∷◌, length, Option, Some, None, refl, sym, ap, ◌∙◌}
 use Rattle.std.specs.Prelude.{codes}
-use Rattle.lfs_model.proofs.Common.{Disk, content_at, anchor_address, Gstate, Slot, Struct, Inline, entry_named, Pair, PairContent, IsRecovered, IsLayout, IsStep}
+use Rattle.lfs_model.proofs.Common.{Disk, content_at, superblock_pair_address, Gstate, Slot, Struct, Inline, entry_named, Pair, PairContent, IsRecovered, IsLayoutAfterOperation, IsStep}
 use Rattle.lfs_model.specs.session.Operations as ops
 use Rattle.lfs_model.specs.examples.Sessions.{write_flags}
-use Rattle.lfs_model.specs.examples.Runs.{root_and_unreached}
+use Rattle.lfs_model.specs.examples.Runs.{root_and_unreached_pair}
 use Rattle.lfs_model.specs.examples.Written.{image_after_sync, image_after_rename, closed_session, state_after_sync, state_after_close, state_after_reopen}
 use Rattle.lfs_model.proofs.Arranged.{IsFinished, arranged_settled, recovered_stays}
 use Rattle.lfs_model.proofs.StepsMade.{completed_step, idle_step}
@@ -13,7 +13,7 @@ use Rattle.lfs_model.proofs.WrittenFile.{synced, synced_completed, closed_over, 
 
 -- ---- steps
 
-settled : IsLayout image_after_sync (synced ∷ []) closed_session ops.Recover image_after_sync (synced ∷ [])
+settled : IsLayoutAfterOperation image_after_sync (synced ∷ []) closed_session ops.Recover image_after_sync (synced ∷ [])
 settled = recovered_stays image_after_sync (synced ∷ []) closed_session synced_completed.accepted synced_completed.writable refl
 
 recover_finished : IsFinished image_after_sync (synced ∷ []) closed_session ops.Recover image_after_sync (synced ∷ [])
@@ -39,7 +39,7 @@ recover_step = completed_step image_after_sync (synced ∷ []) closed_session ar
     recover_finished
 
 -- the file is there, so no slot comes
-open_laid_out : IsLayout image_after_sync (synced ∷ []) closed_session (ops.Open (codes "/b") write_flags) image_after_sync (synced ∷ [])
+open_laid_out : IsLayoutAfterOperation image_after_sync (synced ∷ []) closed_session (ops.Open (codes "/b") write_flags) image_after_sync (synced ∷ [])
 open_laid_out = record {
   drafts = settled.drafts;
   parts = settled.parts;
@@ -100,7 +100,7 @@ size_of_pairs [] = 9
 size_of_pairs (p ∷ ps) = size_among p.content.slots
 
 pub other_disk : image_after_rename ≡ image_after_sync → ⊥
-other_disk e = absurd (let k : 9 ≡ 2 = sym (ap size_in renamed_holds) ∙ ap (λ (d : Disk). size_in (content_at d anchor_address)) e ∙ ap size_in synced_holds in cc)
+other_disk e = absurd (let k : 9 ≡ 2 = sym (ap size_in renamed_holds) ∙ ap (λ (d : Disk). size_in (content_at d superblock_pair_address)) e ∙ ap size_in synced_holds in cc)
 
-pub left_unreached : IsRecovered root_and_unreached → ⊥
+pub left_unreached : IsRecovered root_and_unreached_pair → ⊥
 left_unreached h = let e = ap (λ (g : Gstate). g.sync) h.gstate in absurd (cc)

@@ -1,7 +1,7 @@
 -- Files that an operation isn't about keep their structs.
 use Rattle.std.proofs.Common.{ℕ, ◌≡◌, Bool, true, false, ◌||◌, List, [], Option, Some, None, refl, sym, ap, ◌∙◌}
 use Rattle.std.specs.Prelude.{is_some}
-use Rattle.lfs_model.proofs.Common.{option_map, Disk, Slot, Struct, Inline, Ctz, Branch, Attributes, Pair, Path, Node, Tree, branch_address, struct_node, struct_list_bytes, all_entries, disk_tree, same_path, without_prefix, is_file, tree_creating, tree_removing, tree_renaming, tree_with_change, Operation, Session, Writing, FileWriter, file_numbered, path_or_root, node_with_bytes, slot_of, is_open_at, may_store_at, struct_at, KeepsStructs}
+use Rattle.lfs_model.proofs.Common.{option_map, Disk, Slot, Struct, Inline, Ctz, Branch, Attributes, Pair, Path, Node, Tree, struct_directory_address, struct_node, disk_list_bytes, all_entries, disk_tree, same_path, without_prefix, is_file, tree_creating, tree_removing, tree_renaming, tree_with_change, Operation, Session, Writing, FileWriter, file_numbered, path_or_root, node_with_bytes, slot_of_path, is_open_at, may_store_at, struct_at, KeepsOtherStructs}
 use Rattle.lfs_model.specs.session.Operations as ops
 use Rattle.lfs_model.specs.layers.Keeping.{vacates_path}
 use Rattle.lfs_model.proofs.Paths.{Paths, path_alike, path_unlike, paths}
@@ -15,22 +15,22 @@ abbrev pub LeavesFiles : Tree → Session → Operation → (Tree → Tree) → 
 LeavesFiles t s op change = (q : Path) → is_file (t q) ≡ true → vacates_path op q ≡ false → may_store_at s op q ≡ false → KeepsFileBytes change q
 
 -- where a tree shows a file there is a file's slot
-pub struct_stays : (disk : Disk) (ps qs : List Pair) (q : Path) → is_file (disk_tree disk ps q) ≡ true → KeepsStruct (slot_of ps q) (slot_of qs q) → struct_at qs q ≡ struct_at ps q
-struct_stays disk ps qs q file stays = go (slot_of ps q) refl file
+pub struct_stays : (disk : Disk) (ps qs : List Pair) (q : Path) → is_file (disk_tree disk ps q) ≡ true → KeepsStruct (slot_of_path ps q) (slot_of_path qs q) → struct_at qs q ≡ struct_at ps q
+struct_stays disk ps qs q file stays = go (slot_of_path ps q) refl file
   where
-    none : (attributes : Attributes) (t : Struct) → is_file (Some (struct_node (struct_list_bytes disk) (all_entries ps) attributes t)) ≡ true → branch_address t ≡ None
+    none : (attributes : Attributes) (t : Struct) → is_file (Some (struct_node (disk_list_bytes disk) (all_entries ps) attributes t)) ≡ true → struct_directory_address t ≡ None
     none attributes (Inline bytes) e = refl
     none attributes (Ctz head size) e = refl
     none attributes (Branch to) e = absurd (cc)
 
-    go : (o : Option Slot) → slot_of ps q ≡ o → is_file (option_map (λ (u : Slot). struct_node (struct_list_bytes disk) (all_entries ps) u.attributes u.struct) o) ≡ true → struct_at qs q ≡ struct_at ps q
+    go : (o : Option Slot) → slot_of_path ps q ≡ o → is_file (option_map (λ (u : Slot). struct_node (disk_list_bytes disk) (all_entries ps) u.attributes u.struct) o) ≡ true → struct_at qs q ≡ struct_at ps q
     go None e h = absurd (cc)
     go (Some u) e h =
         let k = stays u e (none u.attributes u.struct h) in
         ap (option_map (λ (z : Slot). z.struct)) k.1.0 ∙ ap Some k.1.1 ∙ sym (ap (option_map (λ (z : Slot). z.struct)) e)
 
 pub structs_left : (disk : Disk) (ps : List Pair) (new : Disk) (qs : List Pair) (change : Tree → Tree) (walk : PathAddresses → PathAddresses) (s : Session) (op : Operation) →
-    IsChangedImage disk ps new qs change walk → LeavesFiles (disk_tree disk ps) s op change → KeepsStructs disk ps s op qs
+    IsChangedImage disk ps new qs change walk → LeavesFiles (disk_tree disk ps) s op change → KeepsOtherStructs disk ps s op qs
 structs_left disk ps new qs change walk s op follows leaves q file off elsewhere = struct_stays disk ps qs q file (follows.stays q (leaves q file off elsewhere))
 
 -- ---- the operations

@@ -2,7 +2,7 @@
 use Rattle.std.proofs.Common.{ℕ, ◌≡◌, ◌==◌, true, List, [], ◌∷◌, ◌++◌, refl, ap, subst, flat_map}
 use Rattle.std.specs.Prelude.{nat_eq}
 use Rattle.std.specs.List.{IsDistinct}
-use Rattle.lfs_model.proofs.Common.{or_left, Disk, superblock_fields, Slot, Struct, Inline, Ctz, Branch, Pair, pairs_blocks, IsAccepted, IsFormedList, BeginsWithSuperblock, accepts_version, chain_pairs, all_unmoved_slots, struct_blocks, used_blocks}
+use Rattle.lfs_model.proofs.Common.{or_left, Disk, superblock_fields, Slot, Struct, Inline, Ctz, Branch, Pair, pairs_blocks, IsAccepted, IsWellFormedList, BeginsWithSuperblock, accepts_version, superblock_chain_pairs, all_unmoved_slots, struct_blocks, used_blocks}
 use Rattle.std.proofs.lemmas.List.Elements.{All-weaker}
 use Rattle.lfs_model.specs.declared.limits.AcceptedVersions.{AcceptedVersions}
 use Rattle.lfs_model.specs.declared.limits.AcceptedVersions.TheVariants.{OnlyTwoZero, AlsoTwoOne}
@@ -11,7 +11,7 @@ use Rattle.lfs_model.specs.examples.Images.{disk_with_versions}
 -- ---- the same disk, with other versions
 
 module _ (disk : Disk) (from to : AcceptedVersions) where
-  is_list : (s : Struct) → IsFormedList (disk_with_versions from disk) s → IsFormedList (disk_with_versions to disk) s
+  is_list : (s : Struct) → IsWellFormedList (disk_with_versions from disk) s → IsWellFormedList (disk_with_versions to disk) s
   is_list (Inline bytes) ok = ok
   is_list (Ctz head size) ok = ok
   is_list (Branch at) ok = ok
@@ -44,7 +44,7 @@ module _ (disk : Disk) (from to : AcceptedVersions) where
           bytes,
           (
             record { len = struct.len; version = more (superblock_fields bytes).version struct.version; block_size = struct.block_size; block_count = struct.block_count },
-            All-weaker (λ (p : Pair). BeginsWithSuperblock from bytes p.content.slots) (λ (p : Pair). BeginsWithSuperblock to bytes p.content.slots) (λ p. chain_as bytes more p.content.slots) (chain_pairs ps) chain,
+            All-weaker (λ (p : Pair). BeginsWithSuperblock from bytes p.content.slots) (λ (p : Pair). BeginsWithSuperblock to bytes p.content.slots) (λ p. chain_as bytes more p.content.slots) (superblock_chain_pairs ps) chain,
           ),
         );
         slots = ok.slots;
@@ -53,7 +53,7 @@ module _ (disk : Disk) (from to : AcceptedVersions) where
         once = ok.once;
         reached = ok.reached;
         move = ok.move;
-        lists = All-weaker (λ (s : Slot). IsFormedList (disk_with_versions from disk) s.struct) (λ (s : Slot). IsFormedList (disk_with_versions to disk) s.struct) (λ s. is_list s.struct) (all_unmoved_slots ps) ok.lists;
+        lists = All-weaker (λ (s : Slot). IsWellFormedList (disk_with_versions from disk) s.struct) (λ (s : Slot). IsWellFormedList (disk_with_versions to disk) s.struct) (λ s. is_list s.struct) (all_unmoved_slots ps) ok.lists;
         owned_once = subst (IsDistinct nat_eq) (used ps) ok.owned_once;
       }
 

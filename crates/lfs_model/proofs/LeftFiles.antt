@@ -1,6 +1,6 @@
 -- Changes of a tree that leave a file's bytes, and slots of files that stay.
 use Rattle.std.proofs.Common.{ℕ, suc, ◌≡◌, Bool, true, false, cond, List, [], ◌∷◌, ◌++◌, length, Option, Some, None, refl, sym, ap, ◌∙◌, option_map, append-nil, arith}
-use Rattle.lfs_model.proofs.Common.{append_cancel_right, Name, Slot, Struct, Inline, Ctz, Branch, Attributes, Path, EntryMap, Node, FileNode, Tree, branch_address, root_slot, slot_at_path, struct_node, root_subtree, same_path, without_prefix, tree_with_change, node_with_names, names_with, names_without, with_attributes, node_attributes_of, tree_creating, tree_removing, tree_renaming, tree_with_subtree, parent_path, last_name, node_with_bytes, KeepsStruct}
+use Rattle.lfs_model.proofs.Common.{append_cancel_right, Name, Slot, Struct, Inline, Ctz, Branch, Attributes, Path, DirectoryEntryMap, Node, FileNode, Tree, struct_directory_address, root_slot, slot_at_path, struct_node, root_subtree, same_path, without_prefix, tree_with_change, node_with_names, names_with, names_without, with_attributes, node_attributes_of, tree_creating, tree_removing, tree_renaming, tree_with_subtree, parent_path, last_name, node_with_bytes, KeepsStruct}
 use Rattle.lfs_model.proofs.Paths.{path_itself, rest_itself}
 use Rattle.lfs_model.proofs.Edits.{planted_off, planted_on, not_same}
 use Rattle.lfs_model.proofs.Trees.{set_off, change_off, change_on, renamed_is}
@@ -119,17 +119,17 @@ stays_same was now h u e file = (u, (h ∙ e, refl))
 pub stays_then : (was between now : Option Slot) → KeepsStruct was between → KeepsStruct between now → KeepsStruct was now
 stays_then was between now h k u e file =
     let x = h u e file in
-    let y = k x.0 x.1.0 (ap branch_address x.1.1 ∙ file) in
+    let y = k x.0 x.1.0 (ap struct_directory_address x.1.1 ∙ file) in
     (y.0, (y.1.0, y.1.1 ∙ x.1.1))
 
-pub file_node : (c : ℕ → ℕ → List ℕ) (E : EntryMap) (attributes : Attributes) (t : Struct) → branch_address t ≡ None → (bytes : List ℕ) × (struct_node c E attributes t ≡ FileNode attributes bytes)
+pub file_node : (c : ℕ → ℕ → List ℕ) (E : DirectoryEntryMap) (attributes : Attributes) (t : Struct) → struct_directory_address t ≡ None → (bytes : List ℕ) × (struct_node c E attributes t ≡ FileNode attributes bytes)
 file_node c E attributes (Inline bytes) e = (bytes, refl)
 file_node c E attributes (Ctz head size) e = (c head size, refl)
 file_node c E attributes (Branch to) e = absurd (cc)
 
 -- A file whose bytes are left has a slot.
-pub file_still : (c : ℕ → ℕ → List ℕ) (E F : EntryMap) (root : ℕ × ℕ) (change : Tree → Tree) (q : Path) (u : Slot) → root_subtree c F root q ≡ change (root_subtree c E root) q → KeepsFileBytes change q →
-    slot_at_path E (root_slot root) q ≡ Some u → branch_address u.struct ≡ None → slot_at_path F (root_slot root) q ≡ None → ⊥
+pub file_still : (c : ℕ → ℕ → List ℕ) (E F : DirectoryEntryMap) (root : ℕ × ℕ) (change : Tree → Tree) (q : Path) (u : Slot) → root_subtree c F root q ≡ change (root_subtree c E root) q → KeepsFileBytes change q →
+    slot_at_path E (root_slot root) q ≡ Some u → struct_directory_address u.struct ≡ None → slot_at_path F (root_slot root) q ≡ None → ⊥
 file_still c E F root change q u shows leaves e file none =
     let n = file_node c E u.attributes u.struct file in
     let k = leaves (root_subtree c E root) u.attributes n.0 (ap (option_map (λ (z : Slot). struct_node c E z.attributes z.struct)) e ∙ ap Some n.1) in

@@ -1,9 +1,9 @@
 -- The bytes of a list: which block each is in, and what a part of a block has.
 use Rattle.std.proofs.Common.{ℕ, zero, suc, ◌≡◌, ◌+◌, ◌*◌, ◌-◌, ◌<◌, ◌≤◌, ⊎_elim, List, [], ◌∷◌, ◌++◌, length, take, drop, slice_index, slice_range, sym, ap, subst, ◌∙◌, arith, add-one, length-drop, flat_map}
-use Rattle.lfs_model.proofs.Common.{cases_lt, take-append-le, drop-append-le, drop_at, drop-drop, take-take, drop-take, enumerate_from, Blocks, HasBlockSizes, block_bytes, AreListBlocks, blocks_to_head, block_count_for, bytes_before_block, list_bytes, block_capacity, block_data, pointer_count}
-use Rattle.lfs_model.specs.format.SkipLists.{IsBytePlace}
+use Rattle.lfs_model.proofs.Common.{cases_lt, take-append-le, drop-append-le, drop_at, drop-drop, take-take, drop-take, enumerate_from, Blocks, HasBlockSizes, block_bytes, AreListBlocks, blocks_to_head, skip_list_block_count, bytes_before_block, list_bytes, block_capacity, block_data, pointer_count}
+use Rattle.lfs_model.specs.format.SkipLists.{IsByteInListBlock}
 use Rattle.lfs_model.proofs.Files.{length_back}
-use Rattle.lfs_model.proofs.ListSizes.{AllSized, block_count_for-enough, pointer_count-le}
+use Rattle.lfs_model.proofs.ListSizes.{AllSized, skip_list_block_count-enough, pointer_count-le}
 
 -- ---- places
 
@@ -17,22 +17,22 @@ bytes_before_block-more block_size i (suc j) le =
     (cases_lt i (suc j))
 
 -- a later byte is in the same block or a later one
-pub place-mono : (block_size p q i j off end : ℕ) → IsBytePlace block_size p i off → IsBytePlace block_size q j end → p ≤ q → i ≤ j
+pub place-mono : (block_size p q i j off end : ℕ) → IsByteInListBlock block_size p i off → IsByteInListBlock block_size q j end → p ≤ q → i ≤ j
 place-mono block_size p q i j off end is there le = ⊎_elim
     (λ less. let more = bytes_before_block-more block_size (suc j) i (omega arith) in let low = is.from in let high = there.below in absurd (omega arith))
     (λ ge. ge)
     (cases_lt j i)
 
 -- each byte is in one of the blocks
-pub place-lt : (block_size size p i off : ℕ) → 1024 ≤ block_size → IsBytePlace block_size p i off → p < size → i < block_count_for block_size size
+pub place-lt : (block_size size p i off : ℕ) → 1024 ≤ block_size → IsByteInListBlock block_size p i off → p < size → i < skip_list_block_count block_size size
 place-lt block_size size p i off large is lt = ⊎_elim
     (λ less. less)
     (λ ge.
-    let more = bytes_before_block-more block_size (block_count_for block_size size) i ge in
-    let enough = block_count_for-enough block_size size large in
+    let more = bytes_before_block-more block_size (skip_list_block_count block_size size) i ge in
+    let enough = skip_list_block_count-enough block_size size large in
     let low = is.from in
     absurd (omega arith))
-    (cases_lt i (block_count_for block_size size))
+    (cases_lt i (skip_list_block_count block_size size))
 
 -- ---- parts of blocks
 
@@ -74,21 +74,21 @@ module _ (d : Blocks) (block_size : ℕ) (large : 1024 ≤ block_size) where
       (omega (arith, ap (bytes_before_block block_size) (add-one start)))
 
   -- so are the file's bytes from one of a block on
-  module _ (head size count : ℕ) (shape : HasBlockSizes block_size count d) (chain : AreListBlocks d (block_count_for block_size size) head) where
-    all_sized : AllSized d block_size (blocks_to_head d (block_count_for block_size size) head)
+  module _ (head size count : ℕ) (shape : HasBlockSizes block_size count d) (chain : AreListBlocks d (skip_list_block_count block_size size) head) where
+    all_sized : AllSized d block_size (blocks_to_head d (skip_list_block_count block_size size) head)
     all_sized k x l =
         let lt = chain.in_range k x l in
         shape.sizes _ (omega (arith, lt, shape.count))
 
-    pub part_of_bytes : (j from n : ℕ) → j < block_count_for block_size size → bytes_before_block block_size j ≤ from → from + n ≤ bytes_before_block block_size j + block_capacity block_size j → from + n ≤ size
+    pub part_of_bytes : (j from n : ℕ) → j < skip_list_block_count block_size size → bytes_before_block block_size j ≤ from → from + n ≤ bytes_before_block block_size j + block_capacity block_size j → from + n ≤ size
         → slice_range (list_bytes d block_size head size) from (from + n)
-        ≡ take n (drop (4 * pointer_count j + (from - bytes_before_block block_size j)) (block_bytes d (slice_index (blocks_to_head d (block_count_for block_size size) head) j)))
+        ≡ take n (drop (4 * pointer_count j + (from - bytes_before_block block_size j)) (block_bytes d (slice_index (blocks_to_head d (skip_list_block_count block_size size) head) j)))
     part_of_bytes j from n lt low high within =
-        let len = length_back d (block_count_for block_size size) head in
+        let len = length_back d (skip_list_block_count block_size size) head in
         let short : from + n - from ≡ n = omega arith in
         let split : size ≡ from + (size - from) = omega arith in
         ap (λ k. take k (drop from (list_bytes d block_size head size))) short
-        ∙ ap (λ k. take n (drop from (take k (joined 0 (blocks_to_head d (block_count_for block_size size) head))))) split
-        ∙ ap (take n) (drop-take from (size - from) (joined 0 (blocks_to_head d (block_count_for block_size size) head)))
-        ∙ take-take n (size - from) (drop from (joined 0 (blocks_to_head d (block_count_for block_size size) head))) (omega arith)
-        ∙ part j 0 j (blocks_to_head d (block_count_for block_size size) head) from (from - bytes_before_block block_size j) n (omega arith) all_sized (omega arith) (omega arith) (omega arith)
+        ∙ ap (λ k. take n (drop from (take k (joined 0 (blocks_to_head d (skip_list_block_count block_size size) head))))) split
+        ∙ ap (take n) (drop-take from (size - from) (joined 0 (blocks_to_head d (skip_list_block_count block_size size) head)))
+        ∙ take-take n (size - from) (drop from (joined 0 (blocks_to_head d (skip_list_block_count block_size size) head))) (omega arith)
+        ∙ part j 0 j (blocks_to_head d (skip_list_block_count block_size size) head) from (from - bytes_before_block block_size j) n (omega arith) all_sized (omega arith) (omega arith) (omega arith)

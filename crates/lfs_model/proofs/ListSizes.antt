@@ -1,19 +1,19 @@
 -- How many blocks a list has, and how many bytes.
 use Rattle.std.proofs.Common.{ℕ, zero, suc, ◌≡◌, ◌+◌, ◌*◌, ◌-◌, ◌<◌, ◌≤◌, Bool, if◌then◌else◌, get_or, List, [], ◌∷◌, length, refl, ap, ◌∙◌, arith, add-one, flat_map, length-append, length-drop}
 use Rattle.std.specs.Prelude.{All, slice_index}
-use Rattle.lfs_model.proofs.Common.{enumerate_from, ne_eqb, length-take-le, Blocks, HasBlockSizes, block_bytes, word_at, pointer_count, block_capacity, bytes_before_block, block_count_for, blocks_to_head, IsSkipList, block_data, list_bytes}
+use Rattle.lfs_model.proofs.Common.{enumerate_from, ne_eqb, length-take-le, Blocks, HasBlockSizes, block_bytes, word_at, pointer_count, block_capacity, bytes_before_block, skip_list_block_count, blocks_to_head, IsSkipList, block_data, list_bytes}
 use Rattle.std.proofs.lemmas.List.{get_or_at}
 use lib.Count.{trailing_le}
-use Rattle.lfs_model.specs.format.SkipLists.{block_count_from}
+use Rattle.lfs_model.specs.format.SkipLists.{list_block_count_from}
 use Rattle.lfs_model.proofs.Files.{length_back}
 
 -- ---- blocks
 
-one_more : (m block_size i a : ℕ) → block_count_from (suc m) block_size i (suc a) ≡ 1 + block_count_from m block_size (i + 1) (suc a - block_capacity block_size i)
-one_more m block_size i a = ap (λ (t : Bool). if t then 0 else 1 + block_count_from m block_size (i + 1) (suc a - block_capacity block_size i)) (ne_eqb (suc a) 0 (λ e. absurd (omega (arith, e))))
+one_more : (m block_size i a : ℕ) → list_block_count_from (suc m) block_size i (suc a) ≡ 1 + list_block_count_from m block_size (i + 1) (suc a - block_capacity block_size i)
+one_more m block_size i a = ap (λ (t : Bool). if t then 0 else 1 + list_block_count_from m block_size (i + 1) (suc a - block_capacity block_size i)) (ne_eqb (suc a) 0 (λ e. absurd (omega (arith, e))))
 
 -- more bytes take no fewer blocks
-fewer : (m n block_size i a b : ℕ) → m ≤ n → a ≤ b → block_count_from m block_size i a ≤ block_count_from n block_size i b
+fewer : (m n block_size i a b : ℕ) → m ≤ n → a ≤ b → list_block_count_from m block_size i a ≤ list_block_count_from n block_size i b
 fewer zero n block_size i a b le few = omega arith
 fewer (suc m) zero block_size i a b le few = absurd (omega arith)
 fewer (suc m) (suc n) block_size i zero b le few = omega arith
@@ -22,8 +22,8 @@ fewer (suc m) (suc n) block_size i (suc a) (suc b) le few =
     let behind = fewer m n block_size (i + 1) (suc a - block_capacity block_size i) (suc b - block_capacity block_size i) (omega arith) (omega arith) in
     omega (arith, behind, one_more m block_size i a, one_more n block_size i b)
 
-pub block_count_for-more : (block_size a b : ℕ) → a ≤ b → block_count_for block_size a ≤ block_count_for block_size b
-block_count_for-more block_size a b le = fewer a b block_size 0 a b le le
+pub skip_list_block_count-more : (block_size a b : ℕ) → a ≤ b → skip_list_block_count block_size a ≤ skip_list_block_count block_size b
+skip_list_block_count-more block_size a b le = fewer a b block_size 0 a b le le
 
 -- the head is the last of them
 pub head_of_back : (d : Blocks) (n head : ℕ) → slice_index (blocks_to_head d (n + 1) head) n ≡ head
@@ -42,26 +42,26 @@ pub block_capacity-pos : (block_size i : ℕ) → 1024 ≤ block_size → 892 �
 block_capacity-pos block_size i large = let few = pointer_count-le i in omega arith
 
 -- the blocks of a list, from block i on, hold all its bytes
-enough_from : (block_size steps i size : ℕ) → 1024 ≤ block_size → size ≤ steps → bytes_before_block block_size i + size ≤ bytes_before_block block_size (i + block_count_from steps block_size i size)
+enough_from : (block_size steps i size : ℕ) → 1024 ≤ block_size → size ≤ steps → bytes_before_block block_size i + size ≤ bytes_before_block block_size (i + list_block_count_from steps block_size i size)
 enough_from block_size steps i zero large le = go steps
   where
     none : bytes_before_block block_size i + 0 ≤ bytes_before_block block_size (i + 0)
     none = let e : i + 0 ≡ i = omega arith in omega (arith, ap (bytes_before_block block_size) e)
 
-    go : (steps : ℕ) → bytes_before_block block_size i + 0 ≤ bytes_before_block block_size (i + block_count_from steps block_size i 0)
+    go : (steps : ℕ) → bytes_before_block block_size i + 0 ≤ bytes_before_block block_size (i + list_block_count_from steps block_size i 0)
     go zero = none
     go (suc n) = none
 enough_from block_size zero i (suc size) large le = absurd (omega arith)
 enough_from block_size (suc steps) i (suc size) large le =
     let one = block_capacity-pos block_size i large in
-    let count : ℕ = block_count_from steps block_size (i + 1) (suc size - block_capacity block_size i) in
+    let count : ℕ = list_block_count_from steps block_size (i + 1) (suc size - block_capacity block_size i) in
     let behind : bytes_before_block block_size (i + 1) + (suc size - block_capacity block_size i) ≤ bytes_before_block block_size (i + 1 + count) = enough_from block_size steps (i + 1) (suc size - block_capacity block_size i) large (omega arith) in
-    let e : i + block_count_from (suc steps) block_size i (suc size) ≡ i + 1 + count = omega (arith, one_more steps block_size i size) in
+    let e : i + list_block_count_from (suc steps) block_size i (suc size) ≡ i + 1 + count = omega (arith, one_more steps block_size i size) in
     omega (arith, behind, ap (bytes_before_block block_size) e, ap (bytes_before_block block_size) (add-one i))
 
-pub block_count_for-enough : (block_size size : ℕ) → 1024 ≤ block_size → size ≤ bytes_before_block block_size (block_count_for block_size size)
-block_count_for-enough block_size size large =
-    omega (arith, enough_from block_size size 0 size large (omega arith), ap (bytes_before_block block_size) (let e : 0 + block_count_for block_size size ≡ block_count_for block_size size = omega arith in e))
+pub skip_list_block_count-enough : (block_size size : ℕ) → 1024 ≤ block_size → size ≤ bytes_before_block block_size (skip_list_block_count block_size size)
+skip_list_block_count-enough block_size size large =
+    omega (arith, enough_from block_size size 0 size large (omega arith), ap (bytes_before_block block_size) (let e : 0 + skip_list_block_count block_size size ≡ skip_list_block_count block_size size = omega arith in e))
 
 -- each of the blocks has the block size
 abbrev pub AllSized : Blocks → ℕ → List ℕ → Type 0
@@ -89,5 +89,5 @@ length-back_data d block_size block_count count head large shape in_range =
 -- a list has as many bytes as its size says
 pub length-list_bytes : (d : Blocks) (block_size block_count head size : ℕ) → 1024 ≤ block_size → HasBlockSizes block_size block_count d → IsSkipList d block_size head size → length (list_bytes d block_size head size) ≡ size
 length-list_bytes d block_size block_count head size large shape list =
-    length-take-le size (flat_map (block_data d) (enumerate_from 0 (blocks_to_head d (block_count_for block_size size) head)))
-    (omega (arith, length-back_data d block_size block_count (block_count_for block_size size) head large shape list.blocks.in_range, block_count_for-enough block_size size large))
+    length-take-le size (flat_map (block_data d) (enumerate_from 0 (blocks_to_head d (skip_list_block_count block_size size) head)))
+    (omega (arith, length-back_data d block_size block_count (skip_list_block_count block_size size) head large shape list.blocks.in_range, skip_list_block_count-enough block_size size large))

@@ -7,7 +7,7 @@ use Rattle.lfs_model.proofs.Performing.{IsAny, calls_since}
 use Rattle.lfs_model.proofs.SessionSteps.{IsHealthy, session_step_is_healthy, true_from, question_answered, reader_answered}
 use Rattle.lfs_model.proofs.Kept.{ArePairs, StaysCarried, defined_next, turn_keeps, profile_stays}
 use Rattle.lfs_model.specs.crash.Lives.{Turn, EndsWith, IsLife, all_answered}
-use Rattle.lfs_model.specs.crash.LifeHeadline.{session_after_turn, session_after_turns, AnswersAsDisk, AreAnswers, IsAnswer, LifeMatchesDisk, WorksAllAlong}
+use Rattle.lfs_model.specs.crash.LifeHeadline.{session_after_turn, session_after_turns, AnswersAsDisk, AreAnswers, IsExpectedReply, LifeMatchesDisk, WorksAllAlong}
 
 -- ---- one turn
 
@@ -19,7 +19,7 @@ pub turn_since : (reply : Option Reply) (op : Operation) (from to : SystemState)
 turn_since None op from to fails = calls_since from.calls to.calls fails.calls fails.called
 turn_since (Some reply) op from to step = calls_since from.calls to.calls step.calls step.called
 
-turn_answer : (reply : Option Reply) (op : Operation) (from to : SystemState) → EndsWith reply from op to → IsAnswer reply from op to
+turn_answer : (reply : Option Reply) (op : Operation) (from to : SystemState) → EndsWith reply from op to → IsExpectedReply reply from op to
 turn_answer None op from to fails = fails.failed
 turn_answer (Some reply) op from to step = step.answered
 

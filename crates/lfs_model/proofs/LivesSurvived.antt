@@ -2,14 +2,14 @@
 -- losses.
 use Rattle.std.proofs.Common.{◌≡◌, ◌⊎◌, inl, inr, Bool, true, false, cond, List, [], ◌∷◌, ◌++◌, Option, Some, None, refl, sym, ap, subst, ◌∙◌}
 use Rattle.std.specs.Prelude.{Any}
-use Rattle.lfs_model.proofs.Common.{recursion_from_All, same_Some, append_cancel_right, Blocks, Disk, SameGeometry, ordered_disk, Tree, disk_tree, Operation, Reply, SessionHealth, HasFailed, is_remount, operation_result, nonremount_result, remount_result, SystemState, HealthyHasDiskTree, IsTreeStep, is_refusal, LeftByLoss, ErasesCleanly, FailsLikeLoss, HasEitherTree, with_blocks, IsMounted, KeepsTree, CallEvent, AllCallsSince, IsRead}
+use Rattle.lfs_model.proofs.Common.{recursion_from_All, same_Some, append_cancel_right, Blocks, Disk, SameGeometry, disk_with_order, Tree, disk_tree, Operation, Reply, SessionHealth, HasFailed, is_remount, operation_result, nonremount_result, remount_result, SystemState, HealthyHasDiskTree, IsTreeStep, is_refusal, LeftByLoss, ErasesCleanly, FailsLikeLoss, HasEitherTree, with_blocks, IsJustMounted, KeepsTree, CallEvent, AllCallsSince, IsRead}
 use Rattle.lfs_model.specs.session.Operations as ops
 use Rattle.lfs_model.specs.session.Operations.{Failed}
 use Rattle.lfs_model.specs.session.History.{OnlyReadsSince}
 use Rattle.lfs_model.specs.declared.order.NameOrder.{NameOrder}
 use Rattle.lfs_model.specs.crash.Failure.{OperationFails}
-use Rattle.lfs_model.specs.crash.Lives.{Turn, EndsWith, IsTurn, IsLife, FailLikeLossInside}
-use Rattle.lfs_model.specs.crash.RepeatedPowerLoss.{LeftInCall, LeftBetween, LossInLife, SurvivesLossInLife, LeftByLosses, SurvivesLosses, MeetsRunPremises, CrashSafe}
+use Rattle.lfs_model.specs.crash.Lives.{Turn, EndsWith, IsTurn, IsLife, FailLikeLossBeforeLast}
+use Rattle.lfs_model.specs.crash.RepeatedPowerLoss.{LeftInCall, LeftBetween, LossInLife, SurvivesLossInLife, LeftByLosses, SurvivesLosses, MeetsCrashSafetyPremises, CrashSafe}
 use Rattle.lfs_model.proofs.Histories.{AllCallsSince-until, AllCallsSince-behind, AllCallsSince-weaker, LeftByLoss-read}
 use Rattle.lfs_model.proofs.Performing.{IsAny}
 use Rattle.lfs_model.proofs.Sites.{among_from}
@@ -23,9 +23,9 @@ use Rattle.lfs_model.proofs.CutTurns.{NoRemount, in_first, in_none, later, furth
 record IsInLater (Still : Type 0) (next to : SystemState) (left : Disk) : Type 0 where
   order : NameOrder
   kept : Still → order ≡ left.order
-  stop : LeftBetween next to (ordered_disk order left)
+  stop : LeftBetween next to (disk_with_order order left)
 
-split : (Still : Type 0) (from next to : SystemState) (left : Disk) → AllCallsSince IsAny from.calls next.calls → AllCallsSince IsAny next.calls to.calls → SameGeometry (ordered_disk next.disk.order from.disk) next.disk →
+split : (Still : Type 0) (from next to : SystemState) (left : Disk) → AllCallsSince IsAny from.calls next.calls → AllCallsSince IsAny next.calls to.calls → SameGeometry (disk_with_order next.disk.order from.disk) next.disk →
     (Still → next.disk.order ≡ from.disk.order) → LeftBetween from to left → LeftBetween from next left ⊎ IsInLater Still next to left
 split Still from next to left first second geometry same stop = go stop
   where
@@ -34,7 +34,7 @@ split Still from next to left first second geometry same stop = go stop
     in_part blocks e (inr k) = inr (record {
       order = next.disk.order;
       kept = λ still. same still ∙ sym (ap (λ (disk : Disk). disk.order) e);
-      stop = inr (inl (blocks, (ap (ordered_disk next.disk.order) e ∙ same_blocks (ordered_disk next.disk.order from.disk) next.disk blocks geometry, k)));
+      stop = inr (inl (blocks, (ap (disk_with_order next.disk.order) e ∙ same_blocks (disk_with_order next.disk.order from.disk) next.disk blocks geometry, k)));
     })
 
     go : LeftBetween from to left → LeftBetween from next left ⊎ IsInLater Still next to left
@@ -46,7 +46,7 @@ split Still from next to left first second geometry same stop = go stop
 
 -- of a session that works
 abbrev Works : List Turn → Type 0
-Works turns = (from to : SystemState) (left : Disk) → IsLife from turns to → FailLikeLossInside from turns → MeetsRunPremises from to → LeftBetween from to left → IsSurvivedWith (LossInLife from turns to) (NoRemount turns) left
+Works turns = (from to : SystemState) (left : Disk) → IsLife from turns to → FailLikeLossBeforeLast from turns → MeetsCrashSafetyPremises from to → LeftBetween from to left → IsSurvivedWith (LossInLife from turns to) (NoRemount turns) left
 
 -- the disk is as it was when the session had failed, or power was lost later
 abbrev IsAsFailed : SystemState → List Turn → SystemState → Tree → Disk → Tree → Type 0
@@ -54,7 +54,7 @@ IsAsFailed from turns to tree disk t = ((disk ≡ from.disk) × (t ≡ tree)) �
 
 -- of a session that has failed, over a disk that keeps that tree
 abbrev HasStopped : List Turn → Type 0
-HasStopped turns = (from to : SystemState) (left : Disk) (tree : Tree) → from.state ≡ HasFailed → KeepsTree tree from.disk → IsLife from turns to → FailLikeLossInside from turns → AllCallsSince ErasesCleanly from.calls to.calls
+HasStopped turns = (from to : SystemState) (left : Disk) (tree : Tree) → from.state ≡ HasFailed → KeepsTree tree from.disk → IsLife from turns to → FailLikeLossBeforeLast from turns → AllCallsSince ErasesCleanly from.calls to.calls
     → LeftBetween from to left → IsSurvivedWith (IsAsFailed from turns to tree) (NoRemount turns) left
 
 -- ---- no turn
@@ -83,8 +83,8 @@ stopped_none from to left tree failed safe same few cleanly stop =
 -- ---- a turn of a session that works
 
 -- an error ended it, and others follow
-failed_turn : (turn : Turn) (turns : List Turn) → HasStopped turns → (from to : SystemState) (left : Disk) → IsTurn from turn → OperationFails from turn.op turn.to → IsLife turn.to turns to → FailLikeLossInside turn.to turns
-    → AllCallsSince FailsLikeLoss from.calls turn.to.calls → MeetsRunPremises from to → LeftBetween from to left → IsSurvivedWith (LossInLife from (turn ∷ turns) to) (NoRemount (turn ∷ turns)) left
+failed_turn : (turn : Turn) (turns : List Turn) → HasStopped turns → (from to : SystemState) (left : Disk) → IsTurn from turn → OperationFails from turn.op turn.to → IsLife turn.to turns to → FailLikeLossBeforeLast turn.to turns
+    → AllCallsSince FailsLikeLoss from.calls turn.to.calls → MeetsCrashSafetyPremises from to → LeftBetween from to left → IsSurvivedWith (LossInLife from (turn ∷ turns) to) (NoRemount (turn ∷ turns)) left
 failed_turn turn turns stopped from to left one fails rest few like may stop = by_part (split (is_remount turn.op ≡ false) from turn.to to left first second (shape_in_order false from.disk turn.to.disk fails.geometry) (λ other. fails.geometry.order) stop)
   where
     first : AllCallsSince IsAny from.calls turn.to.calls
@@ -126,9 +126,9 @@ failed_turn turn turns stopped from to left one fails rest few like may stop = b
     by_part : LeftBetween from turn.to left ⊎ IsInLater (is_remount turn.op ≡ false) turn.to to left → IsSurvivedWith (LossInLife from (turn ∷ turns) to) (NoRemount (turn ∷ turns)) left
     by_part (inl h) = in_first from to turn turns left one rest may.agrees may.profile cleanly h
     by_part (inr p) =
-        let r = stopped turn.to to (ordered_disk p.order left) (disk_tree turn.to.disk k.pairs) fails.failed (safe_with turn.to.disk k.pairs k.accepted k.writable) rest few
+        let r = stopped turn.to to (disk_with_order p.order left) (disk_tree turn.to.disk k.pairs) fails.failed (safe_with turn.to.disk k.pairs k.accepted k.writable) rest few
         (AllCallsSince-behind may.cleanly first second) p.stop in
-        record { order = r.order; stays = λ none. r.stays none.1 ∙ p.kept none.0; tree = r.tree; cut = cut_later (ordered_disk r.order left) r.tree r.cut; safe = r.safe }
+        record { order = r.order; stays = λ none. r.stays none.1 ∙ p.kept none.0; tree = r.tree; cut = cut_later (disk_with_order r.order left) r.tree r.cut; safe = r.safe }
 
 works_turn : (turn : Turn) (turns : List Turn) → Works turns → HasStopped turns → Works (turn ∷ turns)
 works_turn turn turns works stopped from to left (one, rest) (like, few) may stop = go turn.reply refl one.ends
@@ -179,23 +179,23 @@ left_by_same from next to left q (inr (inl (blocks, (e, since)))) = inr (inl (bl
 left_by_same from next to left q (inr (inr (e, fails))) = inr (inr (e, subst (λ (calls : List CallEvent). AllCallsSince FailsLikeLoss calls to.calls) (sym q.calls) fails))
 
 -- a remount that ends well is a mount
-remounted : (from next : SystemState) (op : Operation) (reply : Reply) → is_remount op ≡ true → IsTreeStep from op reply next → IsMounted next.disk next
+remounted : (from next : SystemState) (op : Operation) (reply : Reply) → is_remount op ≡ true → IsTreeStep from op reply next → IsJustMounted next.disk next
 remounted from next op reply is step = go step.answered.shown (sym (ap (λ b. cond b (remount_result step.answered.shown) (nonremount_result step.answered.around from.state op)) is) ∙ step.answered.answers)
   where
-    go : (shown : Option Tree) → remount_result shown ≡ (Some reply, next.state) → IsMounted next.disk next
+    go : (shown : Option Tree) → remount_result shown ≡ (Some reply, next.state) → IsJustMounted next.disk next
     go None e = absurd (let k = ap (λ (z : Option Reply × SessionHealth). z.0) e in cc)
     go (Some tree) e =
         let healthy = sym (ap (λ (z : Option Reply × SessionHealth). z.1) e) in
         record { on = refl; tree = tree; shows = subst (HealthyHasDiskTree next.disk) healthy step.agrees; healthy = healthy }
 
 -- what is left during it is what was there, with its names in the old order
-left_by_reads : (from next : SystemState) (left : Disk) → OnlyReadsSince from.disk.blocks from.calls next.calls → ordered_disk from.disk.order next.disk ≡ from.disk → LeftBetween from next left → ordered_disk from.disk.order left ≡ from.disk
-left_by_reads from next left reads same (inl e) = ap (ordered_disk from.disk.order) e
+left_by_reads : (from next : SystemState) (left : Disk) → OnlyReadsSince from.disk.blocks from.calls next.calls → disk_with_order from.disk.order next.disk ≡ from.disk → LeftBetween from next left → disk_with_order from.disk.order left ≡ from.disk
+left_by_reads from next left reads same (inl e) = ap (disk_with_order from.disk.order) e
 left_by_reads from next left reads same (inr (inl (blocks, (e, since)))) =
-    ap (ordered_disk from.disk.order) e
+    ap (disk_with_order from.disk.order) e
     ∙ ap (λ (bs : Blocks). with_blocks bs from.disk) (stopped_has (λ bs. bs ≡ from.disk.blocks) from.calls next.calls blocks
     (AllCallsSince-weaker (λ e (r : IsRead from.disk.blocks e) disk l. LeftByLoss-read e disk r.reads l ∙ r.before) reads) since)
-left_by_reads from next left reads same (inr (inr (e, fails))) = ap (ordered_disk from.disk.order) e ∙ same
+left_by_reads from next left reads same (inr (inr (e, fails))) = ap (disk_with_order from.disk.order) e ∙ same
 
 stopped_turn : (turn : Turn) (turns : List Turn) → Works turns → HasStopped turns → HasStopped (turn ∷ turns)
 stopped_turn turn turns works stopped from to left tree failed safe (one, rest) (like, few) cleanly stop = by_op (is_remount turn.op) refl
@@ -219,26 +219,26 @@ stopped_turn turn turns works stopped from to left tree failed safe (one, rest) 
     -- the session is still failed
     goes_on : turn.to.disk ≡ from.disk → turn.to.state ≡ HasFailed → (p : IsInLater (is_remount turn.op ≡ false) turn.to to left) → Here
     goes_on d state p =
-        let r = stopped turn.to to (ordered_disk p.order left) tree state (subst (KeepsTree tree) (sym d) safe) rest few cleanly_later p.stop in
-        record { order = r.order; stays = λ none. r.stays none.1 ∙ p.kept none.0; tree = r.tree; cut = cut_later (ordered_disk r.order left) r.tree d r.cut; safe = r.safe }
+        let r = stopped turn.to to (disk_with_order p.order left) tree state (subst (KeepsTree tree) (sym d) safe) rest few cleanly_later p.stop in
+        record { order = r.order; stays = λ none. r.stays none.1 ∙ p.kept none.0; tree = r.tree; cut = cut_later (disk_with_order r.order left) r.tree d r.cut; safe = r.safe }
 
     -- the session works again
-    begins_again : turn.to.disk ≡ ordered_disk turn.to.disk.order from.disk → IsMounted turn.to.disk turn.to → (p : IsInLater (is_remount turn.op ≡ false) turn.to to left) → Here
+    begins_again : turn.to.disk ≡ disk_with_order turn.to.disk.order from.disk → IsJustMounted turn.to.disk turn.to → (p : IsInLater (is_remount turn.op ≡ false) turn.to to left) → Here
     begins_again d mounts p =
         let may = start_may tree from.disk.order from.disk turn.to safe d mounts in
-        let r = works turn.to to (ordered_disk p.order left) rest few (record { agrees = may.0; profile = may.1; cleanly = cleanly_later }) p.stop in
-        record { order = r.order; stays = λ none. r.stays none.1 ∙ p.kept none.0; tree = r.tree; cut = inr (later from to turn turns (ordered_disk r.order left) r.tree one r.cut); safe = r.safe }
+        let r = works turn.to to (disk_with_order p.order left) rest few (record { agrees = may.0; profile = may.1; cleanly = cleanly_later }) p.stop in
+        record { order = r.order; stays = λ none. r.stays none.1 ∙ p.kept none.0; tree = r.tree; cut = inr (later from to turn turns (disk_with_order r.order left) r.tree one r.cut); safe = r.safe }
 
-    in_remount : is_remount turn.op ≡ true → ordered_disk from.disk.order left ≡ from.disk → Here
+    in_remount : is_remount turn.op ≡ true → disk_with_order from.disk.order left ≡ from.disk → Here
     in_remount is e = record { order = from.disk.order; stays = λ none. absurd (let k = sym is ∙ none.0 in cc); tree = tree; cut = inl (e, refl); safe = subst (KeepsTree tree) (sym e) safe }
 
     by_part : is_remount turn.op ≡ true → (reply : Option Reply) → EndsWith reply from turn.op turn.to → LeftBetween from turn.to left ⊎ IsInLater (is_remount turn.op ≡ false) turn.to to left → Here
-    by_part is None ends (inl h) = in_remount is (left_by_reads from turn.to left (record { events = ends.calls; extends = ends.called; each = ends.reads is }) (ap (ordered_disk from.disk.order) (ends.remounted is).0) h)
+    by_part is None ends (inl h) = in_remount is (left_by_reads from turn.to left (record { events = ends.calls; extends = ends.called; each = ends.reads is }) (ap (disk_with_order from.disk.order) (ends.remounted is).0) h)
     by_part is None ends (inr p) = goes_on (ends.remounted is).0 ends.failed p
-    by_part is (Some reply) ends (inl h) = in_remount is (left_by_reads from turn.to left (record { events = ends.calls; extends = ends.called; each = (ends.remounted is).reads }) (ap (ordered_disk from.disk.order) (ends.remounted is).untouched.0) h)
+    by_part is (Some reply) ends (inl h) = in_remount is (left_by_reads from turn.to left (record { events = ends.calls; extends = ends.called; each = (ends.remounted is).reads }) (ap (disk_with_order from.disk.order) (ends.remounted is).untouched.0) h)
     by_part is (Some reply) ends (inr p) = begins_again (ends.remounted is).untouched.0 (remounted from turn.to turn.op reply is ends) p
 
-    shape : (reply : Option Reply) → EndsWith reply from turn.op turn.to → SameGeometry (ordered_disk turn.to.disk.order from.disk) turn.to.disk
+    shape : (reply : Option Reply) → EndsWith reply from turn.op turn.to → SameGeometry (disk_with_order turn.to.disk.order from.disk) turn.to.disk
     shape None ends = shape_in_order false from.disk turn.to.disk ends.geometry
     shape (Some reply) ends = shape_in_order (is_remount turn.op) from.disk turn.to.disk ends.geometry
 
@@ -258,14 +258,14 @@ both : (turns : List Turn) → Both turns
 both [] = record { works = works_none; stopped = stopped_none }
 both (turn ∷ turns) = let rest = both turns in record { works = works_turn turn turns rest.works rest.stopped; stopped = stopped_turn turn turns rest.works rest.stopped }
 
-pub life_survives : (from : SystemState) (turns : List Turn) (to : SystemState) (left : Disk) → IsLife from turns to → FailLikeLossInside from turns → MeetsRunPremises from to → LeftBetween from to left → SurvivesLossInLife from turns to left
+pub life_survives : (from : SystemState) (turns : List Turn) (to : SystemState) (left : Disk) → IsLife from turns to → FailLikeLossBeforeLast from turns → MeetsCrashSafetyPremises from to → LeftBetween from to left → SurvivesLossInLife from turns to left
 life_survives from turns to left lived few may stop =
     let s = (both turns).works from to left lived few may stop in
     record { order = s.order; stays = λ none. s.stays (recursion_from_All (λ turn. is_remount turn.op ≡ false) turns none); tree = s.tree; cut = s.cut; safe = s.safe }
 
 -- ---- any number of losses
 
-pub again_survived : (order : NameOrder) (disk : Disk) (tree : Tree) (lefts : List Disk) → KeepsTree tree (ordered_disk order disk) → (losses : LeftByLosses disk lefts) → SurvivesLosses disk lefts losses
+pub again_survived : (order : NameOrder) (disk : Disk) (tree : Tree) (lefts : List Disk) → KeepsTree tree (disk_with_order order disk) → (losses : LeftByLosses disk lefts) → SurvivesLosses disk lefts losses
 again_survived order disk tree [] safe losses = tt
 again_survived order disk tree (left ∷ others) safe (o, more) = (one, again_survived one.order left one.tree others one.safe more)
   where
@@ -274,7 +274,7 @@ again_survived order disk tree (left ∷ others) safe (o, more) = (one, again_su
         let may = start_may tree order disk o.begin safe o.same o.mounts in
         life_survives o.begin o.turns o.to left o.lived o.failed (record { agrees = may.0; profile = may.1; cleanly = o.cleanly }) o.stop
 
-pub life_is_safe : (from : SystemState) (turns : List Turn) (to : SystemState) → IsLife from turns to → FailLikeLossInside from turns → MeetsRunPremises from to → CrashSafe from turns to
+pub life_is_safe : (from : SystemState) (turns : List Turn) (to : SystemState) → IsLife from turns to → FailLikeLossBeforeLast from turns → MeetsCrashSafetyPremises from to → CrashSafe from turns to
 life_is_safe from turns to lived few may = record {
   lived = lived;
   once = λ left stop. life_survives from turns to left lived few may stop;

@@ -1,12 +1,12 @@
 -- What a log comes to can be written again.
 use Rattle.std.proofs.Common.{ℕ, zero, suc, ◌≡◌, ◌≢◌, ◌+◌, ◌-◌, ◌^◌, ◌<◌, ◌≤◌, ◌==◌, ◌&&◌, Bool, true, false, cond, not, List, [], ◌∷◌, ◌++◌, length, take, drop, flat_map, inl, inr, Option, Some, None, refl, sym, ap, subst, ◌∙◌, arith, replicate, eqb-true, get_or-drop}
-use Rattle.lfs_model.proofs.Common.{length-take, get_or_past, insert, remove, option_and_then, option_map, same_Some, cases_lt, ne_eqb, ltb-false, ltb-true, make_tag, tag_type, tag_id, tag_length, tag_class, tag_chunk, tag_data_size, LogEntry, entry_end, IsCommit, AreAdjacent, block_entries, Attributes, RawSlot, RawContent, content_after_entry, content_after, slots_after, slot_changed_at, padded_slots, empty_slot, slot_of_id, attributes_with, attributes_without, empty_raw_content, is_known_tag, has_needed_id, is_attribute_removal, create_tag_type, delete_tag_type, decoded_address, decoded_gstate, hard_tail_type, IsAllowedPart, AttributesInOrder, IsFormedSlot, AreWellFormed, IsWellFormed, HasTagLength, HaveTagLengths, AreWords, IsAllowedTail, MoveStateFits}
+use Rattle.lfs_model.proofs.Common.{length-take, get_or_past, insert, remove, option_and_then, option_map, same_Some, cases_lt, ne_eqb, ltb-false, ltb-true, make_tag, tag_type, tag_id, tag_length, tag_class, tag_chunk, tag_data_size, LogEntry, entry_end, IsCommit, AreAdjacentCommits, block_entries, Attributes, RawSlot, RawContent, content_after_entry, content_after, slots_after, slot_changed_at, padded_slots, empty_slot, slot_of_id, attributes_with, attributes_without, empty_raw_content, is_known_tag, has_needed_id, is_attribute_removal, create_tag_type, delete_tag_type, decoded_address, decoded_gstate, hard_tail_type, IsNameOrStruct, AttributesInOrder, IsWellFormedSlot, AreWellFormed, IsWellFormed, HasTagLength, HaveTagLengths, AreU32Addresses, IsAllowedTail, MoveStateFits}
 use Rattle.std.proofs.lemmas.List.{get_or-take}
 use Rattle.std.specs.Prelude.{slice_set, slice_index, nat_lt, nat_le, is_some}
 use Rattle.std.proofs.lemmas.Bool.{eqb-false}
 use Rattle.byteorder.specs.Endian.{little_number}
 use Rattle.lfs_model.specs.format.Log.{entry_at, chain_of}
-use Rattle.lfs_model.specs.format.Content.{attributes_after, entry_part}
+use Rattle.lfs_model.specs.format.Content.{attributes_after, entry_type_bytes}
 use Rattle.lfs_model.specs.format.EntryTypes.{entry_tail}
 use Rattle.lfs_model.proofs.Chains.{lies, chain_sound}
 use Rattle.lfs_model.proofs.WrittenAnew.{tag_type-make_tag, tag_length-make_tag}
@@ -41,20 +41,20 @@ without_ascends low type (a ∷ rest) h = go (a.0 == type) (without_ascends (a.0
 
 -- ---- slots
 
-set_parts : (slots : List RawSlot) (i : ℕ) (s : RawSlot) → AreWellFormed slots → IsFormedSlot s → AreWellFormed (slice_set slots i s)
+set_parts : (slots : List RawSlot) (i : ℕ) (s : RawSlot) → AreWellFormed slots → IsWellFormedSlot s → AreWellFormed (slice_set slots i s)
 set_parts [] i s h p = tt
 set_parts (t ∷ slots) zero s h p = (p, h.1)
 set_parts (t ∷ slots) (suc i) s h p = (h.0, set_parts slots i s h.1 p)
 
-parts_of_empty : IsFormedSlot empty_slot
+parts_of_empty : IsWellFormedSlot empty_slot
 parts_of_empty = record { name = tt; struct = tt; attributes = tt }
 
-parts_at : (slots : List RawSlot) (i : ℕ) → AreWellFormed slots → IsFormedSlot (slot_of_id slots i)
+parts_at : (slots : List RawSlot) (i : ℕ) → AreWellFormed slots → IsWellFormedSlot (slot_of_id slots i)
 parts_at [] i h = parts_of_empty
 parts_at (t ∷ slots) zero h = h.0
 parts_at (t ∷ slots) (suc i) h = parts_at slots i h.1
 
-insert_parts : (slots : List RawSlot) (i : ℕ) (s : RawSlot) → AreWellFormed slots → IsFormedSlot s → AreWellFormed (insert slots i s)
+insert_parts : (slots : List RawSlot) (i : ℕ) (s : RawSlot) → AreWellFormed slots → IsWellFormedSlot s → AreWellFormed (insert slots i s)
 insert_parts slots zero s h p = (p, h)
 insert_parts [] (suc i) s h p = (p, tt)
 insert_parts (t ∷ slots) (suc i) s h p = (h.0, insert_parts slots i s h.1 p)
@@ -70,7 +70,7 @@ longer_parts [] zero h = tt
 longer_parts [] (suc n) h = (parts_of_empty, longer_parts [] n tt)
 longer_parts (t ∷ slots) n h = (h.0, longer_parts slots n h.1)
 
-changed_parts : (f : RawSlot → RawSlot) (slots : List RawSlot) (i : ℕ) → AreWellFormed slots → ((s : RawSlot) → IsFormedSlot s → IsFormedSlot (f s)) → AreWellFormed (slot_changed_at f slots i)
+changed_parts : (f : RawSlot → RawSlot) (slots : List RawSlot) (i : ℕ) → AreWellFormed slots → ((s : RawSlot) → IsWellFormedSlot s → IsWellFormedSlot (f s)) → AreWellFormed (slot_changed_at f slots i)
 changed_parts f slots i h g = set_parts slots i (f (slot_of_id slots i)) h (g (slot_of_id slots i) (parts_at slots i h))
 
 -- ---- an entry
@@ -91,10 +91,10 @@ stored_short e h = go (is_attribute_removal e.tag) refl
         omega arith
 
 -- a name or a struct is a part
-part_of : (e : LogEntry) (class : ℕ) → HasTagLength e → class ≢ 3 → tag_class e.tag ≡ class → is_known_tag e.tag ≡ true → IsAllowedPart class (tag_type e.tag, e.bytes)
+part_of : (e : LogEntry) (class : ℕ) → HasTagLength e → class ≢ 3 → tag_class e.tag ≡ class → is_known_tag e.tag ≡ true → IsNameOrStruct class (tag_type e.tag, e.bytes)
 part_of e class h n c t = go (is_attribute_removal e.tag) refl
   where
-    go : (b : Bool) → is_attribute_removal e.tag ≡ b → IsAllowedPart class (tag_type e.tag, e.bytes)
+    go : (b : Bool) → is_attribute_removal e.tag ≡ b → IsNameOrStruct class (tag_type e.tag, e.bytes)
     go true r =
         let other : tag_class e.tag == 3 ≡ false = ne_eqb (tag_class e.tag) 3 (λ k. n (sym c ∙ k)) in
         absurd (let no : is_known_tag e.tag ≡ false = rw (r, other) refl in cc)
@@ -130,11 +130,11 @@ slots_parts slots e new h stored t is =
     one_of (tag_class e.tag == 0) (tag_type e.tag == create_tag_type) (tag_type e.tag == delete_tag_type) (nat_le (tag_id e.tag) (length slots)) (nat_lt (tag_id e.tag) (length slots))
     (not (is_some (slot_of_id slots (tag_id e.tag)).name)) (tag_class e.tag == 2)
     _ _ _ _ _ new
-    (λ k. changed_parts (λ s. record s { name = entry_part e }) (padded_slots slots (tag_id e.tag)) (tag_id e.tag) (longer_parts slots (tag_id e.tag + 1 - length slots) h)
+    (λ k. changed_parts (λ s. record s { name = entry_type_bytes e }) (padded_slots slots (tag_id e.tag)) (tag_id e.tag) (longer_parts slots (tag_id e.tag + 1 - length slots) h)
     (λ s p. record { name = part_of e 0 stored (λ z. omega arith) (eqb-true (tag_class e.tag) 0 k) t; struct = p.struct; attributes = p.attributes }))
     (insert_parts slots (tag_id e.tag) empty_slot h parts_of_empty)
     (remove_parts slots (tag_id e.tag) h)
-    (λ k. changed_parts (λ s. record s { struct = entry_part e }) slots (tag_id e.tag) h
+    (λ k. changed_parts (λ s. record s { struct = entry_type_bytes e }) slots (tag_id e.tag) h
     (λ s p. record { name = p.name; struct = part_of e 2 stored (λ z. omega arith) (eqb-true (tag_class e.tag) 2 k) t; attributes = p.attributes }))
     (changed_parts (λ s. record s { attributes = attributes_after e s.attributes }) slots (tag_id e.tag) h (λ s p. record { name = p.name; struct = p.struct; attributes = with_attribute_ascends e s.attributes stored p.attributes }))
     is
@@ -144,7 +144,7 @@ slots_parts slots e new h stored t is =
 number_small : (bytes : List ℕ) → ((i : ℕ) → slice_index bytes i < 256) → little_number 4 bytes < 2 ^ 32
 number_small bytes h = omega (arith, h 0, h 1, h 2, h 3)
 
-address_small : (bytes : List ℕ) → ((i : ℕ) → slice_index bytes i < 256) → AreWords (decoded_address bytes)
+address_small : (bytes : List ℕ) → ((i : ℕ) → slice_index bytes i < 256) → AreU32Addresses (decoded_address bytes)
 address_small bytes h = (number_small bytes h, number_small (drop 4 bytes) (λ i. rw (get_or-drop 4 bytes i 0) (h (4 + i))))
 
 tail_parts : (e : LogEntry) → ((i : ℕ) → slice_index e.bytes i < 256) → IsAllowedTail (entry_tail e)
@@ -207,7 +207,7 @@ stored_commit block start at before [] end last h c = absurd c
 stored_commit block start at before (e ∷ []) end last h c = (stored_entry block at before e h c.0, tt)
 stored_commit block start at before (e ∷ f ∷ es) end last h c = (stored_entry block at before e h c.0, stored_commit block start (entry_end at e) e.tag (f ∷ es) end last h c.2)
 
-stored_chain : (block : List ℕ) (start at before : ℕ) (cs : List (List LogEntry)) (end last : ℕ) → ((i : ℕ) → slice_index block i < 256) → AreAdjacent block start at before cs end last → HaveTagLengths (flat_map (λ c. c) cs)
+stored_chain : (block : List ℕ) (start at before : ℕ) (cs : List (List LogEntry)) (end last : ℕ) → ((i : ℕ) → slice_index block i < 256) → AreAdjacentCommits block start at before cs end last → HaveTagLengths (flat_map (λ c. c) cs)
 stored_chain block start at before [] end last h c = tt
 stored_chain block start at before (es ∷ cs) end last h (mid, carry, commit, rest) =
     stored_append es (flat_map (λ c. c) cs) (stored_commit block start at before es mid carry h commit) (stored_chain block mid mid carry cs end last h rest)

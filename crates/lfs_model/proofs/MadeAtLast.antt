@@ -1,7 +1,7 @@
 -- A directory is made whose entry comes into the last pair of its parent: its pair is threaded behind that one, with the sync bit set,
 -- and then the entry comes.
 use Rattle.std.proofs.Common.{ℕ, ◌≡◌, true, List, [], ◌∷◌, ◌++◌, refl, sym, ap, subst, ◌∙◌, append_assoc, subst₂}
-use Rattle.lfs_model.proofs.Common.{append-nil, Disk, Name, Slot, zero_gstate, same_pair, FitsInPair, Pair, first_address, pairs_gstate, Path, DirectoryNode, IsWritable, LeadsTo, all_entries, disk_tree, tree_creating, Session, path_or_root, pair_with_slots, directory_slot, FitsPair}
+use Rattle.lfs_model.proofs.Common.{append-nil, Disk, Name, Slot, zero_gstate, same_pair, FitsInPair, Pair, first_address, pairs_gstate, Path, DirectoryNode, IsWritable, IsDirectoryAtPath, all_entries, disk_tree, tree_creating, Session, path_or_root, pair_with_slots, directory_slot, IsFittingPair}
 use Rattle.lfs_model.specs.session.Operations as ops
 use Rattle.lfs_model.proofs.Names.{IsPlace}
 use Rattle.lfs_model.proofs.Sites.{Site, thread_at, begin_of}
@@ -24,7 +24,7 @@ module _ (disk middle new : Disk) (chain before left after : List Pair) (x y f :
     (put : IsPutBeside disk (last_site chain before left after) x y [] f l0 [] [] r0)
     (step2 : IsStep middle new (ahead_of chain before left f after) y [] q more extra2 [] l [] (directory_slot name f.at ∷ []) r)
     (put2 : IsPut middle (ahead_of chain before left f after) y q more l [] (directory_slot name f.at ∷ []) r)
-    (a : ℕ × ℕ) (leads : LeadsTo (thread_at (last_site chain before left after) (x ∷ [])) P a)
+    (a : ℕ × ℕ) (leads : IsDirectoryAtPath (thread_at (last_site chain before left after) (x ∷ [])) P a)
     (same : same_pair (begin_of (last_site chain before left after) (x ∷ [])) a ≡ true)
     (place : IsPlace middle.order (all_entries (thread_at (ahead_of chain before left f after) (y ∷ [])) a) (place_at (ahead_of chain before left f after) l) name)
     (sync : (pairs_gstate (thread_at (last_site chain before left after) (y ∷ ([] ++ f ∷ [])))).sync ≡ true)
@@ -37,7 +37,7 @@ module _ (disk middle new : Disk) (chain before left after : List Pair) (x y f :
   first = beside_taken disk middle chain before left after x y [] f l0 [] [] r0 put extra [] (λ t. t) (λ d. d) step P a leads same
       (threaded disk middle chain before left after x [] y [] f extra l0 r0 step P a leads same sync)
 
-  leads2 : LeadsTo (thread_at (ahead_of chain before left f after) (y ∷ [])) P a
+  leads2 : IsDirectoryAtPath (thread_at (ahead_of chain before left f after) (y ∷ [])) P a
   leads2 = ap (λ d. d P) first.follows.leads ∙ leads
 
   same2 : same_pair (begin_of (ahead_of chain before left f after) (y ∷ [])) a ≡ true
@@ -84,10 +84,10 @@ module _ (disk middle new : Disk) (chain before left after : List Pair) (x y f :
   }
     where
       -- the tails don't matter, and the sizes are the same on both disks
-      sized : (d : Pair) → FitsPair middle d → FitsPair disk d
+      sized : (d : Pair) → IsFittingPair middle d → IsFittingPair disk d
       sized d h = subst₂ (λ b g. FitsInPair b g d.content) step.device.geometry.block_size step.device.geometry.page h
 
-      resized : (slots : List Slot) → FitsPair disk (pair_with_slots slots x) → FitsPair middle (pair_with_slots slots y)
+      resized : (slots : List Slot) → IsFittingPair disk (pair_with_slots slots x) → IsFittingPair middle (pair_with_slots slots y)
       resized slots h = subst₂ (λ b g. FitsInPair b g (pair_with_slots slots y).content) (sym step.device.geometry.block_size) (sym step.device.geometry.page) (record { size = h.size; count = h.count })
 
       became_cut : (more : List Pair) → Became middle y (pair_with_slots (l ++ (directory_slot name f.at ∷ [] ++ r)) y) q more → Cut disk (pair_with_slots (l ++ directory_slot name f.at ∷ r) x) q more

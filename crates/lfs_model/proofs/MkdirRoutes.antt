@@ -1,7 +1,7 @@
 -- Where the two steps of a mkdir change a directory: behind its last pair, and in the pair where the name belongs, which may be that one.
 use Rattle.std.proofs.Common.{false, ℕ, ◌≡◌, ◌⊎◌, inl, inr, ◌+◌, true, cond, List, [], ◌∷◌, ◌++◌, length, drop, refl, sym, ap, subst, ◌∙◌, arith, append_assoc, length-append, Some}
-use Rattle.lfs_model.proofs.Common.{Disk, Name, Session, Slot, zero_gstate, same_pair, directory_slot, path_or_root, Pair, pairs_blocks, first_address, pairs_gstate, Path, LeadsTo, all_entries, disk_tree}
-use Rattle.lfs_model.specs.session.InDirectory.{joined_count}
+use Rattle.lfs_model.proofs.Common.{Disk, Name, Session, Slot, zero_gstate, same_pair, directory_slot, path_or_root, Pair, pairs_blocks, first_address, pairs_gstate, Path, IsDirectoryAtPath, all_entries, disk_tree}
+use Rattle.lfs_model.specs.session.InDirectory.{joined_pair_count}
 use Rattle.lfs_model.specs.layers.StepResults.{IsDirectoryEnd}
 use Rattle.lfs_model.specs.session.Operations as ops
 use Rattle.lfs_model.proofs.StepsTaken as taken
@@ -10,7 +10,7 @@ use Rattle.lfs_model.proofs.Committed.{CompletesOperation}
 use Rattle.lfs_model.proofs.Listings.{IsRun}
 use Rattle.lfs_model.proofs.Moves.{IsStep, place_at}
 use Rattle.lfs_model.proofs.Names.{IsPlace}
-use Rattle.lfs_model.proofs.Sites.{AnyByRecursion, Site, among_right, begin_of, dirs_at, run_changed, thread_at, IsSite}
+use Rattle.lfs_model.proofs.Sites.{HoldsForSome, Site, among_right, begin_of, dirs_at, run_changed, thread_at, IsSite}
 use Rattle.lfs_model.proofs.Superblocks.{IsChain}
 use Rattle.lfs_model.proofs.Global.{with_sync_inverted}
 use Rattle.lfs_model.proofs.MkdirSteps.{mkdir_in_two_completed}
@@ -42,9 +42,9 @@ IsThreaded disk chain before left after x fresh = IsPutBeside disk (last_site ch
 
 -- ---- the last pair
 
-length_run : (p : Pair) (run after : List Pair) → IsRun (p ∷ run) → joined_count (p ∷ (run ++ after)) ≡ length (p ∷ run)
-length_run p [] after h = ap (λ b. cond b (1 + joined_count after) 1) h
-length_run p (q ∷ run) after h = ap (λ b. cond b (1 + joined_count (q ∷ (run ++ after))) 1) h.0 ∙ (let e = length_run q run after h.1 in omega (arith, e))
+length_run : (p : Pair) (run after : List Pair) → IsRun (p ∷ run) → joined_pair_count (p ∷ (run ++ after)) ≡ length (p ∷ run)
+length_run p [] after h = ap (λ b. cond b (1 + joined_pair_count after) 1) h
+length_run p (q ∷ run) after h = ap (λ b. cond b (1 + joined_pair_count (q ∷ (run ++ after))) 1) h.0 ∙ (let e = length_run q run after h.1 in omega (arith, e))
 
 drop_behind : (xs ys : List Pair) (n : ℕ) → n ≡ length xs → drop n (xs ++ ys) ≡ ys
 drop_behind [] ys n e = ap (λ k. drop k ys) e
@@ -60,7 +60,7 @@ last_number : (ps : List Pair) (index last : ℕ) (w : Site) (p : Pair) → ps �
 last_number ps index last w p there place site is =
     let whole : ps ≡ (w.chain ++ (w.before ++ w.left)) ++ (p ∷ (w.right ++ w.after)) = there ∙ sym (append_assoc w.chain (w.before ++ w.left) (p ∷ (w.right ++ w.after))) in
     let at : index ≡ length (w.chain ++ (w.before ++ w.left)) = place ∙ sym (length-append w.chain (w.before ++ w.left)) in
-    let run = ap (λ z. joined_count (drop index z)) whole ∙ ap joined_count (drop_behind (w.chain ++ (w.before ++ w.left)) (p ∷ (w.right ++ w.after)) index at) ∙ length_run p w.right w.after (run_right w.left p w.right site.run) in
+    let run = ap (λ z. joined_pair_count (drop index z)) whole ∙ ap joined_pair_count (drop_behind (w.chain ++ (w.before ++ w.left)) (p ∷ (w.right ++ w.after)) index at) ∙ length_run p w.right w.after (run_right w.left p w.right site.run) in
     let e = is.is in
     omega arith
 
@@ -80,7 +80,7 @@ Completes disk w left x fresh right p2 l r P name =
     (middle new : Disk) (q : Pair) (more : List Pair) → IsThreading disk middle w.chain w.before left w.after x fresh → IsThreaded disk w.chain w.before left w.after x fresh
     → IsStep middle new (site_behind w right (fresh_pair x fresh)) p2 [] q more (pairs_blocks more) [] l [] (directory_slot name fresh ∷ []) r
     → taken.IsPut middle (site_behind w right (fresh_pair x fresh)) p2 q more l [] (directory_slot name fresh ∷ []) r
-    → (a : ℕ × ℕ) → LeadsTo (thread_at (last_site w.chain w.before left w.after) (x ∷ [])) P a → same_pair (begin_of (last_site w.chain w.before left w.after) (x ∷ [])) a ≡ true
+    → (a : ℕ × ℕ) → IsDirectoryAtPath (thread_at (last_site w.chain w.before left w.after) (x ∷ [])) P a → same_pair (begin_of (last_site w.chain w.before left w.after) (x ∷ [])) a ≡ true
     → IsPlace middle.order (all_entries (thread_at (site_behind w right (fresh_pair x fresh)) (p2 ∷ [])) a) (place_at (site_behind w right (fresh_pair x fresh)) l) name
     → (pairs_gstate (thread_at (last_site w.chain w.before left w.after) (naming_pair x fresh ∷ ([] ++ fresh_pair x fresh ∷ [])))).sync ≡ true
     → pairs_gstate (thread_at (last_site w.chain w.before left w.after) (x ∷ [])) ≡ zero_gstate
@@ -96,7 +96,7 @@ pub record IsOne (p x p2 : Pair) (fresh : ℕ × ℕ) : Type 0 where
 -- or the last one stands behind it
 pub record IsAhead (p x p2 : Pair) (right : List Pair) (fresh : ℕ × ℕ) : Type 0 where
   pub stays : p2 ≡ p
-  pub names : AnyByRecursion (λ y. y ≡ naming_pair x fresh) right
+  pub names : HoldsForSome (λ y. y ≡ naming_pair x fresh) right
 
 -- The last pair stands there, and after the first step the pair of the name here.
 pub record IsRoute (disk : Disk) (ps : List Pair) (last : ℕ) (w : Site) (p : Pair) (fresh : ℕ × ℕ) (l r : List Slot) (P : Path) (name : Name) : Type 0 where

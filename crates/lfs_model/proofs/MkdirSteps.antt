@@ -1,6 +1,6 @@
 -- A directory is made by the steps themselves: one commit to the last pair of its parent, and one to the pair where the name belongs.
 use Rattle.std.proofs.Common.{ℕ, ◌≡◌, true, List, [], ◌∷◌, ◌++◌, refl, sym, ap, subst, ◌∙◌, append_assoc, append-nil, subst₂}
-use Rattle.lfs_model.proofs.Common.{Disk, Name, Slot, zero_gstate, same_pair, FitsInPair, Pair, first_address, pairs_gstate, count_before_root, Path, DirectoryNode, IsAccepted, IsWritable, LeadsTo, all_entries, disk_tree, tree_creating, Session, path_or_root, pair_with_slots, directory_slot, FitsPair}
+use Rattle.lfs_model.proofs.Common.{Disk, Name, Slot, zero_gstate, same_pair, FitsInPair, Pair, first_address, pairs_gstate, count_before_root, Path, DirectoryNode, IsAccepted, IsWritable, IsDirectoryAtPath, all_entries, disk_tree, tree_creating, Session, path_or_root, pair_with_slots, directory_slot, IsFittingPair}
 use Rattle.lfs_model.specs.session.Operations as ops
 use Rattle.lfs_model.proofs.Names.{IsPlace}
 use Rattle.lfs_model.proofs.Sites.{Site, thread_at, begin_of}
@@ -22,7 +22,7 @@ module _ (disk middle new : Disk) (chain before front mid after : List Pair) (x 
     (put : IsPutBeside disk (last_site chain before (front ++ p ∷ mid) after) x y [] f l0 [] [] r0)
     (step2 : IsStep middle new (record { chain = chain; before = before; left = front; right = mid ++ y ∷ []; after = f ∷ after }) p [] q more extra2 [] l [] (directory_slot name f.at ∷ []) r)
     (put2 : IsPut middle (record { chain = chain; before = before; left = front; right = mid ++ y ∷ []; after = f ∷ after }) p q more l [] (directory_slot name f.at ∷ []) r)
-    (a : ℕ × ℕ) (leads : LeadsTo (thread_at (last_site chain before (front ++ p ∷ mid) after) (x ∷ [])) P a)
+    (a : ℕ × ℕ) (leads : IsDirectoryAtPath (thread_at (last_site chain before (front ++ p ∷ mid) after) (x ∷ [])) P a)
     (same : same_pair (begin_of (last_site chain before (front ++ p ∷ mid) after) (x ∷ [])) a ≡ true)
     (place : IsPlace middle.order (all_entries (thread_at (record { chain = chain; before = before; left = front; right = mid ++ y ∷ []; after = f ∷ after }) (p ∷ [])) a)
     (place_at (record { chain = chain; before = before; left = front; right = mid ++ y ∷ []; after = f ∷ after }) l) name)
@@ -46,8 +46,8 @@ module _ (disk middle new : Disk) (chain before front mid after : List Pair) (x 
   first = beside_taken disk middle chain before (front ++ p ∷ mid) after x y [] f l0 [] [] r0 put extra [] (λ t. t) (λ d. d) step P a leads same
       (threaded disk middle chain before (front ++ p ∷ mid) after x [] y [] f extra l0 r0 step P a leads same sync)
 
-  leads2 : LeadsTo (thread_at (record { chain = chain; before = before; left = front; right = mid ++ y ∷ []; after = f ∷ after }) (p ∷ [])) P a
-  leads2 = subst (λ z. LeadsTo z P a) same_thread (ap (λ d. d P) first.follows.leads ∙ leads)
+  leads2 : IsDirectoryAtPath (thread_at (record { chain = chain; before = before; left = front; right = mid ++ y ∷ []; after = f ∷ after }) (p ∷ [])) P a
+  leads2 = subst (λ z. IsDirectoryAtPath z P a) same_thread (ap (λ d. d P) first.follows.leads ∙ leads)
 
   same2 : same_pair (begin_of (record { chain = chain; before = before; left = front; right = mid ++ y ∷ []; after = f ∷ after }) (p ∷ [])) a ≡ true
   same2 = ap (λ z. same_pair z a) (go front) ∙ same
@@ -108,10 +108,10 @@ module _ (disk middle new : Disk) (chain before front mid after : List Pair) (x 
   }
     where
       -- the tails don't matter, and the sizes are the same on both disks
-      sized : (d : Pair) → FitsPair middle d → FitsPair disk d
+      sized : (d : Pair) → IsFittingPair middle d → IsFittingPair disk d
       sized d h = subst₂ (λ b g. FitsInPair b g d.content) step.device.geometry.block_size step.device.geometry.page h
 
-      resized : (d : Pair) → FitsPair disk d → FitsPair middle d
+      resized : (d : Pair) → IsFittingPair disk d → IsFittingPair middle d
       resized d h = subst₂ (λ b g. FitsInPair b g d.content) (sym step.device.geometry.block_size) (sym step.device.geometry.page) h
 
       became_cut : (more : List Pair) → Became middle p (pair_with_slots (l ++ (directory_slot name f.at ∷ [] ++ r)) p) q more → Cut disk (pair_with_slots (l ++ directory_slot name f.at ∷ r) p) q more

@@ -3,11 +3,11 @@ use Rattle.std.proofs.Common.{ℕ, ◌≡◌, ◌+◌, true, false, cond, nat_eq
 use Rattle.std.specs.Prelude.{◌≢◌, ◌&&◌}
 use Rattle.std.specs.List.{IsDistinct}
 use Rattle.std.specs.Int.Bits.{xor_self}
-use Rattle.lfs_model.proofs.Common.{flat_map, append-nil, flat_map-append, recursion_from_All, Disk, Slot, Gstate, is_superblock, same_pair, gstate_xor, pair_with_slots, pairs_without_moved, Pair, pairs_blocks, pairs_gstate, superblock_first, slots_not_moved, is_hard_tail, count_before_root, all_directories, used_blocks, all_unmoved_slots, set_move_kind, IsAccepted, IsWritable}
+use Rattle.lfs_model.proofs.Common.{flat_map, append-nil, flat_map-append, recursion_from_All, Disk, Slot, Gstate, is_superblock, same_pair, gstate_xor, pair_with_slots, pairs_without_moved, Pair, pairs_blocks, pairs_gstate, begins_with_superblock, slots_not_moved, is_hard_tail, count_before_root, all_directories, used_blocks, all_unmoved_slots, set_move_kind, IsAccepted, IsWritable}
 use Rattle.lfs_model.specs.layers.StepResults.{gstate_without_sync, gstate_without_move}
 use Rattle.lfs_model.proofs.Became.{became_front, became_shape}
 use Rattle.lfs_model.proofs.Changes.{slots_files, chain_now}
-use Rattle.lfs_model.proofs.Counts.{Each, each_append, each_left, each_right, each_weaker, number_occurrences, count_append}
+use Rattle.lfs_model.proofs.Counts.{Each, each_append, each_left, each_right, each_weaker, occurrence_count, count_append}
 use Rattle.lfs_model.proofs.Files.{SameFileBlocks}
 use Rattle.lfs_model.proofs.Global.{HasNoMove, gstate_cons, gstate_right}
 use Rattle.lfs_model.proofs.Listings.{flip_false}
@@ -18,7 +18,7 @@ use Rattle.lfs_model.proofs.Searches.{avoids_front, avoids_behind}
 use Rattle.lfs_model.proofs.Sites.{Site, thread_at, IsSite}
 use Rattle.lfs_model.proofs.Splices.{all_slots, file_blocks, unmoved_in}
 use Rattle.lfs_model.proofs.StepsTaken.{IsWritableChange, IsPut, end_taken}
-use Rattle.lfs_model.proofs.Writable.{ends_joined}
+use Rattle.lfs_model.proofs.Writable.{last_tail_is_hard}
 use Rattle.lfs_model.proofs.MoveSets.{directory_addresses}
 use Rattle.lfs_model.proofs.SetMoves.{HasTurned}
 use Rattle.lfs_model.proofs.SetFirsts.{end_firsts}
@@ -66,15 +66,15 @@ module _ (disk new : Disk) (w : Site) (p : Pair) (mids : List Pair) (q : Pair) (
       ∙ ap (λ z. flat_map (slots_not_moved G) w.chain ++ (z ++ (flat_map (slots_not_moved G) (p ∷ mids) ++ flat_map (slots_not_moved G) (w.right ++ w.after)))) (sym (hidden_none (w.before ++ w.left) far_before))
       ∙ sym (slots_three (slots_not_moved G) (p ∷ mids))
 
-  pub end_count : (b : ℕ) → number_occurrences b (used_blocks new (thread_at w (q ∷ []))) + number_occurrences b (pairs_blocks (p ∷ mids)) ≡ number_occurrences b (used_blocks disk (thread_at w (p ∷ mids))) + number_occurrences b (pairs_blocks (q ∷ []))
+  pub end_count : (b : ℕ) → occurrence_count b (used_blocks new (thread_at w (q ∷ []))) + occurrence_count b (pairs_blocks (p ∷ mids)) ≡ occurrence_count b (used_blocks disk (thread_at w (p ∷ mids))) + occurrence_count b (pairs_blocks (q ∷ []))
   end_count b =
       let a1 = count_append b (pairs_blocks (thread_at w (q ∷ []))) (file_blocks new (all_unmoved_slots (thread_at w (q ∷ [])))) in
       let a2 = count_append b (pairs_blocks (thread_at w (p ∷ mids))) (file_blocks disk (all_unmoved_slots (thread_at w (p ∷ mids)))) in
       let b1 = count_pairs b w (q ∷ []) in
       let b2 = count_pairs b w (p ∷ mids) in
-      let same = ap (number_occurrences b) (slots_files disk new (all_unmoved_slots (thread_at w (p ∷ mids))) k.device.geometry
+      let same = ap (occurrence_count b) (slots_files disk new (all_unmoved_slots (thread_at w (p ∷ mids))) k.device.geometry
       (recursion_from_All (λ (s : Slot). SameFileBlocks disk new s.struct) (all_unmoved_slots (thread_at w (p ∷ mids))) k.device.files)) in
-      let f = ap (λ z. number_occurrences b (file_blocks new z)) visible_same in
+      let f = ap (λ z. occurrence_count b (file_blocks new z)) visible_same in
       omega arith
 
 -- where the pair stays, pairs of the same slots stand in its place
@@ -96,7 +96,7 @@ pub record IsEnding (disk : Disk) (w : Site) (p : Pair) (l : List Slot) (u : Slo
   pub id : (pairs_gstate (thread_at w (p ∷ []))).id ≡ length l
   pub held : p.content.slots ≡ l ++ u ∷ r
   pub other : is_superblock u ≡ false
-  pub filled : ends_joined false (w.before ++ w.left) ≡ true → l ++ r ≢ []
+  pub filled : last_tail_is_hard false (w.before ++ w.left) ≡ true → l ++ r ≢ []
 
 module _ (disk : Disk) (w : Site) (p : Pair) (l : List Slot) (u : Slot) (r : List Slot) (k : IsEnding disk w p l u r) where
   abbrev ps : List Pair
@@ -144,9 +144,9 @@ module _ (disk : Disk) (w : Site) (p : Pair) (l : List Slot) (u : Slot) (r : Lis
     still_none : HasNoMove (pairs_gstate qs)
     still_none = record { kind = ap (λ (z : Gstate). z.kind) ended_state; id = ap (λ (z : Gstate). z.id) ended_state; pair = ap (λ (z : Gstate). z.pair) ended_state }
 
-    front_kept : (l : List Slot) → (slots : List Slot) → slots ≡ l ++ u ∷ r → superblock_first slots ≡ true → superblock_first (l ++ r) ≡ true
-    front_kept [] slots e h = absurd (let z = sym h ∙ ap superblock_first e ∙ k.other in cc)
-    front_kept (s ∷ l) slots e h = sym (ap superblock_first e) ∙ h
+    front_kept : (l : List Slot) → (slots : List Slot) → slots ≡ l ++ u ∷ r → begins_with_superblock slots ≡ true → begins_with_superblock (l ++ r) ≡ true
+    front_kept [] slots e h = absurd (let z = sym h ∙ ap begins_with_superblock e ∙ k.other in cc)
+    front_kept (s ∷ l) slots e h = sym (ap begins_with_superblock e) ∙ h
 
     pub end_step : IsMoveEnd disk new w p [] q [] l u r
     end_step = record {
@@ -181,8 +181,8 @@ module _ (disk : Disk) (w : Site) (p : Pair) (l : List Slot) (u : Slot) (r : Lis
     ended_leads = laid_out_kin disk new (thread_at w (p ∷ [])) (thread_at w (q ∷ [])) ended.follows x.device.geometry.block_size x.device.geometry.page still_none (ended_chain ∙ sym k.site.chain)
         (end_kin disk new w p q l u r end_step (ap is_hard_tail x.became.0))
 
-    pub ended_count : (b : ℕ) → number_occurrences b (used_blocks new qs) ≡ number_occurrences b (used_blocks disk ps)
+    pub ended_count : (b : ℕ) → occurrence_count b (used_blocks new qs) ≡ occurrence_count b (used_blocks disk ps)
     ended_count b =
         let e = end_count disk new w p [] q l u r end_step b in
-        let at = ap (λ (a : ℕ × ℕ). number_occurrences b (a.0 ∷ a.1 ∷ [])) x.at in
+        let at = ap (λ (a : ℕ × ℕ). occurrence_count b (a.0 ∷ a.1 ∷ [])) x.at in
         omega arith

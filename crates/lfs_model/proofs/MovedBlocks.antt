@@ -1,6 +1,6 @@
 -- Which blocks an image uses after a worn pair has moved.
 use Rattle.std.proofs.Common.{ℕ, ◌≡◌, ◌+◌, List, [], ◌∷◌, ◌++◌, length, sym, ap, ap₂, subst, ◌∙◌, arith, length-append}
-use Rattle.lfs_model.proofs.Common.{recursion_from_All, flat_map-append, Disk, Slot, PairContent, Pair, address_blocks, pairs_blocks, pairs_gstate, struct_blocks, all_unmoved_slots, used_blocks, number_occurrences}
+use Rattle.lfs_model.proofs.Common.{recursion_from_All, flat_map-append, Disk, Slot, PairContent, Pair, address_blocks, pairs_blocks, pairs_gstate, struct_blocks, all_unmoved_slots, used_blocks, occurrence_count}
 use Rattle.lfs_model.proofs.Counts.{count_append}
 use Rattle.lfs_model.proofs.Global.{HasNoMove}
 use Rattle.lfs_model.proofs.Files.{SameFileBlocks}
@@ -35,18 +35,18 @@ module _ (disk new : Disk) (before : List Pair) (p x q y : Pair) (back : List Pa
       ∙ ap (file_blocks disk) (sym (unmoved_in (pairs_gstate ps) none ps))
 
   -- the new blocks in place of the old ones
-  pub relocated_blocks : (b : ℕ) → number_occurrences b (used_blocks new qs) + number_occurrences b (address_blocks x.at) ≡ number_occurrences b (address_blocks y.at) + number_occurrences b (used_blocks disk ps)
+  pub relocated_blocks : (b : ℕ) → occurrence_count b (used_blocks new qs) + occurrence_count b (address_blocks x.at) ≡ occurrence_count b (address_blocks y.at) + occurrence_count b (used_blocks disk ps)
   relocated_blocks b =
       let a1 = count_append b (pairs_blocks qs) (file_blocks new (all_unmoved_slots qs)) in
       let a2 = count_append b (pairs_blocks ps) (file_blocks disk (all_unmoved_slots ps)) in
-      let e = ap (number_occurrences b) relocated_files in
+      let e = ap (occurrence_count b) relocated_files in
       let b1 = pairs_count b before (q ∷ y ∷ back) in
       let b2 = pairs_count b before (p ∷ x ∷ back) in
       let c1 = pairs_count b (q ∷ []) (y ∷ back) in
       let c2 = pairs_count b (p ∷ []) (x ∷ back) in
       let d1 = pairs_count b (y ∷ []) back in
       let d2 = pairs_count b (x ∷ []) back in
-      let f = ap (λ (z : ℕ × ℕ). number_occurrences b (z.0 ∷ z.1 ∷ [])) c.at in
+      let f = ap (λ (z : ℕ × ℕ). occurrence_count b (z.0 ∷ z.1 ∷ [])) c.at in
       omega arith
 
   -- as many
@@ -82,17 +82,17 @@ module _ (disk new : Disk) (before : List Pair) (x q y : Pair) (back : List Pair
       ∙ ap (file_blocks disk) (sym (unmoved_in (pairs_gstate ps_2) none ps_2))
 
   -- the new blocks beside the old ones
-  pub unloaded_blocks : (b : ℕ) → number_occurrences b (used_blocks new qs_2) ≡ number_occurrences b (address_blocks y.at) + number_occurrences b (used_blocks disk ps_2)
+  pub unloaded_blocks : (b : ℕ) → occurrence_count b (used_blocks new qs_2) ≡ occurrence_count b (address_blocks y.at) + occurrence_count b (used_blocks disk ps_2)
   unloaded_blocks b =
       let a1 = count_append b (pairs_blocks qs_2) (file_blocks new (all_unmoved_slots qs_2)) in
       let a2 = count_append b (pairs_blocks ps_2) (file_blocks disk (all_unmoved_slots ps_2)) in
-      let e = ap (number_occurrences b) unloaded_files in
+      let e = ap (occurrence_count b) unloaded_files in
       let b1 = pairs_count b before (q ∷ y ∷ back) in
       let b2 = pairs_count b before (x ∷ back) in
       let c1 = pairs_count b (q ∷ []) (y ∷ back) in
       let c2 = pairs_count b (x ∷ []) back in
       let d1 = pairs_count b (y ∷ []) back in
-      let f = ap (λ (z : ℕ × ℕ). number_occurrences b (z.0 ∷ z.1 ∷ [])) c.at in
+      let f = ap (λ (z : ℕ × ℕ). occurrence_count b (z.0 ∷ z.1 ∷ [])) c.at in
       omega arith
 
   -- two more

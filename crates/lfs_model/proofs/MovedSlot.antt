@@ -6,7 +6,7 @@ use Rattle.lfs_model.specs.session.InDirectory.{IsPairAt}
 use Rattle.lfs_model.specs.format.Slots.{no_move_kind}
 use Rattle.lfs_model.proofs.Pairs.{pair_back, pair_on}
 use Rattle.lfs_model.proofs.Searches.{same_number}
-use Rattle.lfs_model.proofs.Sites.{AnyByRecursion, among_from}
+use Rattle.lfs_model.proofs.Sites.{HoldsForSome, among_from}
 
 -- ---- no move, or one that names a slot
 
@@ -21,7 +21,7 @@ record IsSomewhere (ps : List Pair) (a : ℕ × ℕ) (id : ℕ) : Type 0 where
   same : same_pair a pair.at ≡ true
   slot : IsEntry (slice_get pair.content.slots id)
 
-somewhere : (ps : List Pair) (a : ℕ × ℕ) (id : ℕ) → AnyByRecursion (λ p. (same_pair a p.at ≡ true) × IsEntry (slice_get p.content.slots id)) ps → IsSomewhere ps a id
+somewhere : (ps : List Pair) (a : ℕ × ℕ) (id : ℕ) → HoldsForSome (λ p. (same_pair a p.at ≡ true) × IsEntry (slice_get p.content.slots id)) ps → IsSomewhere ps a id
 somewhere [] a id h = absurd h
 somewhere (p ∷ ps) a id (inl h) = record { number = 0; pair = p; there = refl; same = h.0; slot = h.1 }
 somewhere (p ∷ ps) a id (inr h) = let s = somewhere ps a id h in record { number = suc s.number; pair = s.pair; there = s.there; same = s.same; slot = s.slot }
@@ -69,7 +69,7 @@ not_nowhere disk ps ok kind none = go ps none (among_from (λ (p : Pair). (same_
     g : Gstate
     g = pairs_gstate ps
 
-    go : (xs : List Pair) → AllByRecursion (λ p. same_pair p.at (pairs_gstate ps).pair ≡ false) xs → AnyByRecursion (λ p. (same_pair (pairs_gstate ps).pair p.at ≡ true) × IsEntry (slice_get p.content.slots (pairs_gstate ps).id)) xs → ⊥
+    go : (xs : List Pair) → AllByRecursion (λ p. same_pair p.at (pairs_gstate ps).pair ≡ false) xs → HoldsForSome (λ p. (same_pair (pairs_gstate ps).pair p.at ≡ true) × IsEntry (slice_get p.content.slots (pairs_gstate ps).id)) xs → ⊥
     go [] h a = a
     go (p ∷ xs) h (inl a) = absurd (let k = sym h.0 ∙ pair_back (pairs_gstate ps).pair p.at a.0 in cc)
     go (p ∷ xs) h (inr a) = go xs h.1 a

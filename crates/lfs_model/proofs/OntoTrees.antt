@@ -1,7 +1,7 @@
 -- The tree after a rename within one pair onto a file, which stands behind the old slot or in front of it.
 use Rattle.std.proofs.Common.{ℕ, ◌≡◌, true, false, not, List, [], ◌∷◌, ◌++◌, length, Some, None, sym, ap, ◌∙◌, append_assoc, slice_get, remove, set}
 use Rattle.std.proofs.Math.Seq.{set-append_seam}
-use Rattle.lfs_model.proofs.Common.{filter-append, Disk, Slot, is_superblock, same_pair, Pair, pairs_gstate, Path, branch_address, LeadsTo, all_entries, tree_renaming}
+use Rattle.lfs_model.proofs.Common.{filter-append, Disk, Slot, is_superblock, same_pair, Pair, pairs_gstate, Path, struct_directory_address, IsDirectoryAtPath, all_entries, tree_renaming}
 use Rattle.lfs_model.specs.session.InDirectory.{entry_slots}
 use Rattle.lfs_model.proofs.Changes.{IsChangedImage}
 use Rattle.lfs_model.proofs.Sites.{Site, thread_at, begin_of}
@@ -20,9 +20,9 @@ entry_among xs u ys other = both_entries xs (u ∷ ys) ∙ ap (λ z. entry_slots
 -- the file stands behind the old slot
 module _ (disk new : Disk) (w : Site) (p q : Pair) (more : List Pair) (extra : List ℕ) (l : List Slot) (u : Slot) (passed : List Slot) (target : Slot) (r : List Slot)
     (c : IsStep disk new w p [] q more extra [] l (u ∷ (passed ++ target ∷ [])) (passed ++ record u { name = target.name } ∷ []) r) (held : p.content.slots ≡ l ++ ((u ∷ (passed ++ target ∷ [])) ++ r)) (other : is_superblock u ≡ false) (entry : is_superblock target ≡ false)
-    (file : (pairs_gstate (thread_at w (q ∷ more))).sync ≡ false → (branch_address target.struct ≡ None) × AllReached (thread_at w (p ∷ [])))
+    (file : (pairs_gstate (thread_at w (q ∷ more))).sync ≡ false → (struct_directory_address target.struct ≡ None) × AllReached (thread_at w (p ∷ [])))
     (differs : target.name ≡ u.name → ⊥)
-    (P : Path) (a : ℕ × ℕ) (leads : LeadsTo (thread_at w (p ∷ [])) P a) (same : same_pair (begin_of w (p ∷ [])) a ≡ true) where
+    (P : Path) (a : ℕ × ℕ) (leads : IsDirectoryAtPath (thread_at w (p ∷ [])) P a) (same : same_pair (begin_of w (p ∷ [])) a ≡ true) where
   abbrev moved : Slot
   moved = record u { name = target.name }
 
@@ -59,9 +59,9 @@ module _ (disk new : Disk) (w : Site) (p q : Pair) (more : List Pair) (extra : L
 -- the file stands in front of it
 module _ (disk new : Disk) (w : Site) (p q : Pair) (more : List Pair) (extra : List ℕ) (l : List Slot) (u : Slot) (passed : List Slot) (target : Slot) (r : List Slot)
     (c : IsStep disk new w p [] q more extra [] l (target ∷ (passed ++ u ∷ [])) (record u { name = target.name } ∷ passed) r) (held : p.content.slots ≡ l ++ ((target ∷ (passed ++ u ∷ [])) ++ r)) (other : is_superblock u ≡ false) (entry : is_superblock target ≡ false)
-    (file : (pairs_gstate (thread_at w (q ∷ more))).sync ≡ false → (branch_address target.struct ≡ None) × AllReached (thread_at w (p ∷ [])))
+    (file : (pairs_gstate (thread_at w (q ∷ more))).sync ≡ false → (struct_directory_address target.struct ≡ None) × AllReached (thread_at w (p ∷ [])))
     (differs : target.name ≡ u.name → ⊥)
-    (P : Path) (a : ℕ × ℕ) (leads : LeadsTo (thread_at w (p ∷ [])) P a) (same : same_pair (begin_of w (p ∷ [])) a ≡ true) where
+    (P : Path) (a : ℕ × ℕ) (leads : IsDirectoryAtPath (thread_at w (p ∷ [])) P a) (same : same_pair (begin_of w (p ∷ [])) a ≡ true) where
   abbrev moved2 : Slot
   moved2 = record u { name = target.name }
 

@@ -2,9 +2,9 @@
 use Rattle.std.proofs.Common.{◌≡◌, true, [], ◌∷◌, ◌++◌, Some, None, refl, sym, arith}
 use Rattle.std.specs.Prelude.{codes, nat_eq}
 use Rattle.std.specs.List.{IsDistinct}
-use Rattle.lfs_model.proofs.Common.{All-from_recursion, default_profile, content_at, current_block, Slot, zero_gstate, Pair, anchor_address, BeginsWith, superblock_entry, used_blocks, IsFreshDisk, fresh_pair, superblock_slot, file_slot, Session, DiskSummary, mounted_session, empty_tree, operation_effect, IsStep, creating_flags, large_image, large_fresh_state, state_after_open}
+use Rattle.lfs_model.proofs.Common.{All-from_recursion, default_profile, content_at, current_block, Slot, zero_gstate, Pair, superblock_pair_address, HasFirstLogEntry, superblock_entry, used_blocks, IsFreshDisk, fresh_pair, superblock_slot, file_slot, Session, DiskSummary, mounted_session, empty_tree, operation_effect, IsStep, creating_flags, large_image, large_fresh_state, state_after_open}
 use Rattle.lfs_model.specs.format.Crc.{crc_of, checksum_after_bits}
-use Rattle.lfs_model.specs.format.Log.{chain_of, chain_within, commit_within, entry_at, closes}
+use Rattle.lfs_model.specs.format.Log.{chain_of, bounded_commit_sequence, bounded_commit_at, entry_at, closes}
 use Rattle.lfs_model.specs.session.Operations as ops
 use Rattle.lfs_model.specs.examples.Runs.{image_after_open}
 use Rattle.lfs_model.proofs.Files.{SameFileBlocks}
@@ -32,25 +32,25 @@ abbrev file : Slot
 file = file_slot (codes "b")
 
 abbrev pub next : Pair
-next = record { at = anchor_address; content = record { slots = superblock ∷ file ∷ []; tail = None; move = zero_gstate } }
+next = record { at = superblock_pair_address; content = record { slots = superblock ∷ file ∷ []; tail = None; move = zero_gstate } }
 
 abbrev site : Site
 site = record { chain = []; before = []; left = []; right = []; after = [] }
 
 pub fresh : IsFreshDisk large_image
-unfolding chain_of chain_within commit_within entry_at closes crc_of checksum_after_bits
+unfolding chain_of bounded_commit_sequence bounded_commit_at entry_at closes crc_of checksum_after_bits
 fresh = record {
   geometry = record { power = refl; pages = omega arith; no_smaller = omega arith; no_larger = omega arith; whole_pages = refl; no_fewer = omega arith; no_more = omega arith; bytes = omega arith };
   content = refl;
   first = refl;
 }
 
-pub holds : content_at image_after_open anchor_address ≡ Some next.content
-unfolding chain_of chain_within commit_within entry_at closes crc_of checksum_after_bits
+pub holds : content_at image_after_open superblock_pair_address ≡ Some next.content
+unfolding chain_of bounded_commit_sequence bounded_commit_at entry_at closes crc_of checksum_after_bits
 holds = refl
 
-pub begins : BeginsWith (current_block image_after_open anchor_address) superblock_entry
-unfolding chain_of chain_within commit_within entry_at closes crc_of checksum_after_bits
+pub begins : HasFirstLogEntry (current_block image_after_open superblock_pair_address) superblock_entry
+unfolding chain_of bounded_commit_sequence bounded_commit_at entry_at closes crc_of checksum_after_bits
 begins = refl
 
 distinct : IsDistinct nat_eq (([] ++ []) ++ used_blocks large_image (pair ∷ []))
@@ -80,7 +80,7 @@ commit = record {
 }
 
 pub completed : CompletesOperation large_image (pair ∷ []) (mounted_session empty_tree) op image_after_open (next ∷ [])
-completed = create_completed large_image image_after_open site pair next [] (superblock ∷ []) [] (codes "b") commit [] anchor_address refl refl
+completed = create_completed large_image image_after_open site pair next [] (superblock ∷ []) [] (codes "b") commit [] superblock_pair_address refl refl
     (record { within = omega arith; below = λ j d l. absurd (omega arith); above = λ j d l m. absurd (omega arith) })
     (mounted_session empty_tree) (codes "/b") creating_flags (sym (shows large_image)) refl refl
 

@@ -1,7 +1,7 @@
 -- All slots that paths lead to, in a list, where no path is longer than a number of names.
 use Rattle.std.proofs.Common.{ℕ, zero, suc, ◌≡◌, Bool, true, false, not, ◌&&◌, cond, List, [], ◌∷◌, ◌++◌, map, Option, Some, None, refl, sym, ap, ◌∙◌, option_and_then, option_map}
 use Rattle.std.specs.Prelude.{find}
-use Rattle.lfs_model.proofs.Common.{AllByRecursion, flat_map, list_all, option_map_or, and_parts, same_Some, Name, same_name, Slot, Path, EntryMap, entry_named, branch_address, child_slot, slot_at_path, same_path}
+use Rattle.lfs_model.proofs.Common.{AllByRecursion, flat_map, list_all, option_map_or, and_parts, same_Some, Name, same_name, Slot, Path, DirectoryEntryMap, entry_named, struct_directory_address, child_slot, slot_at_path, same_path}
 use Rattle.std.specs.Option.{option_or}
 use Rattle.std.proofs.lemmas.List.Folds.{find-append}
 use Rattle.lfs_model.proofs.Paths.{name_from_same, path_from_same}
@@ -10,13 +10,13 @@ use Rattle.lfs_model.proofs.Paths.{name_from_same, path_from_same}
 abbrev pub Outline : Type 0
 Outline = List (Path × Slot)
 
-abbrev pub children : EntryMap → Slot → List Slot
-children E u = option_map_or E (branch_address u.struct) []
+abbrev pub children : DirectoryEntryMap → Slot → List Slot
+children E u = option_map_or E (struct_directory_address u.struct) []
 
 abbrev below : Name → Path × Slot → Path × Slot
 below name f = (name ∷ f.0, f.1)
 
-abbrev pub outline : ℕ → EntryMap → Slot → Outline
+abbrev pub outline : ℕ → DirectoryEntryMap → Slot → Outline
 outline zero E u = ([], u) ∷ []
 outline (suc k) E u = ([], u) ∷ flat_map (λ s. map (below s.name) (outline k E s)) (children E u)
 
@@ -30,15 +30,15 @@ have_own_names [] = true
 have_own_names (s ∷ slots) = list_all (λ t. not (same_name s.name t.name)) slots && have_own_names slots
 
 -- no path is longer
-abbrev pub is_outlined : ℕ → EntryMap → Slot → Bool
+abbrev pub is_outlined : ℕ → DirectoryEntryMap → Slot → Bool
 is_outlined zero E u = is_nil (children E u)
 is_outlined (suc k) E u = have_own_names (children E u) && list_all (is_outlined k E) (children E u)
 
 abbrev pub found_in : Path → Outline → Option Slot
 found_in path outline = option_map (λ f. f.1) (find (λ f. same_path path f.0) outline)
 
-child_is : (E : EntryMap) (u : Slot) (n : Name) → child_slot E u n ≡ entry_named n (children E u)
-child_is E u n = go (branch_address u.struct)
+child_is : (E : DirectoryEntryMap) (u : Slot) (n : Name) → child_slot E u n ≡ entry_named n (children E u)
+child_is E u n = go (struct_directory_address u.struct)
   where
     go : (b : Option (ℕ × ℕ)) → option_and_then (λ at. entry_named n (E at)) b ≡ entry_named n (option_map_or E b [])
     go None = refl
@@ -71,7 +71,7 @@ found_beside n m path (x ∷ xs) e =
     ∙ found_beside n m path xs e
 
 -- what an outline finds is what the walk finds
-none_named : (k : ℕ) (E : EntryMap) (n : Name) (path : Path) (cs : List Slot) → entry_named n cs ≡ None → found_in (n ∷ path) (flat_map (λ s. map (below s.name) (outline k E s)) cs) ≡ None
+none_named : (k : ℕ) (E : DirectoryEntryMap) (n : Name) (path : Path) (cs : List Slot) → entry_named n cs ≡ None → found_in (n ∷ path) (flat_map (λ s. map (below s.name) (outline k E s)) cs) ≡ None
 none_named k E n path [] e = refl
 none_named k E n path (c ∷ cs) e =
     found-append (n ∷ path) (map (below c.name) (outline k E c)) (flat_map (λ s. map (below s.name) (outline k E s)) cs)
@@ -96,7 +96,7 @@ others_named n c (t ∷ cs) apart same =
     turned true e = absurd (cc)
     turned false e = refl
 
-pub outlined : (k : ℕ) (E : EntryMap) (u : Slot) → is_outlined k E u ≡ true → (path : Path) → found_in path (outline k E u) ≡ slot_at_path E u path
+pub outlined : (k : ℕ) (E : DirectoryEntryMap) (u : Slot) → is_outlined k E u ≡ true → (path : Path) → found_in path (outline k E u) ≡ slot_at_path E u path
 outlined zero E u whole [] = refl
 outlined zero E u whole (n ∷ path) = sym (ap (option_and_then (λ c. slot_at_path E c path)) (child_is E u n ∙ ap (entry_named n) (nil (children E u) whole)))
   where

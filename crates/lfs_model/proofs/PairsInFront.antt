@@ -9,7 +9,7 @@ use Rattle.lfs_model.proofs.Searches.{same_number}
 use Rattle.lfs_model.proofs.Pairs.{pair_back, pair_on}
 use Rattle.lfs_model.proofs.Sites.{IsSite, Site, begin_of, thread_at}
 use Rattle.lfs_model.proofs.Superblocks.{IsChain}
-use Rattle.lfs_model.proofs.Writable.{ends_joined}
+use Rattle.lfs_model.proofs.Writable.{last_tail_is_hard}
 use Rattle.lfs_model.proofs.PairLists.{get_behind}
 
 pub record LastPair (xs : List Pair) : Type 0 where
@@ -36,7 +36,7 @@ run_hard [] x o right h = h.0
 run_hard (y ∷ []) x o right h = h.1.0
 run_hard (y ∷ z ∷ left) x o right h = run_hard (z ∷ left) x o right h.1
 
-pub flag_last : (xs : List Pair) (x : Pair) (b : Bool) → ends_joined b (xs ++ x ∷ []) ≡ is_hard_tail x.content.tail
+pub flag_last : (xs : List Pair) (x : Pair) (b : Bool) → last_tail_is_hard b (xs ++ x ∷ []) ≡ is_hard_tail x.content.tail
 flag_last [] x b = refl
 flag_last (y ∷ xs) x b = flag_last xs x (is_hard_tail y.content.tail)
 
@@ -49,7 +49,7 @@ pub record StandsBehind (ps : List Pair) (v : Site) (o : Pair) (index : ℕ) : T
   pub number : length (w.chain ++ (w.before ++ w.left)) + 1 ≡ index
   pub hard : is_hard_tail x.content.tail ≡ true
   pub begin : begin_of v (o ∷ []) ≡ begin_of w (x ∷ o ∷ [])
-  pub led : ends_joined false (v.before ++ v.left) ≡ true
+  pub led : last_tail_is_hard false (v.before ++ v.left) ≡ true
 
 pub stands_behind : (ps : List Pair) (v : Site) (o : Pair) (index : ℕ) → ps ≡ thread_at v (o ∷ []) → IsSite v (o ∷ []) → index ≡ length v.chain + length (v.before ++ v.left) → v.left ≢ [] → StandsBehind ps v o index
 stands_behind ps v o index is at number some = record {
@@ -66,7 +66,7 @@ stands_behind ps v o index is at number some = record {
       omega arith;
   hard = hard;
   begin = ap first_address (ap (λ z. z ++ o ∷ []) l.is ∙ append_assoc l.front (l.last ∷ []) (o ∷ []));
-  led = ap (λ z. ends_joined false (v.before ++ z)) l.is ∙ ap (ends_joined false) (sym (append_assoc v.before l.front (l.last ∷ []))) ∙ flag_last (v.before ++ l.front) l.last false ∙ hard;
+  led = ap (λ z. last_tail_is_hard false (v.before ++ z)) l.is ∙ ap (last_tail_is_hard false) (sym (append_assoc v.before l.front (l.last ∷ []))) ∙ flag_last (v.before ++ l.front) l.last false ∙ hard;
 }
   where
     l : LastPair v.left

@@ -3,7 +3,7 @@ use Rattle.std.proofs.Common.{ℕ, zero, suc, ◌≡◌, true, cond, List, [], �
 use Rattle.std.specs.Prelude.{Contains, is_some}
 use Rattle.lfs_model.proofs.Orders.{contains_in_order, contains_back}
 use Rattle.lfs_model.specs.declared.order.NameOrder.TheVariants.{ShorterFirst}
-use Rattle.lfs_model.proofs.Common.{sorted_names, Name, Slot, Struct, Inline, Ctz, Branch, Attributes, Path, Node, DirectoryNode, EntryMap, entry_named, branch_address, slot_at_path, struct_node, names_at, slot_subtree}
+use Rattle.lfs_model.proofs.Common.{sorted_names, Name, Slot, Struct, Inline, Ctz, Branch, Attributes, Path, Node, DirectoryNode, DirectoryEntryMap, entry_named, struct_directory_address, slot_at_path, struct_node, names_at, slot_subtree}
 use Rattle.lfs_model.proofs.Paths.{Names, alike, unlike, names}
 use Rattle.lfs_model.proofs.Walks.{walk_append}
 
@@ -26,7 +26,7 @@ contained_found n (x ∷ xs) h = go (names n x.name) h (contained_found n xs)
     go (unlike apart other) (zero, l, e) rest = absurd (apart (sym e))
     go (unlike apart other) (suc k, l, e) rest = ap (λ b. is_some (cond b (Some x) (entry_named n xs))) other ∙ rest (k, omega (arith, l), e)
 
-pub parent_has_name : (c : ℕ → ℕ → List ℕ) (E : EntryMap) (s : Slot) (path : Path) (n : Name) (node : Node) → slot_subtree c E s (path ++ n ∷ []) ≡ Some node
+pub parent_has_name : (c : ℕ → ℕ → List ℕ) (E : DirectoryEntryMap) (s : Slot) (path : Path) (n : Name) (node : Node) → slot_subtree c E s (path ++ n ∷ []) ≡ Some node
     → (attributes : Attributes) × (ns : List Name) × (slot_subtree c E s path ≡ Some (DirectoryNode attributes ns)) × Contains ns n
 parent_has_name c E s path n node e = go (slot_at_path E s path) (sym (ap (option_map (λ u. struct_node c E u.attributes u.struct)) (walk_append E s path (n ∷ []))) ∙ e)
   where
@@ -34,7 +34,7 @@ parent_has_name c E s path n node e = go (slot_at_path E s path) (sym (ap (optio
     found to None is h = absurd (cc)
     found to (Some u) is h = found_contained n (E to) u is
 
-    below : (attributes : Attributes) (t : Struct) → option_map (λ u. struct_node c E u.attributes u.struct) (option_and_then (λ u. Some u) (option_and_then (λ at. entry_named n (E at)) (branch_address t))) ≡ Some node
+    below : (attributes : Attributes) (t : Struct) → option_map (λ u. struct_node c E u.attributes u.struct) (option_and_then (λ u. Some u) (option_and_then (λ at. entry_named n (E at)) (struct_directory_address t))) ≡ Some node
         → (others : Attributes) × (ns : List Name) × (Some (struct_node c E attributes t) ≡ Some (DirectoryNode others ns)) × Contains ns n
     below attributes (Inline bytes) h = absurd (cc)
     below attributes (Ctz head size) h = absurd (cc)
@@ -45,7 +45,7 @@ parent_has_name c E s path n node e = go (slot_at_path E s path) (sym (ap (optio
     go None h = absurd (cc)
     go (Some t) h = below t.attributes t.struct h
 
-pub name_has_node : (c : ℕ → ℕ → List ℕ) (E : EntryMap) (s : Slot) (path : Path) (attributes : Attributes) (ns : List Name) (n : Name) → slot_subtree c E s path ≡ Some (DirectoryNode attributes ns) → Contains ns n
+pub name_has_node : (c : ℕ → ℕ → List ℕ) (E : DirectoryEntryMap) (s : Slot) (path : Path) (attributes : Attributes) (ns : List Name) (n : Name) → slot_subtree c E s path ≡ Some (DirectoryNode attributes ns) → Contains ns n
     → is_some (slot_subtree c E s (path ++ n ∷ [])) ≡ true
 name_has_node c E s path attributes ns n e has = ap (λ o. is_some (option_map (λ u. struct_node c E u.attributes u.struct) o)) (walk_append E s path (n ∷ [])) ∙ go (slot_at_path E s path) e
   where
@@ -54,7 +54,7 @@ name_has_node c E s path attributes ns n e has = ap (λ o. is_some (option_map (
     kept (Some u) h = refl
 
     below : (others : Attributes) (t : Struct) → Some (struct_node c E others t) ≡ Some (DirectoryNode attributes ns)
-        → is_some (option_map (λ u. struct_node c E u.attributes u.struct) (option_and_then (λ u. Some u) (option_and_then (λ at. entry_named n (E at)) (branch_address t)))) ≡ true
+        → is_some (option_map (λ u. struct_node c E u.attributes u.struct) (option_and_then (λ u. Some u) (option_and_then (λ at. entry_named n (E at)) (struct_directory_address t)))) ≡ true
     below others (Inline bytes) h = absurd (cc)
     below others (Ctz head size) h = absurd (cc)
     below others (Branch to) h =

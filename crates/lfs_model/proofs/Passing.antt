@@ -7,7 +7,7 @@ use Rattle.lfs_model.proofs.SessionSteps.{IsHealthy, true_from, session_step_is_
 use Rattle.lfs_model.proofs.Kept.{fresh_begins, turn_keeps, profile_stays}
 use Rattle.lfs_model.specs.crash.Lives.{Turn, IsLife, all_answered}
 use Rattle.lfs_model.specs.crash.LifeHeadline.{WorksAllAlong}
-use Rattle.lfs_model.specs.crash.LifeTrees.{MayLosePower}
+use Rattle.lfs_model.specs.crash.LifeTrees.{HasWritableDiskTree}
 use Rattle.lfs_model.proofs.LivedOn.{life_matches}
 use Rattle.lfs_model.proofs.TreesLeft.{any_summary}
 use Rattle.lfs_model.proofs.Common.{HealthyHasDiskTree}
@@ -33,7 +33,7 @@ accepted_step from to op reply s healthy other accepted step =
 
 -- ---- where the premises about the session hold
 
-pub fresh_may : (at : SystemState) → IsFreshDisk at.disk → at.state ≡ Healthy (mounted_session empty_tree) → MayLosePower at
+pub fresh_may : (at : SystemState) → IsFreshDisk at.disk → at.state ≡ Healthy (mounted_session empty_tree) → HasWritableDiskTree at
 fresh_may at fresh mounts =
     let both = fresh_begins at fresh mounts in
     record { agrees = both.0; profile = (both.1.pairs, (both.1.accepted, both.1.writable)) }
@@ -46,7 +46,7 @@ writes around = go around.writable
     go false e = absurd (cc)
 
 -- a recovery that isn't refused shows that the image may be written
-pub recovered_may : (from to : SystemState) (s : Session) → from.state ≡ Healthy s → IsTreeStep from ops.Recover ops.Done to → MayLosePower to
+pub recovered_may : (from to : SystemState) (s : Session) → from.state ≡ Healthy s → IsTreeStep from ops.Recover ops.Done to → HasWritableDiskTree to
 recovered_may from to s works step =
     let healthy = subst IsHealthy (sym works) tt in
     let a = accepted_step from to ops.Recover ops.Done s works refl refl step in
@@ -56,7 +56,7 @@ recovered_may from to s works step =
     }
 
 -- they stay
-pub life_may : (from : SystemState) (turns : List Turn) (to : SystemState) → MayLosePower from → IsLife from turns to → all_answered turns ≡ true → MayLosePower to
+pub life_may : (from : SystemState) (turns : List Turn) (to : SystemState) → HasWritableDiskTree from → IsLife from turns to → all_answered turns ≡ true → HasWritableDiskTree to
 life_may from turns to may lived all =
     let m = life_matches from turns to (subst (HealthyHasDiskTree from.disk) (sym may.agrees.healthy) may.agrees.shows) lived in
     let w : WorksAllAlong from turns may.agrees.session = record { begins = may.agrees.healthy; answered = all } in

@@ -2,10 +2,10 @@
 use Rattle.std.proofs.Common.{ℕ, ◌≡◌, ◌⊎◌, inl, inr, ◌+◌, ◌≤◌, true, cond, nat_eq, List, [], ◌∷◌, ◌++◌, take, Some, refl, sym, ap, subst, ◌∙◌, arith, append_assoc}
 use Rattle.std.specs.Prelude.{◌≢◌, All}
 use Rattle.std.specs.List.{IsDistinct}
-use Rattle.lfs_model.proofs.Common.{flat_map, All-from_recursion, flat_map-append, Disk, disk_block, SameGeometry, Blocks, HasEitherTree, with_blocks, IsWritableSlot, IsWritable, FitsInPair, Slot, Tree, content_at, current_block, Pair, pairs_blocks, first_address, count_before_root, pairs_from_root, superblock_first, BeginsWith, superblock_entry, IsAccepted, first_pair_slots, all_unmoved_slots, disk_tree, used_blocks, struct_blocks, append-nil, pairs_from_filled, has_slots, first_slot_name}
+use Rattle.lfs_model.proofs.Common.{flat_map, All-from_recursion, flat_map-append, Disk, disk_block, SameGeometry, Blocks, HasEitherTree, with_blocks, IsWritableSlot, IsWritable, FitsInPair, Slot, Tree, content_at, current_block, Pair, pairs_blocks, first_address, count_before_root, pairs_from_root, begins_with_superblock, HasFirstLogEntry, superblock_entry, IsAccepted, first_pair_slots, all_unmoved_slots, disk_tree, used_blocks, struct_blocks, append-nil, pairs_from_nonempty, has_slots, first_slot_name}
 use Rattle.lfs_model.specs.layers.Steps.{PathAddresses, IsWritableChange}
 use Rattle.lfs_model.specs.declared.limits.Profile.{Profile}
-use Rattle.lfs_model.proofs.Counts.{Each, number_occurrences, count_append, once_from_distinct, each_from_counted}
+use Rattle.lfs_model.proofs.Counts.{Each, occurrence_count, count_append, once_from_distinct, each_from_counted}
 use Rattle.lfs_model.proofs.Sites.{Site, thread_at}
 use Rattle.lfs_model.proofs.Splices.{IsDevice}
 use Rattle.lfs_model.proofs.Changes.{IsChangedImage}
@@ -16,19 +16,19 @@ use Rattle.lfs_model.proofs.Devices.{device_from, first_same}
 
 -- ---- blocks
 
-pub all_apart : (bs : List ℕ) (b : ℕ) → number_occurrences b bs ≡ 0 → All (λ k. k ≢ b) bs
-all_apart bs b none = All-from_recursion (λ k. k ≢ b) bs (each_from_counted (λ k. k ≢ b) bs (λ k some e. absurd (let h = ap (λ z. number_occurrences z bs) e in omega arith)))
+pub all_apart : (bs : List ℕ) (b : ℕ) → occurrence_count b bs ≡ 0 → All (λ k. k ≢ b) bs
+all_apart bs b none = All-from_recursion (λ k. k ≢ b) bs (each_from_counted (λ k. k ≢ b) bs (λ k some e. absurd (let h = ap (λ z. occurrence_count z bs) e in omega arith)))
 
-pub blocks_append : (xs ys : List Pair) (b : ℕ) → number_occurrences b (pairs_blocks (xs ++ ys)) ≡ number_occurrences b (pairs_blocks xs) + number_occurrences b (pairs_blocks ys)
-blocks_append xs ys b = ap (number_occurrences b) (flat_map-append (λ (s : Pair). s.at.0 ∷ s.at.1 ∷ []) xs ys) ∙ count_append b (pairs_blocks xs) (pairs_blocks ys)
+pub blocks_append : (xs ys : List Pair) (b : ℕ) → occurrence_count b (pairs_blocks (xs ++ ys)) ≡ occurrence_count b (pairs_blocks xs) + occurrence_count b (pairs_blocks ys)
+blocks_append xs ys b = ap (occurrence_count b) (flat_map-append (λ (s : Pair). s.at.0 ∷ s.at.1 ∷ []) xs ys) ∙ count_append b (pairs_blocks xs) (pairs_blocks ys)
 
 -- ---- one pair became others
 
 pub record IsPlaced (old disk : Disk) (p q : Pair) (more : List Pair) (extra : List ℕ) : Type 0 where
   pub geometry : SameGeometry old disk
-  pub same : (b : ℕ) → number_occurrences b (extra ++ pairs_blocks (p ∷ [])) ≡ 0 → disk_block disk b ≡ disk_block old b
+  pub same : (b : ℕ) → occurrence_count b (extra ++ pairs_blocks (p ∷ [])) ≡ 0 → disk_block disk b ≡ disk_block old b
   pub contents : Each (λ x. content_at disk x.at ≡ Some x.content) (q ∷ more)
-  pub first : HasFirst p.content.slots → BeginsWith (current_block old p.at) superblock_entry → BeginsWith (current_block disk p.at) superblock_entry
+  pub first : HasFirst p.content.slots → HasFirstLogEntry (current_block old p.at) superblock_entry → HasFirstLogEntry (current_block disk p.at) superblock_entry
 
 module _ (old disk : Disk) (w : Site) (p q : Pair) (more : List Pair) (extra : List ℕ) (ok : IsAccepted old (thread_at w (p ∷ [])))
     (free : IsDistinct nat_eq (extra ++ used_blocks old (thread_at w (p ∷ [])))) (is : IsPlaced old disk p q more extra) where
@@ -45,7 +45,7 @@ module _ (old disk : Disk) (w : Site) (p q : Pair) (more : List Pair) (extra : L
   grouped = sym (append_assoc w.chain (w.before ++ w.left) (p ∷ (w.right ++ w.after)))
 
   -- no extra block is one of the thread's
-  apart : (b : ℕ) → 1 ≤ number_occurrences b (pairs_blocks ps) → number_occurrences b extra ≡ 0
+  apart : (b : ℕ) → 1 ≤ occurrence_count b (pairs_blocks ps) → occurrence_count b extra ≡ 0
   apart b some =
       let n = once_from_distinct (extra ++ used_blocks old ps) free b in
       let e = count_append b extra (used_blocks old ps) in
@@ -53,41 +53,41 @@ module _ (old disk : Disk) (w : Site) (p q : Pair) (more : List Pair) (extra : L
       omega arith
 
   abbrev Begins : ℕ × ℕ → Type 0
-  Begins at = BeginsWith (current_block disk at) superblock_entry
+  Begins at = HasFirstLogEntry (current_block disk at) superblock_entry
 
   -- a pair of the others, whose blocks are none that changed
-  other_first : (c : Pair) → first_address (pairs_from_filled ps) ≡ c.at → 1 ≤ number_occurrences c.at.0 (pairs_blocks front) + number_occurrences c.at.0 (pairs_blocks back) → 1 ≤ number_occurrences c.at.1 (pairs_blocks front) + number_occurrences c.at.1 (pairs_blocks back) → Begins (first_address (pairs_from_filled ps))
-  other_first c e f s = subst Begins (sym e) (first_same old disk c.at (still c.at.0 f) (still c.at.1 s) (subst (λ at. BeginsWith (current_block old at) superblock_entry) e ok.first))
+  other_first : (c : Pair) → first_address (pairs_from_nonempty ps) ≡ c.at → 1 ≤ occurrence_count c.at.0 (pairs_blocks front) + occurrence_count c.at.0 (pairs_blocks back) → 1 ≤ occurrence_count c.at.1 (pairs_blocks front) + occurrence_count c.at.1 (pairs_blocks back) → Begins (first_address (pairs_from_nonempty ps))
+  other_first c e f s = subst Begins (sym e) (first_same old disk c.at (still c.at.0 f) (still c.at.1 s) (subst (λ at. HasFirstLogEntry (current_block old at) superblock_entry) e ok.first))
     where
-      still : (b : ℕ) → 1 ≤ number_occurrences b (pairs_blocks front) + number_occurrences b (pairs_blocks back) → disk_block disk b ≡ disk_block old b
+      still : (b : ℕ) → 1 ≤ occurrence_count b (pairs_blocks front) + occurrence_count b (pairs_blocks back) → disk_block disk b ≡ disk_block old b
       still b some = is.same b (
           let n = once_from_distinct (pairs_blocks ps) ok.thread.distinct b in
-          let w = ap (λ z. number_occurrences b (pairs_blocks z)) grouped ∙ blocks_append front (p ∷ back) b in
+          let w = ap (λ z. occurrence_count b (pairs_blocks z)) grouped ∙ blocks_append front (p ∷ back) b in
           let v = blocks_append (p ∷ []) back b in
           let a = apart b in
           let k = count_append b extra (pairs_blocks (p ∷ [])) in
           let none = a (omega arith) in
           omega arith)
 
-  still_first : Begins (first_address (pairs_from_filled ps))
+  still_first : Begins (first_address (pairs_from_nonempty ps))
   still_first = go (from_front front)
     where
-      is_front : (qs : List Pair) → pairs_from_filled (front ++ p ∷ back) ≡ qs → pairs_from_filled ps ≡ qs
-      is_front qs e = ap pairs_from_filled grouped ∙ e
+      is_front : (qs : List Pair) → pairs_from_nonempty (front ++ p ∷ back) ≡ qs → pairs_from_nonempty ps ≡ qs
+      is_front qs e = ap pairs_from_nonempty grouped ∙ e
 
-      behind : ((qs : List Pair) → pairs_from_filled (front ++ qs) ≡ pairs_from_filled qs) → (slots : List Slot) → p.content.slots ≡ slots → FromSlots back → Begins (first_address (pairs_from_filled ps))
+      behind : ((qs : List Pair) → pairs_from_nonempty (front ++ qs) ≡ pairs_from_nonempty qs) → (slots : List Slot) → p.content.slots ≡ slots → FromSlots back → Begins (first_address (pairs_from_nonempty ps))
       behind all (s ∷ slots) e f =
-          let here = is_front (p ∷ back) (all (p ∷ back) ∙ ap (λ z. cond (has_slots z) (p ∷ back) (pairs_from_filled back)) e) in
-          subst Begins (sym (ap first_address here)) (is.first (accepted_first old ps p back ok here) (subst (λ at. BeginsWith (current_block old at) superblock_entry) (ap first_address here) ok.first))
+          let here = is_front (p ∷ back) (all (p ∷ back) ∙ ap (λ z. cond (has_slots z) (p ∷ back) (pairs_from_nonempty back)) e) in
+          subst Begins (sym (ap first_address here)) (is.first (accepted_first old ps p back ok here) (subst (λ at. HasFirstLogEntry (current_block old at) superblock_entry) (ap first_address here) ok.first))
       behind all [] e (InFront c rest there more) =
-          let here = is_front (c ∷ rest) (all (p ∷ back) ∙ ap (λ z. cond (has_slots z) (p ∷ back) (pairs_from_filled back)) e ∙ there) in
+          let here = is_front (c ∷ rest) (all (p ∷ back) ∙ ap (λ z. cond (has_slots z) (p ∷ back) (pairs_from_nonempty back)) e ∙ there) in
           let n = first_counted back c rest there in
           other_first c (ap first_address here) (let l = n.0 in omega arith) (let l = n.1 in omega arith)
       behind all [] e (Behind none more) =
-          let here = is_front [] (all (p ∷ back) ∙ ap (λ z. cond (has_slots z) (p ∷ back) (pairs_from_filled back)) e ∙ ap pairs_from_filled (sym (append-nil back)) ∙ more []) in
+          let here = is_front [] (all (p ∷ back) ∙ ap (λ z. cond (has_slots z) (p ∷ back) (pairs_from_nonempty back)) e ∙ ap pairs_from_nonempty (sym (append-nil back)) ∙ more []) in
           absurd (let k = ap first_slot_name (sym here) ∙ ok.named in cc)
 
-      go : FromSlots front → Begins (first_address (pairs_from_filled ps))
+      go : FromSlots front → Begins (first_address (pairs_from_nonempty ps))
       go (InFront c rest there all) =
           let n = first_counted front c rest there in
           other_first c (ap first_address (is_front (c ∷ rest ++ p ∷ back) (all (p ∷ back)))) (let l = n.0 in omega arith) (let l = n.1 in omega arith)
@@ -103,7 +103,7 @@ module _ (old disk : Disk) (w : Site) (p q : Pair) (more : List Pair) (extra : L
 pub nothing_came : (old disk : Disk) (ps : List Pair) → IsAccepted old ps → IsDevice old disk ps ps → IsChangedImage old ps disk ps (λ t. t) (λ d. d)
 nothing_came old disk ps ok device = go (take (count_before_root ps) ps) (pairs_from_root ps) (chain_of_thread ps).0 (chain_of_thread ps).1 ok.root
   where
-    go : (chain rest : List Pair) → ps ≡ chain ++ rest → IsChain chain rest → superblock_first (first_pair_slots rest) ≡ true → IsChangedImage old ps disk ps (λ t. t) (λ d. d)
+    go : (chain rest : List Pair) → ps ≡ chain ++ rest → IsChain chain rest → begins_with_superblock (first_pair_slots rest) ≡ true → IsChangedImage old ps disk ps (λ t. t) (λ d. d)
     go chain [] e is_chain root = absurd (cc)
     go chain (x ∷ rest) e is_chain root = subst (λ z. IsChangedImage old z disk z (λ t. t) (λ d. d)) (sym e)
         (same_follows old disk chain x rest is_chain (subst (IsAccepted old) e ok) (subst (λ z. IsDevice old disk z z) e device))

@@ -1,25 +1,25 @@
 -- What is supposed of a device's calls: one call more, and the calls since some older history.
 use Rattle.std.proofs.Common.{◌≡◌, Bool, true, false, List, [], ◌∷◌, ◌++◌, sym, subst, refl}
-use Rattle.lfs_model.proofs.Common.{All-head, Blocks, DeviceCall, Read, Program, Erase, Blank, CallEvent, call_event, AllCalls, AllCallsSince, CallConforms, CallsConform, may_stop_leave, erases_cleanly, MeetsPremises}
+use Rattle.lfs_model.proofs.Common.{All-head, Blocks, DeviceCall, Read, Program, Erase, Blank, CallEvent, call_event, AllCalls, AllCallsSince, CallConforms, CallsConform, power_loss_may_leave, erases_cleanly, MeetsPowerLossPremises}
 use Rattle.lfs_model.proofs.Conformance.{conforming_stops}
 use Rattle.lfs_model.proofs.Stopped.{stops_before}
 
 -- one call meets them
 pub record Meets (call : DeviceCall) (has_failed : Bool) (before after : Blocks) : Type 0 where
   pub erases : erases_cleanly call has_failed before after
-  pub failed : has_failed ≡ true → may_stop_leave call before after
+  pub failed : has_failed ≡ true → power_loss_may_leave call before after
 
-pub premises_begin : MeetsPremises []
+pub premises_begin : MeetsPowerLossPremises []
 premises_begin = record { erases = tt; failed = tt }
 
 pub premises_next : {call : DeviceCall} {failed : Bool} {before after : Blocks} {older later : List CallEvent} → later ≡ call_event call before after failed ∷ older
-    → Meets call failed before after → MeetsPremises older → MeetsPremises later
-premises_next is here so_far = subst MeetsPremises (sym is) (record { erases = (here.erases, so_far.erases); failed = (here.failed, so_far.failed) })
+    → Meets call failed before after → MeetsPowerLossPremises older → MeetsPowerLossPremises later
+premises_next is here so_far = subst MeetsPowerLossPremises (sym is) (record { erases = (here.erases, so_far.erases); failed = (here.failed, so_far.failed) })
 
 -- the newest call of such a history
 pub premises_newest : {call : DeviceCall} {failed : Bool} {before after : Blocks} {older later : List CallEvent} → later ≡ call_event call before after failed ∷ older
-    → MeetsPremises later → Meets call failed before after
-premises_newest is all = let both = subst MeetsPremises is all in record { erases = both.erases.0; failed = both.failed.0 }
+    → MeetsPowerLossPremises later → Meets call failed before after
+premises_newest is all = let both = subst MeetsPowerLossPremises is all in record { erases = both.erases.0; failed = both.failed.0 }
 
 -- a call that failed with nothing done
 pub meets_nothing : (call : DeviceCall) (blocks : Blocks) → Meets call true blocks blocks
@@ -32,7 +32,7 @@ meets_nothing call blocks = record { erases = cleanly call; failed = λ is. stop
     cleanly (Blank block off len) = tt
 
 -- a call that failed with all done
-pub meets_whole : {call : DeviceCall} {before after : Blocks} {older later : List CallEvent} → later ≡ call_event call before after false ∷ older → CallsConform later → MeetsPremises later
+pub meets_whole : {call : DeviceCall} {before after : Blocks} {older later : List CallEvent} → later ≡ call_event call before after false ∷ older → CallsConform later → MeetsPowerLossPremises later
     → Meets call true before after
 meets_whole {call} {before} {after} {older} is conforms all =
     let done = All-head CallConforms (call_event call before after false) older (subst CallsConform is conforms) in

@@ -1,11 +1,11 @@
 -- A slot as it stands in a log, among others.
 use Rattle.std.proofs.Common.{ℕ, ◌≡◌, ◌≤◌, ◌+◌, Bool, true, false, cond, not, nat_eq, List, [], ◌∷◌, ◌++◌, length, Option, Some, None, refl, ap, ◌∙◌, arith}
 use Rattle.std.specs.Prelude.{is_some}
-use Rattle.lfs_model.proofs.Common.{same_Some, sum_by-cons, RawSlot, complete_slot, complete_slots, kind_of_type, slot_of_id, decoded_struct, attributes_without, Attributes, Slot, option_and_then, option_map, attributes_size}
+use Rattle.lfs_model.proofs.Common.{same_Some, sum_by-cons, RawSlot, decoded_slot, decoded_slots, kind_of_type, slot_of_id, decoded_struct, attributes_without, Attributes, Slot, option_and_then, option_map, attributes_size}
 use Rattle.lfs_model.proofs.Completed.{complete_parts}
 
 -- it has a name
-pub is_named : (s : RawSlot) (t : Slot) → complete_slot s ≡ Some t → is_some s.name ≡ true
+pub is_named : (s : RawSlot) (t : Slot) → decoded_slot s ≡ Some t → is_some s.name ≡ true
 is_named s t h = go s.name h
   where
     go : (o : Option (ℕ × List ℕ)) → option_and_then (λ name. option_map (λ struct. record {
@@ -18,7 +18,7 @@ is_named s t h = go s.name h
     go (Some n) k = refl
 
 -- with other attributes
-pub complete_with : (s : RawSlot) (t : Slot) (f : Attributes → Attributes) → complete_slot s ≡ Some t → complete_slot (record s { attributes = f s.attributes }) ≡ Some (record t { attributes = f t.attributes })
+pub complete_with : (s : RawSlot) (t : Slot) (f : Attributes → Attributes) → decoded_slot s ≡ Some t → decoded_slot (record s { attributes = f s.attributes }) ≡ Some (record t { attributes = f t.attributes })
 complete_with s t f h = go s.name s.struct h
   where
     go : (o q : Option (ℕ × List ℕ)) → option_and_then (λ name. option_map (λ struct. record {
@@ -43,12 +43,12 @@ complete_with s t f h = go s.name s.struct h
 pub record IsRaw (xs : List RawSlot) (front : List Slot) (u : Slot) : Type 0 where
   pub here : RawSlot
   pub there : slot_of_id xs (length front) ≡ here
-  pub is : complete_slot here ≡ Some u
+  pub is : decoded_slot here ≡ Some u
 
-pub is_raw : (xs : List RawSlot) (front : List Slot) (u : Slot) (back : List Slot) → complete_slots xs ≡ Some (front ++ u ∷ back) → IsRaw xs front u
+pub is_raw : (xs : List RawSlot) (front : List Slot) (u : Slot) (back : List Slot) → decoded_slots xs ≡ Some (front ++ u ∷ back) → IsRaw xs front u
 is_raw [] front u back e = absurd (none front e)
   where
-    none : (front : List Slot) → complete_slots [] ≡ Some (front ++ u ∷ back) → ⊥
+    none : (front : List Slot) → decoded_slots [] ≡ Some (front ++ u ∷ back) → ⊥
     none [] k = cc
     none (t ∷ front) k = cc
 is_raw (x ∷ xs) [] u back e =
@@ -76,7 +76,7 @@ fewer_attributes kind (a ∷ rest) = go (nat_eq a.0 kind) (fewer_attributes kind
     go false l = omega (arith, sum_by-cons (λ (x : ℕ × List ℕ). 4 + length x.1) a rest, sum_by-cons (λ (x : ℕ × List ℕ). 4 + length x.1) a (attributes_without kind rest))
 
 -- with another struct
-pub complete_struct : (s : RawSlot) (t : Slot) (part : ℕ × List ℕ) → complete_slot s ≡ Some t → complete_slot (record s { struct = Some part }) ≡ Some (record t { struct = decoded_struct part.0 part.1 })
+pub complete_struct : (s : RawSlot) (t : Slot) (part : ℕ × List ℕ) → decoded_slot s ≡ Some t → decoded_slot (record s { struct = Some part }) ≡ Some (record t { struct = decoded_struct part.0 part.1 })
 complete_struct s t part h = go s.name s.struct h
   where
     go : (o q : Option (ℕ × List ℕ)) → option_and_then (λ name. option_map (λ struct. record {

@@ -1,7 +1,7 @@
 -- A recovery, pair by pair in the thread's order: a pair whose directory a path leads to is kept, any other is dropped. It may drop any number.
 use Rattle.std.proofs.Common.{ℕ, ◌≡◌, ◌≢◌, inl, true, List, [], ◌∷◌, ◌++◌, length, take, Option, None, refl, sym, ap, subst, ◌∙◌, append_assoc, append-nil, subst₂}
 use Rattle.std.specs.Prelude.{is_some}
-use Rattle.lfs_model.proofs.Common.{Disk, zero_gstate, Pair, pairs_gstate, slots_not_moved, count_before_root, pairs_from_root, IsAccepted, IsReachedBySome, disk_tree, IsWritable, Session, directory_address, continued_address}
+use Rattle.lfs_model.proofs.Common.{Disk, zero_gstate, Pair, pairs_gstate, slots_not_moved, count_before_root, pairs_from_root, IsAccepted, IsReachedDirectory, disk_tree, IsWritable, Session, directory_address, continued_directory_address}
 use Rattle.lfs_model.specs.session.Operations as ops
 use Rattle.lfs_model.proofs.Changes.{follows_itself}
 use Rattle.lfs_model.proofs.LeftFiles.{ends_same}
@@ -29,7 +29,7 @@ abbrev pub AllWait : List Pair → Option (ℕ × ℕ) → List Pair → List (L
 AllWait ps from [] [] = Unit {0}
 AllWait ps from [] (x ∷ xs) = ⊥
 AllWait ps from (p ∷ todo) [] = ⊥
-AllWait ps from (p ∷ todo) (now ∷ waits) = Waits ps from p now × AllWait ps (continued_address from p) todo waits
+AllWait ps from (p ∷ todo) (now ∷ waits) = Waits ps from p now × AllWait ps (continued_directory_address from p) todo waits
 
 -- ---- on the way
 
@@ -48,15 +48,15 @@ fates_append : (ps : List Pair) (from : Option (ℕ × ℕ)) (xs ys : List Pair)
 fates_append ps from [] ys [] vs h k = k
 fates_append ps from [] ys (u ∷ us) vs h k = absurd h
 fates_append ps from (x ∷ xs) ys [] vs h k = absurd h
-fates_append ps from (x ∷ xs) ys (u ∷ us) vs h k = (h.0, fates_append ps (continued_address from x) xs ys us vs h.1 k)
+fates_append ps from (x ∷ xs) ys (u ∷ us) vs h k = (h.0, fates_append ps (continued_directory_address from x) xs ys us vs h.1 k)
 
 fates_behind : (ps chain xs : List Pair) (us : List (List Pair)) → Each (λ p. slots_not_moved (pairs_gstate ps) p ≡ p.content.slots) chain → Fates ps 0 None xs us → Fates ps (length chain) None (chain ++ xs) (singles chain ++ us)
 fates_behind ps [] xs us h k = k
 fates_behind ps (c ∷ chain) xs us h k = (refl, h.0, fates_behind ps chain xs us h.1 k)
 
-onward_end : (from : Option (ℕ × ℕ)) (xs : List Pair) (p : Pair) → onward_all from (xs ++ p ∷ []) ≡ continued_address (onward_all from xs) p
+onward_end : (from : Option (ℕ × ℕ)) (xs : List Pair) (p : Pair) → onward_all from (xs ++ p ∷ []) ≡ continued_directory_address (onward_all from xs) p
 onward_end from [] p = refl
-onward_end from (x ∷ xs) p = onward_end (continued_address from x) xs p
+onward_end from (x ∷ xs) p = onward_end (continued_directory_address from x) xs p
 
 -- one that is seen more
 seen_more : (chain seen : List Pair) (p : Pair) (todo : List Pair) → chain ++ (seen ++ p ∷ todo) ≡ chain ++ ((seen ++ p ∷ []) ++ todo)
@@ -70,7 +70,7 @@ alike_last (x ∷ xs) (y ∷ front) p q e f h = (h.0, h.1, alike_last xs front p
 
 module _ (disk : Disk) (ps : List Pair) (now : Disk) (chain seen : List Pair) (p : Pair) (todo : List Pair) (parts waits : List (List Pair)) (kept : List Pair) where
   -- a pair whose directory is reached stays
-  pub recovery_keeps : (x : Pair) → IsRecovering disk ps now chain seen (p ∷ todo) parts ((x ∷ []) ∷ waits) kept → IsReachedBySome ps (directory_address (onward_all None seen) p)
+  pub recovery_keeps : (x : Pair) → IsRecovering disk ps now chain seen (p ∷ todo) parts ((x ∷ []) ∷ waits) kept → IsReachedDirectory ps (directory_address (onward_all None seen) p)
       → (is_some (onward_all None seen) ≡ true → slots_not_moved (pairs_gstate ps) p ≢ []) → IsRecovering disk ps now chain (seen ++ p ∷ []) todo (parts ++ (x ∷ []) ∷ []) waits (kept ++ x ∷ [])
   recovery_keeps x r reached some = record {
     are = r.are ∙ seen_more chain seen p todo;
@@ -85,7 +85,7 @@ module _ (disk : Disk) (ps : List Pair) (now : Disk) (chain seen : List Pair) (p
 
   -- a pair whose directory isn't reached goes
   pub recovery_drops : (new : Disk) (front : List Pair) (before o q : Pair) → kept ≡ front ++ before ∷ [] → IsRecovering disk ps now chain seen (p ∷ todo) parts ((o ∷ []) ∷ waits) kept
-      → (IsReachedBySome ps (directory_address (onward_all None seen) p) → ⊥) → IsUnthreaded now new chain front before o q (joined_parts waits)
+      → (IsReachedDirectory ps (directory_address (onward_all None seen) p) → ⊥) → IsUnthreaded now new chain front before o q (joined_parts waits)
       → IsRecovering disk ps new chain (seen ++ p ∷ []) todo (parts ++ [] ∷ []) waits (front ++ q ∷ [])
   recovery_drops new front before o q is r unreached c =
       let here : kept ++ o ∷ joined_parts waits ≡ front ++ before ∷ o ∷ joined_parts waits = ap (λ z. z ++ o ∷ joined_parts waits) is ∙ append_assoc front (before ∷ []) (o ∷ joined_parts waits) in
@@ -137,7 +137,7 @@ recovery_begins disk ps ok fits none =
 
     all_wait : (from : Option (ℕ × ℕ)) (xs : List Pair) → AllWait ps from xs (singles xs)
     all_wait from [] = tt
-    all_wait from (x ∷ xs) = ((refl, sym (unmoved_all (pairs_gstate ps) none x)), all_wait (continued_address from x) xs)
+    all_wait from (x ∷ xs) = ((refl, sym (unmoved_all (pairs_gstate ps) none x)), all_wait (continued_directory_address from x) xs)
 
 -- All pairs were seen. A last commit may have changed a delta of the global state, which now is none.
 pub recovery_ends : (disk : Disk) (ps : List Pair) (now : Disk) (chain seen : List Pair) (parts : List (List Pair)) (kept : List Pair) (new : Disk) (rs : List Pair) (walk : PathAddresses → PathAddresses) (s : Session)

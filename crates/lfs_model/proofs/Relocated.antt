@@ -1,7 +1,7 @@
 -- A pair that a hard tail names is at two other blocks, for the step that moves a worn pair: nothing else changes.
 use Rattle.std.proofs.Common.{◌≡◌, ◌<◌, ◌≤◌, true, false, List, [], ◌∷◌, ◌++◌, length, Some, refl, sym, ap, ap₂, subst, ◌∙◌, arith, append_assoc, append-nil, length-append}
 use Rattle.std.specs.Prelude.{All}
-use Rattle.lfs_model.proofs.Common.{recursion_from_All, Disk, Slot, PairContent, zero_gstate, FitsInPair, gstate_xor, Pair, address_blocks, is_hard_tail, pairs_gstate, superblock_first, count_before_root, IsAccepted, IsWritableSlot, HasNoEmpties, IsWritable, ends_joined, IsWritableChange}
+use Rattle.lfs_model.proofs.Common.{recursion_from_All, Disk, Slot, PairContent, zero_gstate, FitsInPair, gstate_xor, Pair, address_blocks, is_hard_tail, pairs_gstate, begins_with_superblock, count_before_root, IsAccepted, IsWritableSlot, HasNoEmptyPairs, IsWritable, last_tail_is_hard, IsWritableChange}
 use Rattle.lfs_model.proofs.Counts.{Each, each_right}
 use Rattle.lfs_model.proofs.Global.{HasNoMove, gstate_cons, gstate_kept, gstate_right}
 use Rattle.lfs_model.proofs.Listings.{IsRun}
@@ -157,7 +157,7 @@ relocate disk new chain front p x q y back r c = record { taken = taken; ready =
       still_none = subst HasNoMove (sym still) no_move;
       device = subst (λ z. IsDevice disk new z (thread_at w (q ∷ y ∷ []))) old_end (subst (IsDevice disk new ((chain ++ front) ++ p ∷ x ∷ back)) new_end c.device);
       free = subst (λ z. AreFree disk z (address_blocks y.at) []) old_end c.free;
-      shape = move_shape p x q y c.at c.tail (ap (λ (z : PairContent). z.tail) c.same) (λ e. ap superblock_first c.slots ∙ e);
+      shape = move_shape p x q y c.at c.tail (ap (λ (z : PairContent). z.tail) c.same) (λ e. ap begins_with_superblock c.slots ∙ e);
       was = sym (append-nil (all_slots (p ∷ x ∷ [])));
       is = slots_are ∙ sym (append-nil (all_slots (p ∷ x ∷ [])));
       splice = record { front = λ e. refl; entries = tt; lists = tt; blocks = λ b. omega arith };
@@ -168,12 +168,12 @@ relocate disk new chain front p x q y back r c = record { taken = taken; ready =
         let k = each_right (IsWithin disk.profile disk.block_size disk.page) front (p ∷ x ∷ back) (each_right (IsWithin disk.profile disk.block_size disk.page) chain (front ++ p ∷ x ∷ back) (each_within disk (chain ++ (front ++ p ∷ x ∷ back)) r.writable)) in
         (within_same disk p q c.slots k.0, (within_same disk x y (ap (λ (z : PairContent). z.slots) c.same) k.1.0, tt))
 
-    empties : HasNoEmpties (ends_joined false (w.before ++ w.left)) (p ∷ x ∷ (w.right ++ w.after)) → HasNoEmpties (ends_joined false (w.before ++ w.left)) (q ∷ y ∷ (w.right ++ w.after))
+    empties : HasNoEmptyPairs (last_tail_is_hard false (w.before ++ w.left)) (p ∷ x ∷ (w.right ++ w.after)) → HasNoEmptyPairs (last_tail_is_hard false (w.before ++ w.left)) (q ∷ y ∷ (w.right ++ w.after))
     empties h = (
       (λ e f. h.0 e (sym c.slots ∙ f)),
       (
         (λ e f. h.1.0 c.hard (sym (ap (λ (z : PairContent). z.slots) c.same) ∙ f)),
-        subst (λ t. HasNoEmpties (is_hard_tail t) (w.right ++ w.after)) (sym (ap (λ (z : PairContent). z.tail) c.same)) h.1.1,
+        subst (λ t. HasNoEmptyPairs (is_hard_tail t) (w.right ++ w.after)) (sym (ap (λ (z : PairContent). z.tail) c.same)) h.1.1,
       ),
     )
 

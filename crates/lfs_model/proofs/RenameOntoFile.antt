@@ -1,6 +1,6 @@
 -- A rename within one pair onto a file, from its commit alone; the file is after the old slot or before it.
 use Rattle.std.proofs.Common.{ℕ, ◌≡◌, true, false, not, List, [], ◌∷◌, ◌++◌, length, Some, None, refl, sym, ap, ◌∙◌, append_assoc, slice_get, remove, set}
-use Rattle.lfs_model.proofs.Common.{filter-append, set-append_seam, Disk, Slot, is_superblock, same_pair, Pair, pairs_blocks, Path, branch_address, LeadsTo, all_entries, disk_tree, Session, path_or_root, entry_slots}
+use Rattle.lfs_model.proofs.Common.{filter-append, set-append_seam, Disk, Slot, is_superblock, same_pair, Pair, pairs_blocks, Path, struct_directory_address, IsDirectoryAtPath, all_entries, disk_tree, Session, path_or_root, entry_slots}
 use Rattle.lfs_model.specs.session.Operations as ops
 use Rattle.lfs_model.proofs.Paths.{last_is}
 use Rattle.lfs_model.proofs.Sites.{Site, thread_at, begin_of}
@@ -21,9 +21,9 @@ entry_among xs u ys other = both_entries xs (u ∷ ys) ∙ ap (λ z. entry_slots
 
 -- the file is after the old slot
 module _ (disk new : Disk) (w : Site) (p q : Pair) (more : List Pair) (l : List Slot) (u : Slot) (passed : List Slot) (target : Slot) (r : List Slot)
-    (c : IsCommit disk new w p q more [] l (u ∷ (passed ++ target ∷ [])) (passed ++ record u { name = target.name } ∷ []) r) (other : is_superblock u ≡ false) (entry : is_superblock target ≡ false) (file : branch_address target.struct ≡ None)
+    (c : IsCommit disk new w p q more [] l (u ∷ (passed ++ target ∷ [])) (passed ++ record u { name = target.name } ∷ []) r) (other : is_superblock u ≡ false) (entry : is_superblock target ≡ false) (file : struct_directory_address target.struct ≡ None)
     (differs : target.name ≡ u.name → ⊥)
-    (P : Path) (a : ℕ × ℕ) (leads : LeadsTo (thread_at w (p ∷ [])) P a) (same : same_pair (begin_of w (p ∷ [])) a ≡ true)
+    (P : Path) (a : ℕ × ℕ) (leads : IsDirectoryAtPath (thread_at w (p ∷ [])) P a) (same : same_pair (begin_of w (p ∷ [])) a ≡ true)
     (s : Session) (old_bytes new_bytes : List ℕ) (tree : s.tree ≡ disk_tree disk (thread_at w (p ∷ []))) (old_is : path_or_root old_bytes ≡ P ++ u.name ∷ []) (new_is : path_or_root new_bytes ≡ P ++ target.name ∷ []) where
   abbrev moved : Slot
   moved = record u { name = target.name }
@@ -69,9 +69,9 @@ module _ (disk new : Disk) (w : Site) (p q : Pair) (more : List Pair) (l : List 
 
 -- the file is before it
 module _ (disk new : Disk) (w : Site) (p q : Pair) (more : List Pair) (l : List Slot) (u : Slot) (passed : List Slot) (target : Slot) (r : List Slot)
-    (c : IsCommit disk new w p q more [] l (target ∷ (passed ++ u ∷ [])) (record u { name = target.name } ∷ passed) r) (other : is_superblock u ≡ false) (entry : is_superblock target ≡ false) (file : branch_address target.struct ≡ None)
+    (c : IsCommit disk new w p q more [] l (target ∷ (passed ++ u ∷ [])) (record u { name = target.name } ∷ passed) r) (other : is_superblock u ≡ false) (entry : is_superblock target ≡ false) (file : struct_directory_address target.struct ≡ None)
     (differs : target.name ≡ u.name → ⊥)
-    (P : Path) (a : ℕ × ℕ) (leads : LeadsTo (thread_at w (p ∷ [])) P a) (same : same_pair (begin_of w (p ∷ [])) a ≡ true)
+    (P : Path) (a : ℕ × ℕ) (leads : IsDirectoryAtPath (thread_at w (p ∷ [])) P a) (same : same_pair (begin_of w (p ∷ [])) a ≡ true)
     (s : Session) (old_bytes new_bytes : List ℕ) (tree : s.tree ≡ disk_tree disk (thread_at w (p ∷ []))) (old_is : path_or_root old_bytes ≡ P ++ u.name ∷ []) (new_is : path_or_root new_bytes ≡ P ++ target.name ∷ []) where
   abbrev moved2 : Slot
   moved2 = record u { name = target.name }

@@ -1,6 +1,6 @@
 -- A rename within one pair, from its commit alone: to a name that is new, which is after the old slot or before it.
 use Rattle.std.proofs.Common.{ℕ, zero, suc, ◌≡◌, ◌<◌, ◌≤◌, ⊎_elim, true, false, not, List, [], ◌∷◌, ◌++◌, length, Some, None, refl, sym, ap, subst, ◌∙◌, arith, append_assoc, length-append, get_or, slice_get, remove}
-use Rattle.lfs_model.proofs.Common.{insert, cases_lt, filter-append, Disk, Name, name_cmp, Slot, is_superblock, same_pair, Pair, pairs_blocks, Path, LeadsTo, all_entries, disk_tree, tree_renaming, without_prefix, Session, path_or_root, entry_slots, all_slots}
+use Rattle.lfs_model.proofs.Common.{insert, cases_lt, filter-append, Disk, Name, name_cmp, Slot, is_superblock, same_pair, Pair, pairs_blocks, Path, IsDirectoryAtPath, all_entries, disk_tree, tree_renaming, without_prefix, Session, path_or_root, entry_slots, all_slots}
 use Rattle.std.specs.declared.cmp.Ordering.TheVariants.{Less}
 use Rattle.lfs_model.proofs.Orders.{less_differs}
 use Rattle.lfs_model.specs.declared.order.NameOrder.{NameOrder}
@@ -82,7 +82,7 @@ entries_of_both xs ys = filter-append (λ (s : Slot). not (is_superblock s)) xs 
 
 module _ (disk new : Disk) (w : Site) (p q : Pair) (more : List Pair) (l : List Slot) (u : Slot) (passed r : List Slot) (name : Name)
     (c : IsCommit disk new w p q more [] l (u ∷ passed) (passed ++ record u { name = name } ∷ []) r) (other : is_superblock u ≡ false)
-    (P : Path) (a : ℕ × ℕ) (leads : LeadsTo (thread_at w (p ∷ [])) P a) (same : same_pair (begin_of w (p ∷ [])) a ≡ true)
+    (P : Path) (a : ℕ × ℕ) (leads : IsDirectoryAtPath (thread_at w (p ∷ [])) P a) (same : same_pair (begin_of w (p ∷ [])) a ≡ true)
     (place : IsPlace disk.order (all_entries (thread_at w (p ∷ [])) a) (place_at w (l ++ u ∷ passed)) name) where
   abbrev moved : Slot
   moved = record u { name = name }
@@ -145,7 +145,7 @@ module _ (disk new : Disk) (w : Site) (p q : Pair) (more : List Pair) (l : List 
 
 module _ (disk new : Disk) (w : Site) (p q : Pair) (more : List Pair) (l : List Slot) (u : Slot) (passed r : List Slot) (name : Name)
     (c : IsCommit disk new w p q more [] l (passed ++ u ∷ []) (record u { name = name } ∷ passed) r) (other : is_superblock u ≡ false)
-    (P : Path) (a : ℕ × ℕ) (leads : LeadsTo (thread_at w (p ∷ [])) P a) (same : same_pair (begin_of w (p ∷ [])) a ≡ true)
+    (P : Path) (a : ℕ × ℕ) (leads : IsDirectoryAtPath (thread_at w (p ∷ [])) P a) (same : same_pair (begin_of w (p ∷ [])) a ≡ true)
     (place : IsPlace disk.order (all_entries (thread_at w (p ∷ [])) a) (place_at w l) name) where
   abbrev moved2 : Slot
   moved2 = record u { name = name }

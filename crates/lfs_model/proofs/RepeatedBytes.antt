@@ -6,7 +6,7 @@ use Rattle.lfs_model.proofs.Common.{option_map, and_parts, nat_tests, tag_type, 
 use Rattle.std.proofs.lemmas.List.{drop-replicate, length-replicate}
 use Rattle.byteorder.specs.Endian.{big_number}
 use Rattle.lfs_model.specs.format.Tag.{is_commit_end}
-use Rattle.lfs_model.specs.format.Log.{entry_at, closes, chain_of, committed_log, block_revision}
+use Rattle.lfs_model.specs.format.Log.{entry_at, closes, chain_of, log_if_committed, block_revision}
 use Rattle.lfs_model.specs.crash.Stops.{HasNoLog}
 use Rattle.lfs_model.proofs.Chains.{lies, commit_none, commit_refused, commit_on, chain_none}
 use Rattle.lfs_model.proofs.Skips.{all_below, below_from}
@@ -84,4 +84,4 @@ no_first n byte small =
 pub no_log-repeated : (n byte : ℕ) → byte < 256 → HasNoLog (replicate n byte)
 unfolding chain_of
 no_log-repeated n byte small =
-    ap (λ (c : CommitSequence). committed_log (block_revision (replicate n byte)) c.commits) (chain_none (replicate n byte) 0 4 0xffffffff (no_first n byte small))
+    ap (λ (c : CommitSequence). log_if_committed (block_revision (replicate n byte)) c.commits) (chain_none (replicate n byte) 0 4 0xffffffff (no_first n byte small))

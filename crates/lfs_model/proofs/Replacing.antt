@@ -1,7 +1,7 @@
 -- A rename onto an empty directory: no path leads to that one any more, and every other directory is still reached. So its pair may go.
 use Rattle.std.proofs.Common.{ℕ, ◌≡◌, ◌⊎◌, inl, inr, true, false, List, [], ◌∷◌, ◌++◌, Option, Some, None, sym, ap, subst, ◌∙◌, append-nil}
 use Rattle.std.specs.Prelude.{All}
-use Rattle.lfs_model.proofs.Common.{All-from_recursion, recursion_from_All, same_Some, Disk, same_pair, Pair, ThreadDirectory, is_hard_tail, root_address, Path, address_at_path, without_prefix, tree_with_subtree, tree_renaming, IsReachedBySome, all_directories, all_entries}
+use Rattle.lfs_model.proofs.Common.{All-from_recursion, recursion_from_All, same_Some, Disk, same_pair, Pair, ThreadDirectory, is_hard_tail, root_address, Path, address_at_path, without_prefix, tree_with_subtree, tree_renaming, IsReachedDirectory, all_directories, all_entries}
 use Rattle.lfs_model.proofs.LeftFiles.{ends_same}
 use Rattle.lfs_model.proofs.Paths.{IsBelowOrAside, beyond, aside, rest, rest_itself}
 use Rattle.lfs_model.proofs.Pairs.{pair_back, pair_on}
@@ -66,11 +66,11 @@ module _ (disk middle new : Disk) (ps : List Pair) (old_path new_path : Path) (d
   qs = chain ++ (front ++ x ∷ o ∷ back)
 
   but_o : AllReachedBut (chain ++ (front ++ x ∷ o ∷ back)) o.at
-  but_o = every (λ z. IsReachedBySome qs z ⊎ (same_pair z o.at ≡ true)) (All-from_recursion (λ (z : ThreadDirectory). IsReachedBySome qs z.at ⊎ (same_pair z.at o.at ≡ true)) (all_directories ps)
-      (each_weaker (λ (z : ThreadDirectory). IsReachedBySome ps z.at) (λ (z : ThreadDirectory). IsReachedBySome qs z.at ⊎ (same_pair z.at o.at ≡ true)) (λ z h. go z.at (replaced_reached (address_at_path (all_entries ps) (root_address ps)) old_path new_path d replaced z.at h))
-      (all_directories ps) (recursion_from_All (λ (z : ThreadDirectory). IsReachedBySome ps z.at) (all_directories ps) reached)))
+  but_o = every (λ z. IsReachedDirectory qs z ⊎ (same_pair z o.at ≡ true)) (All-from_recursion (λ (z : ThreadDirectory). IsReachedDirectory qs z.at ⊎ (same_pair z.at o.at ≡ true)) (all_directories ps)
+      (each_weaker (λ (z : ThreadDirectory). IsReachedDirectory ps z.at) (λ (z : ThreadDirectory). IsReachedDirectory qs z.at ⊎ (same_pair z.at o.at ≡ true)) (λ z h. go z.at (replaced_reached (address_at_path (all_entries ps) (root_address ps)) old_path new_path d replaced z.at h))
+      (all_directories ps) (recursion_from_All (λ (z : ThreadDirectory). IsReachedDirectory ps z.at) (all_directories ps) reached)))
     where
-      go : (z : ℕ × ℕ) → IsLedTo (renamed_addresses old_path new_path (address_at_path (all_entries ps) (root_address ps))) z ⊎ (same_pair z d ≡ true) → IsReachedBySome qs z ⊎ (same_pair z o.at ≡ true)
+      go : (z : ℕ × ℕ) → IsLedTo (renamed_addresses old_path new_path (address_at_path (all_entries ps) (root_address ps))) z ⊎ (same_pair z d ≡ true) → IsReachedDirectory qs z ⊎ (same_pair z o.at ≡ true)
       go z (inl (path, at, (k, s))) = inl (path, at, (ap (λ walk. walk path) first.follows.leads ∙ k, s))
       go z (inr e) = inr (pair_on z d o.at e (pair_back o.at d address))
 

@@ -1,6 +1,6 @@
 -- An empty directory is removed by the steps themselves: its entry goes with the sync bit set, and then its pair goes from the thread.
 use Rattle.std.proofs.Common.{ℕ, ◌≡◌, ◌⊎◌, inl, inr, true, false, List, [], ◌∷◌, ◌++◌, Some, None, sym, ap, subst}
-use Rattle.lfs_model.proofs.Common.{All-from_recursion, recursion_from_All, Disk, Slot, Branch, zero_gstate, is_superblock, same_pair, Pair, ThreadDirectory, pairs_gstate, is_hard_tail, Path, IsAccepted, IsReachedBySome, LeadsTo, all_directories, all_entries, IsWritable, tree_removing, tree_with_subtree, slot_of}
+use Rattle.lfs_model.proofs.Common.{All-from_recursion, recursion_from_All, Disk, Slot, Branch, zero_gstate, is_superblock, same_pair, Pair, ThreadDirectory, pairs_gstate, is_hard_tail, Path, IsAccepted, IsReachedDirectory, IsDirectoryAtPath, all_directories, all_entries, IsWritable, tree_removing, tree_with_subtree, slot_of_path}
 use Rattle.lfs_model.proofs.LeftFiles.{ends_same}
 use Rattle.lfs_model.proofs.Counts.{each_weaker}
 use Rattle.lfs_model.proofs.Pairs.{pair_back, pair_on}
@@ -35,7 +35,7 @@ pub record IsGone (middle new : Disk) (chain front : List Pair) (x o y : Pair) (
 
 module _ (disk middle new : Disk) (w : Site) (p : Pair) (mids : List Pair) (q : Pair) (l r : List Slot) (u : Slot) (step : IsStep disk middle w p mids q [] [] [] l (u ∷ []) [] r) (other : is_superblock u ≡ false)
     (writable : IsWritable middle (thread_at w (q ∷ [])))
-    (P : Path) (a : ℕ × ℕ) (leads : LeadsTo (thread_at w (p ∷ mids)) P a) (same : same_pair (begin_of w (p ∷ mids)) a ≡ true)
+    (P : Path) (a : ℕ × ℕ) (leads : IsDirectoryAtPath (thread_at w (p ∷ mids)) P a) (same : same_pair (begin_of w (p ∷ mids)) a ≡ true)
     (d : ℕ × ℕ) (branch : u.struct ≡ Branch d) (empty : all_entries (thread_at w (p ∷ mids)) d ≡ []) (sync : (pairs_gstate (thread_at w (q ∷ []))).sync ≡ true)
     (settled : pairs_gstate (thread_at w (p ∷ mids)) ≡ zero_gstate)
     (front : List Pair) (x o y : Pair) (back : List Pair) (there : dirs_at w (q ∷ []) ≡ front ++ x ∷ o ∷ back) (address : same_pair o.at d ≡ true) (alone : is_hard_tail o.content.tail ≡ false)
@@ -50,12 +50,12 @@ module _ (disk middle new : Disk) (w : Site) (p : Pair) (mids : List Pair) (q : 
   thread_is = ap (λ z. w.chain ++ z) there
 
   but_o : AllReachedBut (thread_at w (q ∷ [])) o.at
-  but_o = All-from_recursion (λ z. IsReachedBySome (thread_at w (q ∷ [])) z.at ⊎ (same_pair z.at o.at ≡ true)) (all_directories (thread_at w (q ∷ [])))
-      (each_weaker (λ (z : ThreadDirectory). IsReachedBySome (thread_at w (q ∷ [])) z.at ⊎ (same_pair z.at d ≡ true)) (λ (z : ThreadDirectory). IsReachedBySome (thread_at w (q ∷ [])) z.at ⊎ (same_pair z.at o.at ≡ true)) (λ z k. go z k) (all_directories (thread_at w (q ∷ [])))
-      (recursion_from_All (λ (z : ThreadDirectory). IsReachedBySome (thread_at w (q ∷ [])) z.at ⊎ (same_pair z.at d ≡ true)) (all_directories (thread_at w (q ∷ [])))
+  but_o = All-from_recursion (λ z. IsReachedDirectory (thread_at w (q ∷ [])) z.at ⊎ (same_pair z.at o.at ≡ true)) (all_directories (thread_at w (q ∷ [])))
+      (each_weaker (λ (z : ThreadDirectory). IsReachedDirectory (thread_at w (q ∷ [])) z.at ⊎ (same_pair z.at d ≡ true)) (λ (z : ThreadDirectory). IsReachedDirectory (thread_at w (q ∷ [])) z.at ⊎ (same_pair z.at o.at ≡ true)) (λ z k. go z k) (all_directories (thread_at w (q ∷ [])))
+      (recursion_from_All (λ (z : ThreadDirectory). IsReachedDirectory (thread_at w (q ∷ [])) z.at ⊎ (same_pair z.at d ≡ true)) (all_directories (thread_at w (q ∷ [])))
       (directory_goes_reached disk middle w p mids q [] [] [] l r u step other P a leads same d branch empty sync (recovered_from disk (thread_at w (p ∷ mids)) step.accepted settled).reached)))
     where
-      go : (z : ThreadDirectory) → IsReachedBySome (thread_at w (q ∷ [])) z.at ⊎ (same_pair z.at d ≡ true) → IsReachedBySome (thread_at w (q ∷ [])) z.at ⊎ (same_pair z.at o.at ≡ true)
+      go : (z : ThreadDirectory) → IsReachedDirectory (thread_at w (q ∷ [])) z.at ⊎ (same_pair z.at d ≡ true) → IsReachedDirectory (thread_at w (q ∷ [])) z.at ⊎ (same_pair z.at o.at ≡ true)
       go z (inl k) = inl k
       go z (inr k) = inr (pair_on z.at d o.at k (pair_back o.at d address))
 
@@ -75,7 +75,7 @@ module _ (disk middle new : Disk) (w : Site) (p : Pair) (mids : List Pair) (q : 
         slots = gone.slots;
         tail = gone.tail;
         unled = λ other_path z k e. directory_goes_unled disk middle w p mids q [] [] [] l r u step other P a leads same d branch empty sync other_path z
-            (subst (λ xs. LeadsTo xs other_path z) (sym thread_is) k) (pair_on d o.at z (pair_back o.at d address) e);
+            (subst (λ xs. IsDirectoryAtPath xs other_path z) (sym thread_is) k) (pair_on d o.at z (pair_back o.at d address) e);
         reached = λ e. (alone, subst (λ xs. AllReachedBut xs o.at) thread_is but_o);
       })
 
@@ -83,5 +83,5 @@ module _ (disk middle new : Disk) (w : Site) (p : Pair) (mids : List Pair) (q : 
   rmdir_taken = taken_then disk middle new ps (thread_at w (q ∷ [])) (w.chain ++ (front ++ y ∷ back)) (tree_removing (P ++ u.name ∷ [])) (λ t. t) (tree_with_subtree (P ++ u.name ∷ []) (λ t. None)) (λ z. z) (ends_same (tree_removing (P ++ u.name ∷ []))) first
       (subst (λ z. IsWritableChange middle z new (w.chain ++ (front ++ y ∷ back)) (λ t. t) (λ z. z)) (sym thread_is) second.taken)
 
-  pub rmdir_named : slot_of (thread_at w (p ∷ mids)) (P ++ u.name ∷ []) ≡ Some u
+  pub rmdir_named : slot_of_path (thread_at w (p ∷ mids)) (P ++ u.name ∷ []) ≡ Some u
   rmdir_named = slot_there disk ps P a (place_at w l) u step.accepted leads (goes_from disk middle w p mids q [] [] [] l r u step other P a leads same)

@@ -1,6 +1,6 @@
 -- The root directory stays where it is: as many pairs stand in front of it as before.
 use Rattle.std.proofs.Common.{ℕ, zero, suc, ◌≡◌, true, List, [], ◌∷◌, ◌++◌, length, drop, Option, Some, refl, sym, ap, subst, ◌∙◌, slice_get}
-use Rattle.lfs_model.proofs.Common.{same_Some, Disk, same_pair, AreLinked, Pair, anchor_address, pairs_from_root, first_address, tail_target, root_address, superblock_first, count_before_root, IsAccepted, first_pair_slots}
+use Rattle.lfs_model.proofs.Common.{same_Some, Disk, same_pair, AreLinkedByTails, Pair, superblock_pair_address, pairs_from_root, first_address, tail_target, root_address, begins_with_superblock, count_before_root, IsAccepted, first_pair_slots}
 use Rattle.lfs_model.specs.layers.Steps.{SameSlots}
 use Rattle.lfs_model.proofs.Pairs.{pair_itself}
 use Rattle.lfs_model.proofs.Searches.{same_number}
@@ -23,7 +23,7 @@ root_there : (disk : Disk) (ps : List Pair) → IsAccepted disk ps → HasAddres
 root_there disk ps ok = go (pairs_from_root ps) refl
   where
     go : (ds : List Pair) → pairs_from_root ps ≡ ds → HasAddress ps (count_before_root ps) (root_address ps)
-    go [] e = absurd (let k = ap (λ z. superblock_first (first_pair_slots z)) (sym e) ∙ ok.root in cc)
+    go [] e = absurd (let k = ap (λ z. begins_with_superblock (first_pair_slots z)) (sym e) ∙ ok.root in cc)
     go (d ∷ ds) e = (d, (get_dropped ps (count_before_root ps) d ds e, ap first_address (sym e)))
 
 number_of_root : (disk : Disk) (ps : List Pair) (n : ℕ) → IsAccepted disk ps → HasAddress ps n (root_address ps) → count_before_root ps ≡ n
@@ -33,11 +33,11 @@ number_of_root disk ps n ok (p, (there, at)) =
 
 -- ---- the pairs in front stay
 
-two_links : (at : Option (ℕ × ℕ)) (chain dirs news : List Pair) → AreLinked at (chain ++ dirs) → AreLinked at (chain ++ news) → (to : Option (ℕ × ℕ)) × (AreLinked to dirs × AreLinked to news)
+two_links : (at : Option (ℕ × ℕ)) (chain dirs news : List Pair) → AreLinkedByTails at (chain ++ dirs) → AreLinkedByTails at (chain ++ news) → (to : Option (ℕ × ℕ)) × (AreLinkedByTails to dirs × AreLinkedByTails to news)
 two_links at [] dirs news l m = (at, (l, m))
 two_links at (c ∷ chain) dirs news l m = two_links (tail_target c.content.tail) chain dirs news l.1 m.1
 
-first_there : (chain : List Pair) (to : Option (ℕ × ℕ)) (dirs news : List Pair) → AreLinked to dirs → AreLinked to news → superblock_first (first_pair_slots dirs) ≡ true → HasAddress (chain ++ news) (length chain) (first_address dirs)
+first_there : (chain : List Pair) (to : Option (ℕ × ℕ)) (dirs news : List Pair) → AreLinkedByTails to dirs → AreLinkedByTails to news → begins_with_superblock (first_pair_slots dirs) ≡ true → HasAddress (chain ++ news) (length chain) (first_address dirs)
 first_there chain to [] news l m e = absurd (cc)
 first_there chain to (d ∷ dirs) [] l m e = absurd (let k = sym m ∙ l.0 in cc)
 first_there chain to (d ∷ dirs) (n ∷ news) l m e = (n, (get_behind chain n news, same_Some n.at d.at (sym m.0 ∙ l.0)))
@@ -45,9 +45,9 @@ first_there chain to (d ∷ dirs) (n ∷ news) l m e = (n, (get_behind chain n n
 pub root_stays : (disk new : Disk) (chain dirs news : List Pair) → IsChain chain dirs → IsAccepted disk (chain ++ dirs) → IsAccepted new (chain ++ news) → root_address (chain ++ news) ≡ root_address (chain ++ dirs)
     → count_before_root (chain ++ news) ≡ count_before_root (chain ++ dirs)
 root_stays disk new chain dirs news is_chain ok now same =
-    let l = two_links (Some anchor_address) chain dirs news ok.thread.links now.thread.links in
+    let l = two_links (Some superblock_pair_address) chain dirs news ok.thread.links now.thread.links in
     let dirs_are = pairs_behind chain dirs is_chain in
-    let first = first_there chain l.0 dirs news l.1.0 l.1.1 (ap (λ z. superblock_first (first_pair_slots z)) (sym dirs_are) ∙ ok.root) in
+    let first = first_there chain l.0 dirs news l.1.0 l.1.1 (ap (λ z. begins_with_superblock (first_pair_slots z)) (sym dirs_are) ∙ ok.root) in
     number_of_root new (chain ++ news) (length chain) now (first.0, (first.1.0, first.1.1 ∙ ap first_address (sym dirs_are) ∙ sym same)) ∙ sym is_chain
 
 -- ---- pairs of the same addresses

@@ -2,9 +2,9 @@
 -- the superblock's, or leaves the superblock's pair.
 use Rattle.std.proofs.Common.{ℕ, ◌≡◌, ◌+◌, ◌≤◌, true, false, cond, ◌&&◌, List, [], ◌∷◌, ◌++◌, length, take, drop, slice_get, zero, suc, ◌<◌, ◌-◌, take-append-drop, length-take, length-drop, option_map, Some, refl, sym, ap, ap₂, subst, ◌∙◌, arith, append_assoc, length-append}
 use Rattle.std.specs.Prelude.{All, sum_by}
-use Rattle.lfs_model.proofs.Common.{and_from, drop-append-add, sum_by-cons, All-from_recursion, recursion_from_All, Disk, SameGeometry, pair_capacity, slots_limit, Slot, PairContent, slot_size, FitsInPair, content_at, current_block, Pair, pairs_blocks, anchor_address, AreLinked, address_blocks, pairs_from_filled, first_address, has_slots, is_hard_tail, superblock_first, superblock_or_later, has_no_entry, chain_may_continue, has_superblock, count_before_root, pairs_gstate, pairs_from_root, BeginsWith, superblock_entry, IsSuperblockFirst, SuperblockFirstIfAny, RepeatsSuperblockStruct, IsTreeEntry, first_slot_name, first_pair_slots, IsAccepted, IsWritableSlot, HasNoEmpties, IsWritable, SameFileBlocks, struct_blocks, all_unmoved_slots}
+use Rattle.lfs_model.proofs.Common.{and_from, drop-append-add, sum_by-cons, All-from_recursion, recursion_from_All, Disk, SameGeometry, pair_capacity, slots_limit, Slot, PairContent, slot_size, FitsInPair, content_at, current_block, Pair, pairs_blocks, superblock_pair_address, AreLinkedByTails, address_blocks, pairs_from_nonempty, first_address, has_slots, is_hard_tail, begins_with_superblock, superblock_first_or_empty, has_no_entry, chain_may_continue, has_superblock, count_before_root, pairs_gstate, pairs_from_root, HasFirstLogEntry, superblock_entry, IsSuperblockFirst, SuperblockFirstIfAny, RepeatsSuperblockStruct, IsFileOrDirectory, first_slot_name, first_pair_slots, IsAccepted, IsWritableSlot, HasNoEmptyPairs, IsWritable, SameFileBlocks, struct_blocks, all_unmoved_slots}
 use Rattle.lfs_model.specs.declared.limits.Profile.{Profile}
-use Rattle.lfs_model.proofs.Counts.{number_occurrences, Each}
+use Rattle.lfs_model.proofs.Counts.{occurrence_count, Each}
 use Rattle.lfs_model.proofs.Global.{HasNoMove}
 use Rattle.lfs_model.proofs.Superblocks.{Mark, StructMark, HasMark, IsChain, pairs_behind, hold_from_rules, meets_starting, starts, from_held}
 use Rattle.lfs_model.proofs.Changes.{links_changed}
@@ -15,7 +15,7 @@ use Rattle.lfs_model.proofs.RootMoved.{pairs_count, IsRootMoved, IsSameImage, ro
 
 -- ---- the writing profile
 
-writable_from : (disk new : Disk) (qs : List Pair) → SameGeometry disk new → Each (IsWithin disk.profile disk.block_size disk.page) qs → HasNoEmpties false (pairs_from_root qs) → IsWritable new qs
+writable_from : (disk new : Disk) (qs : List Pair) → SameGeometry disk new → Each (IsWithin disk.profile disk.block_size disk.page) qs → HasNoEmptyPairs false (pairs_from_root qs) → IsWritable new qs
 writable_from disk new qs g h empties = record {
   pairs = subst (λ b. All (λ r. FitsInPair b new.page r.content) qs) (sym g.block_size) (subst (λ z. All (λ r. FitsInPair disk.block_size z r.content) qs) (sym g.page)
       (All-from_recursion (λ r. FitsInPair disk.block_size disk.page r.content) qs (pair_parts qs h)));
@@ -36,9 +36,9 @@ writable_from disk new qs g h empties = record {
 
 -- the root directory's first pair has another address, and what it had
 empties_same : (chain now : List Pair) (r s : Pair) (rest : List Pair) → IsChain chain (r ∷ rest) → IsChain now (s ∷ rest) → s.content.tail ≡ r.content.tail →
-    HasNoEmpties false (pairs_from_root (chain ++ r ∷ rest)) → HasNoEmpties false (pairs_from_root (now ++ s ∷ rest))
-empties_same chain now r s rest was is tail h = subst (HasNoEmpties false) (sym (pairs_behind now (s ∷ rest) is))
-    ((λ e. absurd (cc)), subst (λ t. HasNoEmpties (is_hard_tail t) rest) (sym tail) (subst (HasNoEmpties false) (pairs_behind chain (r ∷ rest) was) h).1)
+    HasNoEmptyPairs false (pairs_from_root (chain ++ r ∷ rest)) → HasNoEmptyPairs false (pairs_from_root (now ++ s ∷ rest))
+empties_same chain now r s rest was is tail h = subst (HasNoEmptyPairs false) (sym (pairs_behind now (s ∷ rest) is))
+    ((λ e. absurd (cc)), subst (λ t. HasNoEmptyPairs (is_hard_tail t) rest) (sym tail) (subst (HasNoEmptyPairs false) (pairs_behind chain (r ∷ rest) was) h).1)
 
 -- an accepted image in the profile, with the same tree
 pub record IsSameWritable (disk : Disk) (ps : List Pair) (new : Disk) (qs : List Pair) : Type 0 where
@@ -65,7 +65,7 @@ superblock_alike : (ps qs : List Pair) → SameOutlines ps qs → has_superblock
 superblock_alike [] [] h = refl
 superblock_alike [] (q ∷ qs) h = absurd h
 superblock_alike (p ∷ ps) [] h = absurd h
-superblock_alike (p ∷ ps) (q ∷ qs) h = ap₂ (λ slots b. superblock_or_later slots b) h.0 (ap₂ (λ x y. x && y) h.1 (superblock_alike ps qs h.2))
+superblock_alike (p ∷ ps) (q ∷ qs) h = ap₂ (λ slots b. superblock_first_or_empty slots b) h.0 (ap₂ (λ x y. x && y) h.1 (superblock_alike ps qs h.2))
 
 count_alike : (ps qs : List Pair) → SameOutlines ps qs → count_before_root qs ≡ count_before_root ps
 count_alike [] [] h = refl
@@ -74,19 +74,19 @@ count_alike (p ∷ ps) [] h = absurd h
 count_alike (p ∷ ps) (q ∷ qs) h =
     ap₂ (λ b n. cond b (1 + n) 0) (ap₂ (λ x y. x && y) (superblock_alike ps qs h.2) (ap₂ (λ slots b. has_no_entry slots && b) h.0 h.1)) (count_alike ps qs h.2)
 
-named_alike : (ps qs : List Pair) → SameOutlines ps qs → first_slot_name (pairs_from_filled qs) ≡ first_slot_name (pairs_from_filled ps)
+named_alike : (ps qs : List Pair) → SameOutlines ps qs → first_slot_name (pairs_from_nonempty qs) ≡ first_slot_name (pairs_from_nonempty ps)
 named_alike [] [] h = refl
 named_alike [] (q ∷ qs) h = absurd h
 named_alike (p ∷ ps) [] h = absurd h
 named_alike (p ∷ ps) (q ∷ qs) h = go p.content.slots q.content.slots h.0 refl refl (named_alike ps qs h.2)
   where
-    go : (s t : List Slot) → t ≡ s → p.content.slots ≡ s → q.content.slots ≡ t → first_slot_name (pairs_from_filled qs) ≡ first_slot_name (pairs_from_filled ps) →
-        first_slot_name (pairs_from_filled (q ∷ qs)) ≡ first_slot_name (pairs_from_filled (p ∷ ps))
-    go [] [] e f k next = ap (λ z. first_slot_name (cond (has_slots z) (q ∷ qs) (pairs_from_filled qs))) k ∙ next ∙ sym (ap (λ z. first_slot_name (cond (has_slots z) (p ∷ ps) (pairs_from_filled ps))) f)
+    go : (s t : List Slot) → t ≡ s → p.content.slots ≡ s → q.content.slots ≡ t → first_slot_name (pairs_from_nonempty qs) ≡ first_slot_name (pairs_from_nonempty ps) →
+        first_slot_name (pairs_from_nonempty (q ∷ qs)) ≡ first_slot_name (pairs_from_nonempty (p ∷ ps))
+    go [] [] e f k next = ap (λ z. first_slot_name (cond (has_slots z) (q ∷ qs) (pairs_from_nonempty qs))) k ∙ next ∙ sym (ap (λ z. first_slot_name (cond (has_slots z) (p ∷ ps) (pairs_from_nonempty ps))) f)
     go [] (y ∷ t) e f k next = absurd (cc)
     go (x ∷ s) [] e f k next = absurd (cc)
-    go (x ∷ s) (y ∷ t) e f k next = ap (λ z. first_slot_name (cond (has_slots z) (q ∷ qs) (pairs_from_filled qs))) k ∙ ap (λ z. first_slot_name (record { at = q.at; content = record { slots = z; tail = q.content.tail; move = q.content.move } } ∷ qs)) h.0
-        ∙ sym (ap (λ z. first_slot_name (cond (has_slots z) (p ∷ ps) (pairs_from_filled ps))) f)
+    go (x ∷ s) (y ∷ t) e f k next = ap (λ z. first_slot_name (cond (has_slots z) (q ∷ qs) (pairs_from_nonempty qs))) k ∙ ap (λ z. first_slot_name (record { at = q.at; content = record { slots = z; tail = q.content.tail; move = q.content.move } } ∷ qs)) h.0
+        ∙ sym (ap (λ z. first_slot_name (cond (has_slots z) (p ∷ ps) (pairs_from_nonempty ps))) f)
 
 each_alike : (P : List Slot → Type 0) (ps qs : List Pair) → SameOutlines ps qs → Each (λ r. P r.content.slots) ps → Each (λ r. P r.content.slots) qs
 each_alike P [] [] h k = tt
@@ -128,13 +128,13 @@ record HasPair (ps : List Pair) : Type 0 where
   others : List Pair
   is : ps ≡ first ∷ others
 
-has_pair : (ps : List Pair) → superblock_first (first_pair_slots ps) ≡ true → HasPair ps
+has_pair : (ps : List Pair) → begins_with_superblock (first_pair_slots ps) ≡ true → HasPair ps
 has_pair [] e = absurd (cc)
 has_pair (p ∷ ps) e = record { first = p; others = ps; is = refl }
 
 module _ (disk new : Disk) (front : List Pair) (p x q y : Pair) (back : List Pair) (ok : IsAccepted disk (front ++ p ∷ x ∷ back)) (fits : IsWritable disk (front ++ p ∷ x ∷ back))
     (none : HasNoMove (pairs_gstate (front ++ p ∷ x ∷ back))) (many : length front < count_before_root (front ++ p ∷ x ∷ back)) (c : IsRelocated disk new front p x q y back)
-    (first : BeginsWith (current_block new (first_address (pairs_from_filled (front ++ q ∷ y ∷ back)))) superblock_entry) where
+    (first : HasFirstLogEntry (current_block new (first_address (pairs_from_nonempty (front ++ q ∷ y ∷ back)))) superblock_entry) where
   abbrev old : List Pair
   old = front ++ p ∷ x ∷ back
 
@@ -168,7 +168,7 @@ module _ (disk new : Disk) (front : List Pair) (p x q y : Pair) (back : List Pai
       go (suc j) e =
           let count : count_before_root old ≡ length front + suc (suc j) = omega (arith, e) in
           let there : pairs_from_root old ≡ drop j back = ap (λ n. drop n old) count ∙ drop-append-add front (p ∷ x ∷ back) (suc (suc j)) in
-          let more = has_pair (drop j back) (ap (λ z. superblock_first (first_pair_slots z)) (sym there) ∙ ok.root) in
+          let more = has_pair (drop j back) (ap (λ z. begins_with_superblock (first_pair_slots z)) (sym there) ∙ ok.root) in
           let all : back ≡ take j back ++ more.first ∷ more.others = sym (take-append-drop j back) ∙ ap (λ z. take j back ++ z) more.is in
           record {
             chain = front ++ p ∷ x ∷ take j back;
@@ -197,21 +197,21 @@ module _ (disk new : Disk) (front : List Pair) (p x q y : Pair) (back : List Pai
   is_chain = count_alike (parted.chain ++ parted.r ∷ parted.rest) (parted.now ++ parted.s ∷ parted.rest) outlines_parted ∙ was_chain ∙ sym parted.alike
 
   shape : IsShape p (x ∷ []) q (y ∷ []) (y.at.0 ∷ y.at.1 ∷ [])
-  shape = move_shape p x q y c.at c.tail (ap (λ (z : PairContent). z.tail) c.same) (λ e. ap superblock_first c.slots ∙ e)
+  shape = move_shape p x q y c.at c.tail (ap (λ (z : PairContent). z.tail) c.same) (λ e. ap begins_with_superblock c.slots ∙ e)
 
-  blocks_old : (b : ℕ) → number_occurrences b (pairs_blocks old) ≡ number_occurrences b (pairs_blocks (parted.chain ++ parted.r ∷ [])) + number_occurrences b (pairs_blocks parted.rest)
-  blocks_old b = omega (arith, ap (λ z. number_occurrences b (pairs_blocks z)) parted.was, pairs_count b parted.chain (parted.r ∷ parted.rest), pairs_count b (parted.r ∷ []) parted.rest, pairs_count b parted.chain (parted.r ∷ []))
+  blocks_old : (b : ℕ) → occurrence_count b (pairs_blocks old) ≡ occurrence_count b (pairs_blocks (parted.chain ++ parted.r ∷ [])) + occurrence_count b (pairs_blocks parted.rest)
+  blocks_old b = omega (arith, ap (λ z. occurrence_count b (pairs_blocks z)) parted.was, pairs_count b parted.chain (parted.r ∷ parted.rest), pairs_count b (parted.r ∷ []) parted.rest, pairs_count b parted.chain (parted.r ∷ []))
 
-  blocks_new : (b : ℕ) → number_occurrences b (pairs_blocks qs) ≡ number_occurrences b (pairs_blocks (parted.now ++ parted.s ∷ [])) + number_occurrences b (pairs_blocks parted.rest)
-  blocks_new b = omega (arith, ap (λ z. number_occurrences b (pairs_blocks z)) parted.is, pairs_count b parted.now (parted.s ∷ parted.rest), pairs_count b (parted.s ∷ []) parted.rest, pairs_count b parted.now (parted.s ∷ []))
+  blocks_new : (b : ℕ) → occurrence_count b (pairs_blocks qs) ≡ occurrence_count b (pairs_blocks (parted.now ++ parted.s ∷ [])) + occurrence_count b (pairs_blocks parted.rest)
+  blocks_new b = omega (arith, ap (λ z. occurrence_count b (pairs_blocks z)) parted.is, pairs_count b parted.now (parted.s ∷ parted.rest), pairs_count b (parted.s ∷ []) parted.rest, pairs_count b parted.now (parted.s ∷ []))
 
   moved : IsRootMoved disk new parted.chain parted.r parted.now parted.s parted.rest (address_blocks y.at)
   moved = record {
     geometry = c.device.geometry;
     contents = subst (All (λ r. content_at new r.at ≡ Some r.content)) parted.is c.device.contents;
-    first = subst (λ z. BeginsWith (current_block new (first_address (pairs_from_filled z))) superblock_entry) parted.is first;
+    first = subst (λ z. HasFirstLogEntry (current_block new (first_address (pairs_from_nonempty z))) superblock_entry) parted.is first;
     files = subst (λ z. All (λ u. SameFileBlocks disk new u.struct) (all_unmoved_slots z)) parted.was c.device.files;
-    links = subst (AreLinked (Some anchor_address)) parted.is (links_changed front (p ∷ x ∷ back) (q ∷ y ∷ back) (shape.links back) (Some anchor_address) ok.thread.links);
+    links = subst (AreLinkedByTails (Some superblock_pair_address)) parted.is (links_changed front (p ∷ x ∷ back) (q ∷ y ∷ back) (shape.links back) (Some superblock_pair_address) ok.thread.links);
     slots = parted.slots;
     tail = parted.tail;
     still = ap pairs_gstate (sym parted.is) ∙ relocated_gstate front p x q y back c.delta c.same ∙ ap pairs_gstate parted.was;
@@ -227,21 +227,21 @@ module _ (disk new : Disk) (front : List Pair) (p x q y : Pair) (back : List Pai
     same = subst (λ z. IsSameImage disk z new qs) (sym parted.was) (subst (IsSameImage disk (parted.chain ++ parted.r ∷ parted.rest) new) (sym parted.is)
         (root_moved disk new parted.chain parted.r parted.now parted.s parted.rest (address_blocks y.at) was_chain (subst (IsAccepted disk) parted.was ok) (subst (λ z. HasNoMove (pairs_gstate z)) parted.was none) moved));
     writable = writable_from disk new qs c.device.geometry (within_alike disk old qs outlines (each_within disk old fits))
-        (subst (λ z. HasNoEmpties false (pairs_from_root z)) (sym parted.is) (empties_same parted.chain parted.now parted.r parted.s parted.rest was_chain is_chain parted.tail
-        (subst (λ z. HasNoEmpties false (pairs_from_root z)) parted.was fits.no_empty_pair)));
+        (subst (λ z. HasNoEmptyPairs false (pairs_from_root z)) (sym parted.is) (empties_same parted.chain parted.now parted.r parted.s parted.rest was_chain is_chain parted.tail
+        (subst (λ z. HasNoEmptyPairs false (pairs_from_root z)) parted.was fits.no_empty_pair)));
   }
 
 -- ---- the root leaves the superblock's pair
 
 take_marked : (P : Slot → Type 0) (slots : List Slot) → IsSuperblockFirst P slots → IsSuperblockFirst P (take 1 slots)
 take_marked P [] h = absurd h
-take_marked P (s ∷ slots) h = (h.0, h.1, All-from_recursion IsTreeEntry [] tt)
+take_marked P (s ∷ slots) h = (h.0, h.1, All-from_recursion IsFileOrDirectory [] tt)
 
 headed : (P : Slot → Type 0) (slots : List Slot) → IsSuperblockFirst P slots → SuperblockFirstIfAny P slots
 headed P [] h = absurd h
 headed P (s ∷ slots) h = h
 
-take_bare : (slots : List Slot) → superblock_first slots ≡ true → has_no_entry (take 1 slots) ≡ true
+take_bare : (slots : List Slot) → begins_with_superblock slots ≡ true → has_no_entry (take 1 slots) ≡ true
 take_bare [] e = refl
 take_bare (s ∷ slots) e = e
 
@@ -278,13 +278,13 @@ module _ (disk new : Disk) (x q y : Pair) (back : List Pair) (ok : IsAccepted di
       go [] h = absurd h
       go (s ∷ slots) h = ap (λ t. struct_blocks new t ++ []) h.1.1.0
 
-  x_starts : superblock_first x.content.slots ≡ true
+  x_starts : begins_with_superblock x.content.slots ≡ true
   x_starts = starts x.content.slots (StructMark disk.profile.versions bytes) held
 
-  old_front : pairs_from_filled (x ∷ back) ≡ x ∷ back
+  old_front : pairs_from_nonempty (x ∷ back) ≡ x ∷ back
   old_front = from_held (StructMark disk.profile.versions bytes) x back held
 
-  new_front : pairs_from_filled (q ∷ y ∷ back) ≡ q ∷ y ∷ back
+  new_front : pairs_from_nonempty (q ∷ y ∷ back) ≡ q ∷ y ∷ back
   new_front = from_held (StructMark disk.profile.versions bytes) q (y ∷ back) (kept_marked (StructMark disk.profile.versions bytes) held)
 
   split : IsShape x [] q (y ∷ []) (y.at.0 ∷ y.at.1 ∷ [])
@@ -295,7 +295,7 @@ module _ (disk new : Disk) (x q y : Pair) (back : List Pair) (ok : IsAccepted di
 
   expanded_chain : IsChain (q ∷ []) (y ∷ back)
   expanded_chain = ap₂ (λ b n. cond b (1 + n) 0)
-      (and_from (has_superblock (y ∷ back)) (chain_may_continue q) (meets_starting y back (ap superblock_first c.slots ∙ x_starts))
+      (and_from (has_superblock (y ∷ back)) (chain_may_continue q) (meets_starting y back (ap begins_with_superblock c.slots ∙ x_starts))
       (and_from (has_no_entry q.content.slots) (is_hard_tail q.content.tail) (ap has_no_entry c.kept ∙ take_bare x.content.slots x_starts) (ap is_hard_tail c.tail)))
       behind_root
 
@@ -303,9 +303,9 @@ module _ (disk new : Disk) (x q y : Pair) (back : List Pair) (ok : IsAccepted di
   expanded = record {
     geometry = c.device.geometry;
     contents = c.device.contents;
-    first = subst (λ a. BeginsWith (current_block new a) superblock_entry) (ap first_address old_front ∙ sym c.at ∙ sym (ap first_address new_front)) c.device.first;
+    first = subst (λ a. HasFirstLogEntry (current_block new a) superblock_entry) (ap first_address old_front ∙ sym c.at ∙ sym (ap first_address new_front)) c.device.first;
     files = c.device.files;
-    links = split.links back (Some anchor_address) ok.thread.links;
+    links = split.links back (Some superblock_pair_address) ok.thread.links;
     slots = c.slots;
     tail = c.last;
     still = unloaded_gstate [] x q y back c.delta c.none;

@@ -2,7 +2,7 @@
 use Rattle.std.proofs.Common.{◌≡◌, inl, inr, true, false, ◌&&◌, ◌||◌, map, List, [], ◌∷◌, ◌++◌, Option, Some, None, is_some, refl, sym, ap, ◌∙◌, append_assoc, append-nil}
 use Rattle.std.proofs.lemmas.List.{map-append}
 use Rattle.lfs_model.proofs.Common.{Operation, Reply, SystemState, ArePerformed, IsRun, accepted_operation, and_parts}
-use Rattle.lfs_model.specs.crash.Lives.{Turn, IsTurn, FailLikeLossInside, IsLifeOfRun, IsRunInTurns, answered, failed, all_answered, fails_last, is_last}
+use Rattle.lfs_model.specs.crash.Lives.{Turn, IsTurn, FailLikeLossBeforeLast, IsLifeOfRun, IsRunInTurns, answered, failed, all_answered, only_last_may_fail, is_last}
 use Rattle.lfs_model.proofs.JoinedLives.{lives_joined}
 use Rattle.lfs_model.proofs.SessionSteps.{tree_step}
 
@@ -32,31 +32,31 @@ performed_lived before operations replies from to h = (in_turns before operation
 -- ---- where errors ended turns
 
 -- a turn that an error ended is the last one
-pub only : (turns : List Turn) (r : Option Reply) → r ≡ None → ((is_some r || is_last turns) && fails_last turns) ≡ true → turns ≡ []
+pub only : (turns : List Turn) (r : Option Reply) → r ≡ None → ((is_some r || is_last turns) && only_last_may_fail turns) ≡ true → turns ≡ []
 only [] r is last = refl
-only (turn ∷ turns) r is last = absurd (let k : false ≡ true = sym (ap (λ r. (is_some r || false) && fails_last (turn ∷ turns)) is) ∙ last in cc)
+only (turn ∷ turns) r is last = absurd (let k : false ≡ true = sym (ap (λ r. (is_some r || false) && only_last_may_fail (turn ∷ turns)) is) ∙ last in cc)
 
 -- so of those inside nothing is to be supposed
-pub none_inside : (from : SystemState) (turns : List Turn) → fails_last turns ≡ true → FailLikeLossInside from turns
+pub none_inside : (from : SystemState) (turns : List Turn) → only_last_may_fail turns ≡ true → FailLikeLossBeforeLast from turns
 none_inside from [] last = tt
 none_inside from (turn ∷ turns) last = ((λ is some. absurd (some (only turns turn.reply is last))), none_inside turn.to turns (and_parts _ _ last).1)
 
-pub answered_last : (turns : List Turn) → all_answered turns ≡ true → fails_last turns ≡ true
+pub answered_last : (turns : List Turn) → all_answered turns ≡ true → only_last_may_fail turns ≡ true
 answered_last [] all = refl
 answered_last (turn ∷ turns) all =
     let both = and_parts _ _ all in
-    ap (λ b. (b || is_last turns) && fails_last turns) both.0 ∙ answered_last turns both.1
+    ap (λ b. (b || is_last turns) && only_last_may_fail turns) both.0 ∙ answered_last turns both.1
 
 -- ---- a run, also one that an error ends
 
 abbrev op_of : Turn → Operation
 op_of turn = turn.op
 
-ends_last : (turns : List Turn) (op : Operation) (to : SystemState) → all_answered turns ≡ true → fails_last (turns ++ failed op to ∷ []) ≡ true
+ends_last : (turns : List Turn) (op : Operation) (to : SystemState) → all_answered turns ≡ true → only_last_may_fail (turns ++ failed op to ∷ []) ≡ true
 ends_last [] op to all = refl
 ends_last (turn ∷ turns) op to all =
     let both = and_parts _ _ all in
-    ap (λ b. (b || is_last (turns ++ failed op to ∷ [])) && fails_last (turns ++ failed op to ∷ [])) both.0 ∙ ends_last turns op to both.1
+    ap (λ b. (b || is_last (turns ++ failed op to ∷ [])) && only_last_may_fail (turns ++ failed op to ∷ [])) both.0 ∙ ends_last turns op to both.1
 
 never_all : (turns : List Turn) (op : Operation) (to : SystemState) → all_answered (turns ++ failed op to ∷ []) ≡ true → ⊥
 never_all [] op to all = absurd (cc)

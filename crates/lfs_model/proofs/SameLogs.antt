@@ -5,7 +5,7 @@ use Rattle.std.proofs.lemmas.Bool.{lt-ltb}
 use Rattle.lfs_model.specs.format.Log.{LogEntry, block_revision, block_entries}
 use Rattle.lfs_model.specs.format.Content.{has_commit}
 use Rattle.lfs_model.specs.crash.Stops.{SameLog, SameRevision, HasNoLog, log_revision}
-use Rattle.lfs_model.specs.format.Log.{BlockLog, chain_of, committed_log}
+use Rattle.lfs_model.specs.format.Log.{BlockLog, chain_of, log_if_committed}
 
 abbrev commits_in : Option BlockLog → List (List LogEntry)
 commits_in None = []
@@ -15,11 +15,11 @@ abbrev revision_in : Option BlockLog → ℕ
 revision_in None = 0
 revision_in (Some log) = log.revision
 
-commits_reported : (r : ℕ) (cs : List (List LogEntry)) → commits_in (committed_log r cs) ≡ cs
+commits_reported : (r : ℕ) (cs : List (List LogEntry)) → commits_in (log_if_committed r cs) ≡ cs
 commits_reported r [] = refl
 commits_reported r (c ∷ cs) = refl
 
-revision_reported : (r : ℕ) (cs : List (List LogEntry)) → nat_lt 0 (length cs) ≡ true → revision_in (committed_log r cs) ≡ r
+revision_reported : (r : ℕ) (cs : List (List LogEntry)) → nat_lt 0 (length cs) ≡ true → revision_in (log_if_committed r cs) ≡ r
 revision_reported r [] some = absurd (cc)
 revision_reported r (c ∷ cs) some = refl
 
@@ -52,9 +52,9 @@ told : (x : List ℕ) (h : Bool) → has_commit x ≡ h → log_revision x ≡ c
 told x h = go (chain_of x).commits refl h
   where
     go : (cs : List (List LogEntry)) → (chain_of x).commits ≡ cs → (h : Bool) → has_commit x ≡ h → log_revision x ≡ cond h (Some (block_revision x)) None
-    go cs is h has = ap (λ k. option_map (λ (log : BlockLog). log.revision) (committed_log (block_revision x) k)) is ∙ by_commits cs h (sym (ap (λ (k : List (List LogEntry)). nat_lt 0 (length k)) is) ∙ has)
+    go cs is h has = ap (λ k. option_map (λ (log : BlockLog). log.revision) (log_if_committed (block_revision x) k)) is ∙ by_commits cs h (sym (ap (λ (k : List (List LogEntry)). nat_lt 0 (length k)) is) ∙ has)
       where
-        by_commits : (cs : List (List LogEntry)) (h : Bool) → nat_lt 0 (length cs) ≡ h → option_map (λ (log : BlockLog). log.revision) (committed_log (block_revision x) cs) ≡ cond h (Some (block_revision x)) None
+        by_commits : (cs : List (List LogEntry)) (h : Bool) → nat_lt 0 (length cs) ≡ h → option_map (λ (log : BlockLog). log.revision) (log_if_committed (block_revision x) cs) ≡ cond h (Some (block_revision x)) None
         by_commits [] true is = absurd (cc)
         by_commits [] false is = refl
         by_commits (c ∷ cs) true is = refl

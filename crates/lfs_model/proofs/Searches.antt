@@ -3,9 +3,9 @@ use Rattle.std.proofs.Common.{ℕ, zero, suc, ◌≡◌, ◌≢◌, ◌⊎◌, i
 use Rattle.std.specs.Prelude.{All}
 use Rattle.std.specs.List.{IsDistinct}
 use Rattle.std.proofs.Common.{nat_eq}
-use Rattle.lfs_model.proofs.Common.{filter-append, recursion_from_All, flat_map-append, same_Some, false_from_ne_true, Disk, Name, name_cmp, Slot, is_superblock, same_pair, Pair, is_hard_tail, pairs_blocks, pairs_gstate, count_before_root, pairs_from_root, Path, IsAccepted, IsTreeEntry, LeadsTo, all_entries, slot_of, directory_pair_count, entry_slots, all_slots}
+use Rattle.lfs_model.proofs.Common.{filter-append, recursion_from_All, flat_map-append, same_Some, false_from_ne_true, Disk, Name, name_cmp, Slot, is_superblock, same_pair, Pair, is_hard_tail, pairs_blocks, pairs_gstate, count_before_root, pairs_from_root, Path, IsAccepted, IsFileOrDirectory, IsDirectoryAtPath, all_entries, slot_of_path, directory_pair_count, entry_slots, all_slots}
 use Rattle.lfs_model.specs.crash.Frame.{tail_pairs, directory_pairs}
-use Rattle.lfs_model.specs.session.InDirectory.{FirstIsGreater, HaveNoSuperblock, HasHardTail, joined_count, AreJoined, last_joins, IsDirectoryPair, IsPairAt, IsPlaceOf, BelongsAt}
+use Rattle.lfs_model.specs.session.InDirectory.{BeginsWithGreaterName, HaveNoSuperblock, HasHardTail, joined_pair_count, AreJoinedByHardTails, last_has_hard_tail, IsDirectoryPair, IsPairAt, IsPositionOfName, IsInsertionPosition}
 use Rattle.lfs_model.proofs.Counts.{Each, each_append, each_right, each_weaker}
 use Rattle.lfs_model.proofs.Global.{HasNoMove}
 use Rattle.lfs_model.proofs.PairLists.{get_behind}
@@ -42,7 +42,7 @@ pub record IsDirectory (ps : List Pair) (a : ℕ × ℕ) (first : ℕ) : Type 0 
   pub directory : HasDirectory (pairs_from_root ps) a
   pub number : first ≡ count_before_root ps + length directory.before
 
-pub begins_directory : (disk : Disk) (ps : List Pair) (P : Path) (a : ℕ × ℕ) (first : ℕ) → IsAccepted disk ps → LeadsTo ps P a → IsPairAt ps a first → IsDirectory ps a first
+pub begins_directory : (disk : Disk) (ps : List Pair) (P : Path) (a : ℕ × ℕ) (first : ℕ) → IsAccepted disk ps → IsDirectoryAtPath ps P a → IsPairAt ps a first → IsDirectory ps a first
 begins_directory disk ps P a first ok leads b = record { directory = d; number = number }
   where
     d : HasDirectory (pairs_from_root ps) a
@@ -90,12 +90,12 @@ run_is p [] [] h = refl
 run_is p [] (q ∷ after) h = ap (λ b. p ∷ cond b (tail_pairs q after) []) h
 run_is p (q ∷ run) after h = ap (λ b. p ∷ cond b (tail_pairs q (run ++ after)) []) h.0 ∙ ap (λ z. p ∷ z) (run_is q run after h.1)
 
-length_run : (p : Pair) (run after : List Pair) → IsRun (p ∷ run) → joined_count (p ∷ (run ++ after)) ≡ length (p ∷ run)
-length_run p [] after h = ap (λ b. cond b (1 + joined_count after) 1) h
-length_run p (q ∷ run) after h = ap (λ b. cond b (1 + joined_count (q ∷ (run ++ after))) 1) h.0 ∙ (let e = length_run q run after h.1 in omega (arith, e))
+length_run : (p : Pair) (run after : List Pair) → IsRun (p ∷ run) → joined_pair_count (p ∷ (run ++ after)) ≡ length (p ∷ run)
+length_run p [] after h = ap (λ b. cond b (1 + joined_pair_count after) 1) h
+length_run p (q ∷ run) after h = ap (λ b. cond b (1 + joined_pair_count (q ∷ (run ++ after))) 1) h.0 ∙ (let e = length_run q run after h.1 in omega (arith, e))
 
 -- the pairs of a directory that a path leads to, and how many they are
-pub pairs_at : (disk : Disk) (ps : List Pair) (P : Path) (a : ℕ × ℕ) (ok : IsAccepted disk ps) → LeadsTo ps P a → (d : HasDirectory (pairs_from_root ps) a) → directory_pairs ps a ≡ d.first ∷ d.run
+pub pairs_at : (disk : Disk) (ps : List Pair) (P : Path) (a : ℕ × ℕ) (ok : IsAccepted disk ps) → IsDirectoryAtPath ps P a → (d : HasDirectory (pairs_from_root ps) a) → directory_pairs ps a ≡ d.first ∷ d.run
 pairs_at disk ps P a ok leads d =
     let whole : ps ≡ (take (count_before_root ps) ps ++ d.before) ++ (d.first ∷ (d.run ++ d.after))
     = (chain_of_thread ps).0 ∙ ap (λ z. take (count_before_root ps) ps ++ z) d.is ∙ sym (append_assoc (take (count_before_root ps) ps) d.before (d.first ∷ (d.run ++ d.after))) in
@@ -113,7 +113,7 @@ abbrev count_at : List Pair → Option (ℕ × ℕ) → ℕ
 count_at ps None = 0
 count_at ps (Some at) = length (directory_pairs ps at)
 
-pub run_length_is : (disk : Disk) (ps : List Pair) (P : Path) (a : ℕ × ℕ) (first : ℕ) → IsAccepted disk ps → LeadsTo ps P a → IsPairAt ps a first → joined_count (drop first ps) ≡ directory_pair_count ps P
+pub run_length_is : (disk : Disk) (ps : List Pair) (P : Path) (a : ℕ × ℕ) (first : ℕ) → IsAccepted disk ps → IsDirectoryAtPath ps P a → IsPairAt ps a first → joined_pair_count (drop first ps) ≡ directory_pair_count ps P
 run_length_is disk ps P a first ok leads b =
     let i = begins_directory disk ps P a first ok leads b in
     let d = i.directory in
@@ -123,8 +123,8 @@ run_length_is disk ps P a first ok leads b =
     = e.0 ∙ ap (λ z. take (count_before_root ps) ps ++ z) d.is ∙ sym (append_assoc (take (count_before_root ps) ps) d.before (d.first ∷ (d.run ++ d.after))) in
     let many : length (take (count_before_root ps) ps) ≡ count_before_root ps = sym (ap count_before_root e.0 ∙ e.1) in
     let at_first : first ≡ length (take (count_before_root ps) ps ++ d.before) = omega (arith, i.number, length-append (take (count_before_root ps) ps) d.before, many) in
-    ap (λ z. joined_count (drop first z)) whole
-    ∙ ap joined_count (drop_behind (take (count_before_root ps) ps ++ d.before) (d.first ∷ (d.run ++ d.after)) first at_first)
+    ap (λ z. joined_pair_count (drop first z)) whole
+    ∙ ap joined_pair_count (drop_behind (take (count_before_root ps) ps ++ d.before) (d.first ∷ (d.run ++ d.after)) first at_first)
     ∙ length_run d.first d.run d.after d.is_run
     ∙ sym (ap (count_at ps) leads ∙ ap length (pairs_at disk ps P a ok leads d))
 
@@ -158,9 +158,9 @@ run_parts (r ∷ q ∷ run) (l ∷ left) pair rest after some is joined e =
 record Goes (pair : Pair) (ys later : List Pair) : Type 0 where
   more : List Pair
   is : ys ≡ later ++ more
-  last : last_joins pair later ≡ false → more ≡ []
+  last : last_has_hard_tail pair later ≡ false → more ≡ []
 
-goes : (pair : Pair) (ys later rest after : List Pair) → IsRun (pair ∷ ys) → AreJoined pair later → later ++ rest ≡ ys ++ after → Goes pair ys later
+goes : (pair : Pair) (ys later rest after : List Pair) → IsRun (pair ∷ ys) → AreJoinedByHardTails pair later → later ++ rest ≡ ys ++ after → Goes pair ys later
 goes pair [] [] rest after is runs e = record { more = []; is = refl; last = λ k. refl }
 goes pair (y ∷ ys) [] rest after is runs e = record { more = y ∷ ys; is = refl; last = λ k. absurd (let j = is.0 in cc) }
 goes pair [] (q ∷ later) rest after is runs e = absurd (let j = runs.0 in cc)
@@ -171,7 +171,7 @@ goes pair (y ∷ ys) (q ∷ later) rest after is runs e =
 
 -- ---- the site
 
-module _ (disk : Disk) (ps : List Pair) (P : Path) (a : ℕ × ℕ) (ok : IsAccepted disk ps) (leads : LeadsTo ps P a) (first index : ℕ) (pair : Pair) (rest : List Pair) (b : IsDirectoryPair ps first index pair rest)
+module _ (disk : Disk) (ps : List Pair) (P : Path) (a : ℕ × ℕ) (ok : IsAccepted disk ps) (leads : IsDirectoryAtPath ps P a) (first index : ℕ) (pair : Pair) (rest : List Pair) (b : IsDirectoryPair ps first index pair rest)
     (begins : IsPairAt ps a first) where
   abbrev chain : List Pair
   chain = take (count_before_root ps) ps
@@ -222,15 +222,15 @@ module _ (disk : Disk) (ps : List Pair) (P : Path) (a : ℕ × ℕ) (ok : IsAcce
 
 -- ---- a name that stands there
 
-pub slot_of_stands : (disk : Disk) (ps : List Pair) (P : Path) (a : ℕ × ℕ) (ok : IsAccepted disk ps) (leads : LeadsTo ps P a) (first index id : ℕ) (name : Name) → HasNoMove (pairs_gstate ps)
-    → (s : IsPlaceOf ps first name index id) → IsPairAt ps a first → slot_of ps (P ++ name ∷ []) ≡ Some s.stands.slot
+pub slot_of_stands : (disk : Disk) (ps : List Pair) (P : Path) (a : ℕ × ℕ) (ok : IsAccepted disk ps) (leads : IsDirectoryAtPath ps P a) (first index id : ℕ) (name : Name) → HasNoMove (pairs_gstate ps)
+    → (s : IsPositionOfName ps first name index id) → IsPairAt ps a first → slot_of_path ps (P ++ name ∷ []) ≡ Some s.stands.slot
 slot_of_stands disk ps P a ok leads first index id name none s begins =
     let w = site disk ps P a ok leads first index s.pair s.rest s.place begins in
     let is = thread_is disk ps P a ok leads first index s.pair s.rest s.place begins in
-    subst (λ z. slot_of ps (P ++ z ∷ []) ≡ Some s.stands.slot) s.stands.named
-    (subst (λ z. slot_of z (P ++ s.stands.slot.name ∷ []) ≡ Some s.stands.slot) (sym is)
+    subst (λ z. slot_of_path ps (P ++ z ∷ []) ≡ Some s.stands.slot) s.stands.named
+    (subst (λ z. slot_of_path z (P ++ s.stands.slot.name ∷ []) ≡ Some s.stands.slot) (sym is)
     (slot_found disk w s.pair s.stands.left s.stands.slot s.stands.right P a (subst (IsAccepted disk) is ok) (is_site disk ps P a ok leads first index s.pair s.rest s.place begins)
-    (subst (λ z. HasNoMove (pairs_gstate z)) is none) (subst (λ z. LeadsTo z P a) is leads) (same disk ps P a ok leads first index s.pair s.rest s.place begins) s.stands.held s.stands.entry))
+    (subst (λ z. HasNoMove (pairs_gstate z)) is none) (subst (λ z. IsDirectoryAtPath z P a) is leads) (same disk ps P a ok leads first index s.pair s.rest s.place begins) s.stands.held s.stands.entry))
 
 -- ---- a name that belongs there
 
@@ -245,8 +245,8 @@ last_of [] n = absurd (n refl)
 last_of (x ∷ []) n = record { front = []; last = x; is = refl }
 last_of (x ∷ y ∷ xs) n = let l = last_of (y ∷ xs) (λ e. absurd (cc)) in record { front = x ∷ l.front; last = l.last; is = ap (λ z. x ∷ z) l.is }
 
-module _ (disk : Disk) (ps : List Pair) (P : Path) (a : ℕ × ℕ) (ok : IsAccepted disk ps) (leads : LeadsTo ps P a) (first index id : ℕ) (name : Name) (none : HasNoMove (pairs_gstate ps))
-    (b : BelongsAt disk.order ps first name index id) (begins : IsPairAt ps a first) where
+module _ (disk : Disk) (ps : List Pair) (P : Path) (a : ℕ × ℕ) (ok : IsAccepted disk ps) (leads : IsDirectoryAtPath ps P a) (first index id : ℕ) (name : Name) (none : HasNoMove (pairs_gstate ps))
+    (b : IsInsertionPosition disk.order ps first name index id) (begins : IsPairAt ps a first) where
   abbrev at_site : Site
   at_site = site disk ps P a ok leads first index b.pair (b.later ++ b.rest) b.place begins
 
@@ -298,7 +298,7 @@ module _ (disk : Disk) (ps : List Pair) (P : Path) (a : ℕ × ℕ) (ok : IsAcce
           ∙ ap entry_slots (sym (append_assoc b.right (all_slots b.later) (all_slots goes_there.more)))
           ∙ filter-append (λ (s : Slot). not (is_superblock s)) (b.right ++ all_slots b.later) (all_slots goes_there.more)
 
-      go : FirstIsGreater disk.order name (entry_slots (b.right ++ all_slots b.later)) ⊎ ((entry_slots (b.right ++ all_slots b.later) ≡ []) × (last_joins b.pair b.later ≡ false)) →
+      go : BeginsWithGreaterName disk.order name (entry_slots (b.right ++ all_slots b.later)) ⊎ ((entry_slots (b.right ++ all_slots b.later) ≡ []) × (last_has_hard_tail b.pair b.later ≡ false)) →
           Each (λ s. name_cmp disk.order name s.name ≡ Less) (entry_slots (b.right ++ all_slots at_site.right))
       go (inl begins) =
           let are : entry_slots (b.right ++ all_slots at_site.right) ≡ begins.first ∷ (begins.rest ++ entry_slots (all_slots goes_there.more)) =
@@ -327,6 +327,6 @@ each_dropped P (suc m) (suc n) (p ∷ ps) l h = each_dropped P m n ps (omega ari
 -- after the first pair of a directory
 pub plain_behind : (disk : Disk) (ps : List Pair) (first : ℕ) → IsAccepted disk ps → count_before_root ps ≤ first → HaveNoSuperblock (drop (first + 1) ps)
 plain_behind disk ps first ok low =
-    each_weaker (λ (p : Pair). All IsTreeEntry p.content.slots) (λ (p : Pair). Each (λ s. is_superblock s ≡ false) p.content.slots)
-    (λ p h. each_weaker IsTreeEntry (λ s. is_superblock s ≡ false) entry_is_other p.content.slots (recursion_from_All IsTreeEntry p.content.slots h)) (drop (first + 1) ps)
-    (each_dropped (λ (p : Pair). All IsTreeEntry p.content.slots) (count_before_root ps + 1) (first + 1) ps (omega arith) (recursion_from_All (λ (p : Pair). All IsTreeEntry p.content.slots) (drop (count_before_root ps + 1) ps) ok.slots))
+    each_weaker (λ (p : Pair). All IsFileOrDirectory p.content.slots) (λ (p : Pair). Each (λ s. is_superblock s ≡ false) p.content.slots)
+    (λ p h. each_weaker IsFileOrDirectory (λ s. is_superblock s ≡ false) entry_is_other p.content.slots (recursion_from_All IsFileOrDirectory p.content.slots h)) (drop (first + 1) ps)
+    (each_dropped (λ (p : Pair). All IsFileOrDirectory p.content.slots) (count_before_root ps + 1) (first + 1) ps (omega arith) (recursion_from_All (λ (p : Pair). All IsFileOrDirectory p.content.slots) (drop (count_before_root ps + 1) ps) ok.slots))

@@ -3,7 +3,7 @@ use Rattle.std.proofs.Common.{ℕ, ◌≡◌, Bool, true, false, cond, List, [],
 use Rattle.lfs_model.proofs.Common.{same_Some, Disk, block_count, content_at, disk_tree, Operation, Reply, Refusal, Session, DiskSummary, FileReader, file_reader, file_numbered, refuse_if, operation_result, unless_refused, read_effect, operation_refusal, SessionHealth, HasFailed, Healthy, is_remount, nonremount_result, remount_result, mounted_session, IsFreshDisk, fresh_pair, empty_tree, HasDiskTree, read_reply, SystemState, ShowsTree, HealthyHasDiskTree, EffectRelation, IsStep, IsStepWith, IsTreeStep, AreSteps}
 use Rattle.lfs_model.specs.session.Operations as ops
 use Rattle.lfs_model.specs.session.Operations.{BadFile}
-use Rattle.lfs_model.specs.session.Headline.{is_query, IsFreshReply, IsReaderReply, IsDividedRun}
+use Rattle.lfs_model.specs.session.Headline.{is_query, IsReplyAfterMount, IsReaderReply, IsRunOfConcatenation}
 use Rattle.lfs_model.specs.session.Run.{IsReply}
 use Rattle.lfs_model.proofs.Uniqueness.{one_thread}
 use Rattle.lfs_model.proofs.Fresh.{accepted, shows}
@@ -18,7 +18,7 @@ session_steps_joined (op ∷ operations) more [] others a b c e h = absurd e
 session_steps_joined (op ∷ operations) more (reply ∷ replies) others a b c (next, (turn, rest)) h =
     (next, (turn, session_steps_joined operations more replies others next b c rest h))
 
-pub session_steps_parted : (operations more : List Operation) (replies : List Reply) (a c : SystemState) → AreSteps a (operations ++ more) replies c → IsDividedRun operations more replies a c
+pub session_steps_parted : (operations more : List Operation) (replies : List Reply) (a c : SystemState) → AreSteps a (operations ++ more) replies c → IsRunOfConcatenation operations more replies a c
 session_steps_parted [] more replies a c h = record { between = a; front = []; back = replies; joined = refl; first = refl; second = h }
 session_steps_parted (op ∷ operations) more [] a c h = absurd h
 session_steps_parted (op ∷ operations) more (reply ∷ replies) a c (next, (turn, rest)) =
@@ -103,7 +103,7 @@ pub not_remount : (op : Operation) → is_query op ≡ true → is_remount op �
 not_remount ops.Remount e = absurd (cc)
 not_remount _ e = refl
 
-pub question_answered : (from to : SystemState) (op : Operation) (reply : Reply) → HasDiskTree from → is_query op ≡ true → IsReply from.disk to.disk.order from.state op reply to.state → IsFreshReply from op reply
+pub question_answered : (from to : SystemState) (op : Operation) (reply : Reply) → HasDiskTree from → is_query op ≡ true → IsReply from.disk to.disk.order from.state op reply to.state → IsReplyAfterMount from op reply
 question_answered from to op reply known asks a =
     let s = a.surrounds known.session known.healthy in
     let t = known.shows in

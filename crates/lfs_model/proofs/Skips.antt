@@ -1,7 +1,7 @@
 -- A skip list is well formed where tests say so, which compute on literal blocks.
 use Rattle.std.proofs.Common.{ℕ, zero, suc, ◌≡◌, ◌<◌, ◌*◌, ◌-◌, ◌^◌, ◌==◌, Bool, true, ◌&&◌, List, length, refl, arith, inl, inr, eqb-true, ltb-true, leb-true, eq-eqb, lt-ltb, le-leb}
 use Rattle.std.specs.Prelude.{slice_index, nat_lt, nat_le}
-use Rattle.lfs_model.proofs.Common.{list_all, and_parts, and_from, cases_lt, Blocks, block_bytes, word_at, pointer_count, block_count_for, blocks_to_head, IsSkipList}
+use Rattle.lfs_model.proofs.Common.{list_all, and_parts, and_from, cases_lt, Blocks, block_bytes, word_at, pointer_count, skip_list_block_count, blocks_to_head, IsSkipList}
 use Rattle.lfs_model.proofs.Acceptance.{all_from, all_to, are_apart, distinct_from, apart_from}
 
 -- the test passes below a number
@@ -24,13 +24,13 @@ points disk bs i k = word_at (block_bytes disk (slice_index bs i)) (4 * k) == sl
 abbrev pub is_list : Blocks → ℕ → ℕ → ℕ → Bool
 is_list disk block_size head size =
     nat_le 1 size && (nat_lt size (2 ^ 31)
-    && (list_all (λ b. nat_lt b (length disk)) (blocks_to_head disk (block_count_for block_size size) head)
-    && (are_apart (blocks_to_head disk (block_count_for block_size size) head)
-    && all_below (λ i. all_below (points disk (blocks_to_head disk (block_count_for block_size size) head) i) (pointer_count i)) (block_count_for block_size size))))
+    && (list_all (λ b. nat_lt b (length disk)) (blocks_to_head disk (skip_list_block_count block_size size) head)
+    && (are_apart (blocks_to_head disk (skip_list_block_count block_size size) head)
+    && all_below (λ i. all_below (points disk (blocks_to_head disk (skip_list_block_count block_size size) head) i) (pointer_count i)) (skip_list_block_count block_size size))))
 
 pub list_from : (disk : Blocks) (block_size head size : ℕ) → is_list disk block_size head size ≡ true → IsSkipList disk block_size head size
 list_from disk block_size head size e =
-    let n = block_count_for block_size size in
+    let n = skip_list_block_count block_size size in
     let bs = blocks_to_head disk n head in
     let pointers = all_below (λ i. all_below (points disk bs i) (pointer_count i)) n in
     let one = and_parts (nat_le 1 size) (nat_lt size (2 ^ 31) && (list_all (λ b. nat_lt b (length disk)) bs && (are_apart bs && pointers))) e in
@@ -55,7 +55,7 @@ below_to p (suc n) h = and_from (p n) (all_below p n) (h n (omega arith)) (below
 
 pub list_to : (disk : Blocks) (block_size head size : ℕ) → IsSkipList disk block_size head size → is_list disk block_size head size ≡ true
 list_to disk block_size head size h =
-    let n = block_count_for block_size size in
+    let n = skip_list_block_count block_size size in
     let bs = blocks_to_head disk n head in
     and_from _ _ (le-leb 1 size h.size_low) (and_from _ _ (lt-ltb size (2 ^ 31) h.size_high)
     (and_from _ _ (all_to (λ b. nat_lt b (length disk)) (λ b. b < length disk) (λ b. lt-ltb b (length disk)) bs h.blocks.in_range)

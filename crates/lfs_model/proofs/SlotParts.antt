@@ -4,8 +4,8 @@ use Rattle.std.specs.List.{insert}
 use Rattle.std.specs.Prelude.{nat_lt, nat_le, ◌&&◌, is_some}
 use Rattle.std.proofs.lemmas.Bool.{leb-true}
 use Rattle.std.proofs.Math.Seq.{get_or-append_seam}
-use Rattle.lfs_model.proofs.Common.{append-nil, le-ltb, ne_eqb, same_Some, PutAttribute, content_with_changes, RawSlot, RawContent, complete_slot, slot_changed_at, empty_slot, kind_of_type, attributes_with, slot_of_id, decoded_struct, file_name_type, directory_name_type, IsFormedSlot, IsAllowedPart, Name, is_valid_name, Attributes, Slot, File, Directory, Superblock, is_superblock, length-take-le, AttributesInOrder, AllowedIfAny, is_superblock_kind}
-use Rattle.lfs_model.specs.layers.SlotChanges.{NamelessSlot, attribute_changes, nameless_of, slot_changes}
+use Rattle.lfs_model.proofs.Common.{append-nil, le-ltb, ne_eqb, same_Some, PutAttribute, content_with_changes, RawSlot, RawContent, decoded_slot, slot_changed_at, empty_slot, kind_of_type, attributes_with, slot_of_id, decoded_struct, file_name_type, directory_name_type, IsWellFormedSlot, IsNameOrStruct, Name, is_valid_name, Attributes, Slot, File, Directory, Superblock, is_superblock, length-take-le, AttributesInOrder, IsNameOrStructIfAny, is_superblock_kind}
+use Rattle.lfs_model.specs.layers.SlotChanges.{NamelessSlot, attribute_changes, slot_without_name, slot_creation_changes}
 use Rattle.lfs_model.specs.format.Names.{is_component}
 use Rattle.lfs_model.proofs.Counts.{Each, each_append, each_weaker}
 use Rattle.lfs_model.proofs.Effects.{creates_with_struct, does_first, puts_attribute, changed_inserted, with_attribute_put}
@@ -54,7 +54,7 @@ puts_attributes c id s low front (a ∷ rest) small fits named below up =
 -- the parts can be written again
 pub record AreParts (parts : NamelessSlot) : Type 0 where
   pub kind : (parts.kind ≡ file_name_type) ⊎ (parts.kind ≡ directory_name_type)
-  pub struct : IsAllowedPart 2 parts.struct
+  pub struct : IsNameOrStruct 2 parts.struct
   pub attributes : AttributesInOrder 0 parts.attributes
 
 abbrev pub slot_of_parts : Name → NamelessSlot → RawSlot
@@ -67,8 +67,8 @@ name_length name h = leb-true (length name) 255 (and_second (is_component name) 
     and_second true b e = e
     and_second false b e = absurd (cc)
 
-name_part : (kind : ℕ) (name : Name) → (kind ≡ file_name_type) ⊎ (kind ≡ directory_name_type) → length name ≤ 255 → IsAllowedPart 0 (kind, name)
-name_part kind name (inl e) short = subst (λ (k : ℕ). IsAllowedPart 0 (k, name)) (sym e) (record {
+name_part : (kind : ℕ) (name : Name) → (kind ≡ file_name_type) ⊎ (kind ≡ directory_name_type) → length name ≤ 255 → IsNameOrStruct 0 (kind, name)
+name_part kind name (inl e) short = subst (λ (k : ℕ). IsNameOrStruct 0 (k, name)) (sym e) (record {
   of_class = refl;
   short = omega arith;
   in_table =
@@ -76,7 +76,7 @@ name_part kind name (inl e) short = subst (λ (k : ℕ). IsAllowedPart 0 (k, nam
       let len = tag_length-make_tag file_name_type 0 (length name) (omega arith) in
       rw len (rw kind (rw (ne_eqb (length name) 0x3ff (λ e. omega arith)) refl));
 })
-name_part kind name (inr e) short = subst (λ (k : ℕ). IsAllowedPart 0 (k, name)) (sym e) (record {
+name_part kind name (inr e) short = subst (λ (k : ℕ). IsNameOrStruct 0 (k, name)) (sym e) (record {
   of_class = refl;
   short = omega arith;
   in_table =
@@ -86,7 +86,7 @@ name_part kind name (inr e) short = subst (λ (k : ℕ). IsAllowedPart 0 (k, nam
 })
 
 pub slot_comes : (c : RawContent) (id : ℕ) (name : Name) (parts : NamelessSlot) → id < 0x3ff → id ≤ length c.slots → length name ≤ 255 → AreParts parts
-    → content_with_changes c (slot_changes id name parts) ≡ Some (with_slot c id (slot_of_parts name parts))
+    → content_with_changes c (slot_creation_changes id name parts) ≡ Some (with_slot c id (slot_of_parts name parts))
 slot_comes c id name parts small fits short are =
     let s : RawSlot = slot_of_parts name parts in
     creates_with_struct c id parts.kind name parts.struct.0 parts.struct.1 (attribute_changes id parts.attributes) (with_slot c id s) small fits (name_part parts.kind name are.kind short) are.struct
@@ -96,8 +96,8 @@ slot_comes c id name parts small fits short are =
 
 -- what stands in a log is a slot
 pub record IsOf (s : RawSlot) (u : Slot) : Type 0 where
-  pub are : AreParts (nameless_of s)
-  pub complete : (name : Name) → complete_slot (slot_of_parts name (nameless_of s)) ≡ Some (record u { name = name })
+  pub are : AreParts (slot_without_name s)
+  pub complete : (name : Name) → decoded_slot (slot_of_parts name (slot_without_name s)) ≡ Some (record u { name = name })
 
 kind_of_entry : (type : ℕ) → is_superblock_kind (kind_of_type type) ≡ false → (type ≡ file_name_type) ⊎ (type ≡ directory_name_type)
 kind_of_entry type h = go (type == file_name_type) (type == directory_name_type) refl refl h
@@ -107,10 +107,10 @@ kind_of_entry type h = go (type == file_name_type) (type == directory_name_type)
     go false true e f k = inr (eqb-true type directory_name_type f)
     go false false e f k = absurd (cc)
 
-pub is_of : (s : RawSlot) (u : Slot) → IsFormedSlot s → complete_slot s ≡ Some u → is_superblock u ≡ false → IsOf s u
+pub is_of : (s : RawSlot) (u : Slot) → IsWellFormedSlot s → decoded_slot s ≡ Some u → is_superblock u ≡ false → IsOf s u
 is_of s u parts is other = go s.name s.struct s.attributes parts.struct parts.attributes is
   where
-    go : (n p : Option (ℕ × List ℕ)) (attributes : Attributes) → AllowedIfAny 2 p → AttributesInOrder 0 attributes → (let x : RawSlot = record { name = n; struct = p; attributes = attributes } in complete_slot x ≡ Some u)
+    go : (n p : Option (ℕ × List ℕ)) (attributes : Attributes) → IsNameOrStructIfAny 2 p → AttributesInOrder 0 attributes → (let x : RawSlot = record { name = n; struct = p; attributes = attributes } in decoded_slot x ≡ Some u)
         → IsOf (record { name = n; struct = p; attributes = attributes }) u
     go None p attributes h k e = absurd (cc)
     go (Some n) None attributes h k e = absurd (cc)

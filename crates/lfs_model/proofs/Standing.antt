@@ -1,6 +1,6 @@
 -- What is on a device's disk after its last call, also after one that failed.
 use Rattle.std.proofs.Common.{◌≡◌, ◌≢◌, Bool, true, false, List, [], ◌∷◌, ◌++◌, refl, sym, ap, subst, ◌∙◌}
-use Rattle.lfs_model.proofs.Common.{append_cancel_right, All-head, Blocks, Disk, CallEvent, AllCalls, AllCallsSince, LeftByLatest, HoldsAtLosses, CallConforms, CallsConform, LeftByLoss, ErasesCleanly, FailLikeLossSince, Operation, FailsLikeLoss, IsHealthySession, HasEitherTree, SurvivesStoppedCalls, SurvivesPowerLoss, with_blocks, HealthyHasDiskTree, SystemState, Session, DiskSummary, operation_result, disk_tree, Pair, Tree}
+use Rattle.lfs_model.proofs.Common.{append_cancel_right, All-head, Blocks, Disk, CallEvent, AllCalls, AllCallsSince, LeftByLatestCall, HoldsAtLosses, CallConforms, CallsConform, LeftByLoss, ErasesCleanly, FailLikeLossSince, Operation, FailsLikeLoss, IsHealthySession, HasEitherTree, SurvivesStoppedCalls, SurvivesPowerLoss, with_blocks, HealthyHasDiskTree, SystemState, Session, DiskSummary, operation_result, disk_tree, Pair, Tree}
 use Rattle.lfs_model.specs.crash.Standing.{SameConformingDevice}
 use Rattle.lfs_model.proofs.AfterStops.{left_before}
 use Rattle.lfs_model.proofs.Kept.{one_tree}
@@ -9,7 +9,7 @@ use Rattle.lfs_model.proofs.Conformance.{conforming_stops}
 -- ---- the newest call
 
 -- where there was a call, the newest shows the blocks
-pub same_blocks : (history : List CallEvent) (one other : Blocks) → history ≢ [] → LeftByLatest history one → LeftByLatest history other → one ≡ other
+pub same_blocks : (history : List CallEvent) (one other : Blocks) → history ≢ [] → LeftByLatestCall history one → LeftByLatestCall history other → one ≡ other
 same_blocks [] one other called first second = absurd (called refl)
 same_blocks (e ∷ older) one other called first second = sym (first e older refl) ∙ second e older refl
 
@@ -28,7 +28,7 @@ left_as_stopped e conforms clean fails = go e.failed refl
 -- ---- what stands
 
 -- What stops leave has P, and so has what stands where there was no call: what is after the last call has it, too.
-pub stands : {P : Blocks → Type 0} {old new : List CallEvent} (last : Blocks) → (new ≡ old → P last) → LeftByLatest new last → CallsConform new
+pub stands : {P : Blocks → Type 0} {old new : List CallEvent} (last : Blocks) → (new ≡ old → P last) → LeftByLatestCall new last → CallsConform new
     → HoldsAtLosses LeftByLoss old new P → AllCallsSince ErasesCleanly old new → FailLikeLossSince old new → P last
 stands {P} {old} {new} last untouched newest conforms since cleanly fails = go since.events since.extends since.each
   where
@@ -40,19 +40,19 @@ stands {P} {old} {new} last untouched newest conforms since cleanly fails = go s
         subst P (newest e (events ++ old) same) (each.0 e.after left)
 
 -- the same of a device that had been called before, from what stood then
-pub stands_since : {P : Blocks → Type 0} {old new : List CallEvent} (first last : Blocks) → old ≢ [] → LeftByLatest old first → LeftByLatest new last → CallsConform new
+pub stands_since : {P : Blocks → Type 0} {old new : List CallEvent} (first last : Blocks) → old ≢ [] → LeftByLatestCall old first → LeftByLatestCall new last → CallsConform new
     → HoldsAtLosses LeftByLoss old new P → AllCallsSince ErasesCleanly old new → FailLikeLossSince old new → P first → P last
 stands_since {P} {old} {new} first last called then now conforms since cleanly fails here =
-    stands {P = P} {old = old} {new = new} last (λ same. subst P (same_blocks old first last called then (subst (λ (history : List CallEvent). LeftByLatest history last) same now)) here) now conforms since cleanly fails
+    stands {P = P} {old = old} {new = new} last (λ same. subst P (same_blocks old first last called then (subst (λ (history : List CallEvent). LeftByLatestCall history last) same now)) here) now conforms since cleanly fails
 
 -- ---- an operation
 
 -- two states of a device that had been called before
-pub one_device : (from to : SystemState) → from.calls ≢ [] → LeftByLatest from.calls from.disk.blocks → LeftByLatest to.calls to.disk.blocks → CallsConform to.calls
+pub one_device : (from to : SystemState) → from.calls ≢ [] → LeftByLatestCall from.calls from.disk.blocks → LeftByLatestCall to.calls to.disk.blocks → CallsConform to.calls
     → to.disk ≡ with_blocks to.disk.blocks from.disk → SameConformingDevice from to
 one_device from to called then now conforms same = record {
   stays = λ silent. same ∙ ap (λ (blocks : Blocks). with_blocks blocks from.disk)
-      (sym (same_blocks from.calls from.disk.blocks to.disk.blocks called then (subst (λ (history : List CallEvent). LeftByLatest history to.disk.blocks) silent now)));
+      (sym (same_blocks from.calls from.disk.blocks to.disk.blocks called then (subst (λ (history : List CallEvent). LeftByLatestCall history to.disk.blocks) silent now)));
   same = same;
   newest = now;
   conforms = conforms;

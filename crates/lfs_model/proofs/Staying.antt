@@ -1,7 +1,7 @@
 -- What a disk has at an address, and a file's list, where none of their blocks changed.
 use Rattle.std.specs.Prelude.{All}
 use Rattle.std.proofs.Common.{ℕ, ◌≡◌, ◌≢◌, List, get_or, ap, ap₂}
-use Rattle.lfs_model.proofs.Common.{option_and_then, recursion_from_All, Blocks, SameExceptBlocks, block_bytes, Disk, disk_block, block_entries, current_of_two, current_block, content_after, empty_raw_content, block_count_for, blocks_to_head, IsSkipList, list_bytes}
+use Rattle.lfs_model.proofs.Common.{option_and_then, recursion_from_All, Blocks, SameExceptBlocks, block_bytes, Disk, disk_block, block_entries, later_committed_block, current_block, content_after, empty_raw_content, skip_list_block_count, blocks_to_head, IsSkipList, list_bytes}
 use Rattle.lfs_model.specs.format.Content.{raw_content}
 use Rattle.lfs_model.proofs.Files.{Same, list_same, bytes_same}
 
@@ -21,7 +21,7 @@ pub same_elsewhere : {at : ℕ × ℕ} {bs : List ℕ} (disk new : Disk) → Are
 same_elsewhere {at} disk new elsewhere same = record { first = same.others at.0 elsewhere.first; second = same.others at.1 elsewhere.second }
 
 pub holder_same : {at : ℕ × ℕ} {disk new : Disk} → IsSameAt disk new at → current_block new at ≡ current_block disk at
-holder_same {at} {disk} {new} same = ap₂ current_of_two same.first same.second
+holder_same {at} {disk} {new} same = ap₂ later_committed_block same.first same.second
 
 pub raw_same : {at : ℕ × ℕ} {disk new : Disk} → IsSameAt disk new at → raw_content new at ≡ raw_content disk at
 raw_same same = ap (option_and_then (λ block. content_after empty_raw_content (block_entries block))) (holder_same same)
@@ -45,8 +45,8 @@ pub same_apart : (own : List ℕ) {bs : List ℕ} (old new : Blocks) → AreApar
 same_apart own old new apart same = recursion_from_All (λ b. block_bytes new b ≡ block_bytes old b) own (λ k x l. same.others (get_or own k x) (apart k x l))
 
 module _ (old new : Blocks) (bs : List ℕ) (same : SameExceptBlocks bs old new) where
-  pub list-stays : (block_size head size : ℕ) → AreApart (blocks_to_head old (block_count_for block_size size) head) bs → IsSkipList old block_size head size → IsSkipList new block_size head size
-  list-stays block_size head size apart ok = list_same old new block_size head size same.count (same_apart (blocks_to_head old (block_count_for block_size size) head) old new apart same) ok
+  pub list-stays : (block_size head size : ℕ) → AreApart (blocks_to_head old (skip_list_block_count block_size size) head) bs → IsSkipList old block_size head size → IsSkipList new block_size head size
+  list-stays block_size head size apart ok = list_same old new block_size head size same.count (same_apart (blocks_to_head old (skip_list_block_count block_size size) head) old new apart same) ok
 
-  pub bytes-stay : (block_size head size : ℕ) → AreApart (blocks_to_head old (block_count_for block_size size) head) bs → list_bytes new block_size head size ≡ list_bytes old block_size head size
-  bytes-stay block_size head size apart = bytes_same old new block_size head size (same_apart (blocks_to_head old (block_count_for block_size size) head) old new apart same)
+  pub bytes-stay : (block_size head size : ℕ) → AreApart (blocks_to_head old (skip_list_block_count block_size size) head) bs → list_bytes new block_size head size ≡ list_bytes old block_size head size
+  bytes-stay block_size head size apart = bytes_same old new block_size head size (same_apart (blocks_to_head old (skip_list_block_count block_size size) head) old new apart same)

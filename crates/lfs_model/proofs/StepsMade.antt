@@ -1,12 +1,12 @@
 -- From what an operation does to the disk to its step in a run.
 use Rattle.std.proofs.Common.{◌≡◌, true, false, cond, List, [], ◌++◌, Option, Some, None, refl, sym, ap, subst, ◌∙◌}
-use Rattle.lfs_model.proofs.Common.{Disk, SameGeometry, block_count, ordered_disk, content_at, zero_gstate, Pair, pairs_gstate, IsAccepted, DiskView, HasDiskView, disk_view, disk_tree, IsWritable, AllCalls, CallEvent, IsRead, Operation, Reply, Refusal, Session, DiskSummary, FileReader, file_reader, file_numbered, operation_refusal, operation_effect, read_effect, unless_refused, IsSummary, SessionHealth, HasFailed, Healthy, is_remount, remount_result, nonremount_result, mounted_session, IsRecovered, is_refusal, IsArrangedEffect, IsStep}
+use Rattle.lfs_model.proofs.Common.{Disk, SameGeometry, block_count, disk_with_order, content_at, zero_gstate, Pair, pairs_gstate, IsAccepted, DiskView, HasDiskView, disk_view, disk_tree, IsWritable, AllCalls, CallEvent, IsRead, Operation, Reply, Refusal, Session, DiskSummary, FileReader, file_reader, file_numbered, operation_refusal, operation_effect, read_effect, unless_refused, IsDiskSummary, SessionHealth, HasFailed, Healthy, is_remount, remount_result, nonremount_result, mounted_session, IsRecovered, is_refusal, IsDiskEffectWithLayout, IsStep}
 use Rattle.lfs_model.specs.declared.order.NameOrder.{NameOrder}
 use Rattle.lfs_model.specs.declared.order.NameOrder.TheVariants.{LongerFirst, ShorterFirst}
 use Rattle.lfs_model.specs.session.Operations as ops
 use Rattle.lfs_model.specs.session.Operations.{Failed}
 use Rattle.lfs_model.specs.session.Recovery.{recovers_first}
-use Rattle.lfs_model.specs.session.Run.{IsReply, is_read_only, opens_there, writes_or_truncates, needs_no_device, renames_itself, is_recover, edits_slots, WriteNothing, IsUntouched, operation_disk}
+use Rattle.lfs_model.specs.session.Run.{IsReply, is_read_only, opens_existing_file, writes_or_truncates, needs_no_device, renames_itself, is_recover, edits_slots, WriteNothing, IsUntouched, operation_disk}
 use Rattle.lfs_model.proofs.Uniqueness.{one_thread}
 use Rattle.lfs_model.proofs.OtherOrder.{same_pairs, writable_in_order}
 use Rattle.lfs_model.proofs.Arranged.{IsFinished}
@@ -22,7 +22,7 @@ same_session s t e = ap or_else e
 -- a session over a disk whose tree it has
 pub record IsOver (disk : Disk) (ps : List Pair) (s : Session) (around : DiskSummary) : Type 0 where
   pub accepted : IsAccepted disk ps
-  pub surrounds : IsSummary disk ps around
+  pub surrounds : IsDiskSummary disk ps around
   pub tree : s.tree ≡ disk_tree disk ps
 
 answered_by : (disk : Disk) (order : NameOrder) (ps : List Pair) (s : Session) (around : DiskSummary) (op : Operation) (reply : Reply) (after : Session) → IsOver disk ps s around → is_remount op ≡ false →
@@ -37,18 +37,18 @@ answered_by disk order ps s around op reply after over other e = record {
 
 -- a remount alone finds another order of names
 same_disk_read : (op : Operation) (order : NameOrder) (disk : Disk) → is_remount op ≡ false → operation_disk op order disk ≡ disk
-same_disk_read op order disk other = ap (λ b. cond b (ordered_disk order disk) disk) other
+same_disk_read op order disk other = ap (λ b. cond b (disk_with_order order disk) disk) other
 
 same_geometry : (op : Operation) (disk new : Disk) → is_remount op ≡ false → SameGeometry disk new → SameGeometry (operation_disk op new.order disk) new
 same_geometry op disk new other geometry = subst (λ d. SameGeometry d new) (sym (same_disk_read op new.order disk other)) geometry
 
 -- what an applied operation does is said of any pairs, and those of an accepted disk are known
-carried_any : (disk new : Disk) (ps qs : List Pair) (s : Session) (op : Operation) (calls : List CallEvent) → IsAccepted disk ps → IsAccepted new qs → IsArrangedEffect disk ps s op calls new qs →
-    (t : Session) → Healthy s ≡ Healthy t → (xs ys : List Pair) → IsAccepted disk xs → IsAccepted new ys → IsArrangedEffect disk xs t op calls new ys
+carried_any : (disk new : Disk) (ps qs : List Pair) (s : Session) (op : Operation) (calls : List CallEvent) → IsAccepted disk ps → IsAccepted new qs → IsDiskEffectWithLayout disk ps s op calls new qs →
+    (t : Session) → Healthy s ≡ Healthy t → (xs ys : List Pair) → IsAccepted disk xs → IsAccepted new ys → IsDiskEffectWithLayout disk xs t op calls new ys
 carried_any disk new ps qs s op calls a b c t e xs ys x y =
-    subst (λ z. IsArrangedEffect disk xs z op calls new ys) (same_session s t e)
-    (subst (λ z. IsArrangedEffect disk z s op calls new ys) (one_thread (content_at disk) (block_count disk) ps xs a.thread x.thread)
-    (subst (IsArrangedEffect disk ps s op calls new) (one_thread (content_at new) (block_count new) qs ys b.thread y.thread) c))
+    subst (λ z. IsDiskEffectWithLayout disk xs z op calls new ys) (same_session s t e)
+    (subst (λ z. IsDiskEffectWithLayout disk z s op calls new ys) (one_thread (content_at disk) (block_count disk) ps xs a.thread x.thread)
+    (subst (IsDiskEffectWithLayout disk ps s op calls new) (one_thread (content_at new) (block_count new) qs ys b.thread y.thread) c))
 
 -- an operation that is applied isn't answered by a refusal
 pub no_refusal : (around : DiskSummary) (s : Session) (op : Operation) → is_refusal (operation_effect around s op).0 ≡ false
@@ -84,7 +84,7 @@ pub record IsProper (disk : Disk) (ps : List Pair) (s : Session) (op : Operation
   pub other : is_remount op ≡ false
   pub asks : is_read_only s op ≡ false
   pub fills : writes_or_truncates op ≡ false
-  pub opens : opens_there s op ≡ true → pairs_gstate ps ≡ zero_gstate → new ≡ disk
+  pub opens : opens_existing_file s op ≡ true → pairs_gstate ps ≡ zero_gstate → new ≡ disk
   pub silent : needs_no_device s op ≡ true → (new ≡ disk) × (calls ≡ [])
   pub itself : renames_itself op ≡ true → IsUntouched disk calls new
   pub nothing_left : is_recover op ≡ true → IsRecovered ps → IsUntouched disk calls new
@@ -108,7 +108,7 @@ spread_step disk ps s around op new qs calls old over accepted proper done = rec
     never : is_refusal (operation_effect around s op).0 ≡ true → ⊥
     never h = let k = sym (no_refusal around s op) ∙ h in absurd (cc)
 
-    carried : IsArrangedEffect disk ps s op calls new qs
+    carried : IsDiskEffectWithLayout disk ps s op calls new qs
     carried = record {
       effect = record {
         asks = λ e. absurd (let k = sym proper.asks ∙ e in cc);
@@ -147,7 +147,7 @@ idle_step disk ps s around op calls old over accepted other same none still writ
   effect_on_disk = λ h t e xs ys x y. carried_any disk disk ps ps s op calls over.accepted over.accepted carried t e xs ys x y;
 }
   where
-    carried : IsArrangedEffect disk ps s op calls disk ps
+    carried : IsDiskEffectWithLayout disk ps s op calls disk ps
     carried = record {
       effect = record {
         asks = λ e. (sym (same_disk_read op disk.order disk other), writes);
@@ -200,7 +200,7 @@ filled_step disk ps s around op new qs calls old over accepted fill needs geomet
         let k = one_thread (content_at disk) (block_count disk) h.0 ps h.1.0.thread over.accepted.thread in
         (qs, (ok, h.1.1 ∙ ap (disk_view disk) k ∙ sym same))
 
-    carried : (op : Operation) → writes_or_truncates op ≡ true → needs_no_device s op ≡ false → IsArrangedEffect disk ps s op calls new qs
+    carried : (op : Operation) → writes_or_truncates op ≡ true → needs_no_device s op ≡ false → IsDiskEffectWithLayout disk ps s op calls new qs
     carried (ops.Write fd bytes) e needs = record {
       effect = record {
         asks = λ f. absurd (cc);
@@ -254,9 +254,9 @@ failed_step disk around op old other = record {
 }
 
 -- What surrounds a session that worked is asked for, and not used.
-pub remounted_step : (disk : Disk) (order : NameOrder) (ps : List Pair) (around : DiskSummary) (state : SessionHealth) (calls old : List CallEvent) → ((s : Session) → state ≡ Healthy s → (xs : List Pair) × (IsAccepted disk xs × IsSummary disk xs around)) →
-    IsAccepted (ordered_disk order disk) ps → (order ≡ ShorterFirst → (qs : List Pair) → IsAccepted (ordered_disk LongerFirst disk) qs → ⊥) → WriteNothing calls → AllCalls (IsRead disk.blocks) calls →
-    IsStep (record { disk = disk; calls = old; state = state }) ops.Remount ops.Done (record { disk = ordered_disk order disk; calls = calls ++ old; state = Healthy (mounted_session (disk_tree disk ps)) })
+pub remounted_step : (disk : Disk) (order : NameOrder) (ps : List Pair) (around : DiskSummary) (state : SessionHealth) (calls old : List CallEvent) → ((s : Session) → state ≡ Healthy s → (xs : List Pair) × (IsAccepted disk xs × IsDiskSummary disk xs around)) →
+    IsAccepted (disk_with_order order disk) ps → (order ≡ ShorterFirst → (qs : List Pair) → IsAccepted (disk_with_order LongerFirst disk) qs → ⊥) → WriteNothing calls → AllCalls (IsRead disk.blocks) calls →
+    IsStep (record { disk = disk; calls = old; state = state }) ops.Remount ops.Done (record { disk = disk_with_order order disk; calls = calls ++ old; state = Healthy (mounted_session (disk_tree disk ps)) })
 remounted_step disk order ps around state calls old surrounds ok longer writes reads = record {
   answered = record {
     around = around;
@@ -275,7 +275,7 @@ remounted_step disk order ps around state calls old surrounds ok longer writes r
   effect_on_disk = λ h t e xs ys x y. carried_of t xs ys x y;
 }
   where
-    carried_of : (t : Session) (xs ys : List Pair) → IsAccepted disk xs → IsAccepted (ordered_disk order disk) ys → IsArrangedEffect disk xs t ops.Remount calls (ordered_disk order disk) ys
+    carried_of : (t : Session) (xs ys : List Pair) → IsAccepted disk xs → IsAccepted (disk_with_order order disk) ys → IsDiskEffectWithLayout disk xs t ops.Remount calls (disk_with_order order disk) ys
     carried_of t xs ys x y =
         let same = same_pairs order disk xs ys x y in
         record {

@@ -1,7 +1,7 @@
 -- A step of an operation leads to an accepted disk in the writing profile, with the tree from before the operation or the one from after it.
 use Rattle.std.proofs.Common.{ℕ, ◌≡◌, ◌≢◌, inl, Bool, true, false, List, [], ◌∷◌, ◌++◌, Option, Some, None, arith, sym, subst, ◌∙◌, append-nil}
 use Rattle.std.specs.Prelude.{All}
-use Rattle.lfs_model.proofs.Common.{All-from_recursion, recursion_from_All, Disk, Slot, Tail, same_pair, FitsInPair, Pair, is_hard_tail, Path, Tree, IsWritable, IsWritableSlot, HasNoEmpties, LeadsTo, disk_tree, pair_with_slots, FitsPair, HasEitherTree, IsWritableChange}
+use Rattle.lfs_model.proofs.Common.{All-from_recursion, recursion_from_All, Disk, Slot, Tail, same_pair, FitsInPair, Pair, is_hard_tail, Path, Tree, IsWritable, IsWritableSlot, HasNoEmptyPairs, IsDirectoryAtPath, disk_tree, pair_with_slots, IsFittingPair, HasEitherTree, IsWritableChange}
 use Rattle.lfs_model.proofs.Counts.{Each, each_append, each_left, each_right, each_pieces}
 use Rattle.lfs_model.proofs.Laws.{PathAddresses}
 use Rattle.lfs_model.proofs.Changes.{IsChangedImage}
@@ -15,7 +15,7 @@ use Rattle.lfs_model.proofs.MoveSets.{IsMoveSet}
 use Rattle.lfs_model.proofs.Rests.{IsMoveEnd}
 use Rattle.lfs_model.proofs.Writable.{IsWithin}
 use Rattle.lfs_model.proofs.Became.{Became, became_within, became_filled, fits_same, cut_some}
-use Rattle.lfs_model.proofs.Writable.{ends_joined}
+use Rattle.lfs_model.proofs.Writable.{last_tail_is_hard}
 use Rattle.lfs_model.proofs.LeftFiles.{Parts}
 use Rattle.lfs_model.proofs.MadeDirectory.{Cut, follows_then}
 use Rattle.lfs_model.proofs.Profiles.{step_writable, drop_writable, beside_writable, set_writable, end_writable}
@@ -36,7 +36,7 @@ taken_before disk ps new qs walk after step = record { pairs = qs; accepted = st
 -- the pair of a site keeps to the profile
 pub within_at : (disk : Disk) (w : Site) (p : Pair) (rest : List Pair) → IsWritable disk (thread_at w (p ∷ rest)) → IsWithin disk.profile disk.block_size disk.page p
 within_at disk w p rest ok = record {
-  pair = here (FitsPair disk) (recursion_from_All (FitsPair disk) (thread_at w (p ∷ rest)) ok.pairs);
+  pair = here (IsFittingPair disk) (recursion_from_All (IsFittingPair disk) (thread_at w (p ∷ rest)) ok.pairs);
   slots = here (λ (x : Pair). All (IsWritableSlot disk.profile disk.block_size disk.page) x.content.slots) (recursion_from_All (λ (x : Pair). All (IsWritableSlot disk.profile disk.block_size disk.page) x.content.slots) (thread_at w (p ∷ rest)) ok.slots);
 }
   where
@@ -64,14 +64,14 @@ pub record IsPut (disk : Disk) (w : Site) (p q : Pair) (more : List Pair) (l old
   pub is : all_slots (q ∷ more) ≡ l ++ (news ++ r)
   pub became : Became disk p (pair_with_slots (l ++ (news ++ r)) p) q more
   pub fit : Each (IsWritableSlot disk.profile disk.block_size disk.page) news
-  pub filled : ends_joined false (w.before ++ w.left) ≡ true → l ++ (news ++ r) ≢ []
+  pub filled : last_tail_is_hard false (w.before ++ w.left) ≡ true → l ++ (news ++ r) ≢ []
 
 module _ (disk : Disk) (w : Site) (p q : Pair) (more : List Pair) (l olds news r : List Slot) (c : IsPut disk w p q more l olds news r) where
   pub put_within : Each (IsWithin disk.profile disk.block_size disk.page) (q ∷ more)
   put_within = became_within disk p (pair_with_slots (l ++ (news ++ r)) p) q more c.is c.became (fit_spliced disk p l olds news r (within_at disk w p [] c.writable) c.was c.fit)
 
-  pub put_filled : HasNoEmpties (ends_joined false (w.before ++ w.left)) (p ∷ [] ++ (w.right ++ w.after)) → HasNoEmpties (ends_joined false (w.before ++ w.left)) (q ∷ more ++ (w.right ++ w.after))
-  put_filled h = became_filled disk p (pair_with_slots (l ++ (news ++ r)) p) q more (w.right ++ w.after) c.is c.became (ends_joined false (w.before ++ w.left)) c.filled h
+  pub put_filled : HasNoEmptyPairs (last_tail_is_hard false (w.before ++ w.left)) (p ∷ [] ++ (w.right ++ w.after)) → HasNoEmptyPairs (last_tail_is_hard false (w.before ++ w.left)) (q ∷ more ++ (w.right ++ w.after))
+  put_filled h = became_filled disk p (pair_with_slots (l ++ (news ++ r)) p) q more (w.right ++ w.after) c.is c.became (last_tail_is_hard false (w.before ++ w.left)) c.filled h
 
   -- a commit that changes slots, and perhaps the delta of the global state but for a move
   pub commit_taken : (new : Disk) (extra fresh : List ℕ) (change : Tree → Tree) (walk : PathAddresses → PathAddresses) → IsStep disk new w p [] q more extra fresh l olds news r
@@ -110,8 +110,8 @@ module _ (disk : Disk) (w : Site) (p o q : Pair) (c : IsTakenOver disk w p o q) 
   over_within : Each (IsWithin disk.profile disk.block_size disk.page) (q ∷ [])
   over_within = (within_same disk p q c.slots (within_at disk w p (o ∷ []) c.writable), tt)
 
-  over_filled : HasNoEmpties (ends_joined false (w.before ++ w.left)) (p ∷ o ∷ [] ++ (w.right ++ w.after)) → HasNoEmpties (ends_joined false (w.before ++ w.left)) (q ∷ [] ++ (w.right ++ w.after))
-  over_filled h = ((λ e n. h.0 e (sym c.slots ∙ n)), subst (λ t. HasNoEmpties (is_hard_tail t) (w.right ++ w.after)) (sym c.tail) h.1.1)
+  over_filled : HasNoEmptyPairs (last_tail_is_hard false (w.before ++ w.left)) (p ∷ o ∷ [] ++ (w.right ++ w.after)) → HasNoEmptyPairs (last_tail_is_hard false (w.before ++ w.left)) (q ∷ [] ++ (w.right ++ w.after))
+  over_filled h = ((λ e n. h.0 e (sym c.slots ∙ n)), subst (λ t. HasNoEmptyPairs (is_hard_tail t) (w.right ++ w.after)) (sym c.tail) h.1.1)
 
   -- with its only slot
   pub drop_taken : (new : Disk) (extra fresh : List ℕ) (l olds news r : List Slot) (change : Tree → Tree) (walk : PathAddresses → PathAddresses) → IsStep disk new w p (o ∷ []) q [] extra fresh l olds news r
@@ -138,14 +138,14 @@ pub unthread_taken : (disk new : Disk) (chain before left after : List Pair) (p 
 unthread_taken disk new chain before left after p o q l r change walk ok tail slots step follows = record {
   follows = follows;
   writable = drop_writable disk new chain before left after p [] o q [] [] [] l [] [] r step ok (within_same disk p q slots (within_at disk (last_site chain before left after) p (o ∷ []) ok), tt)
-      (λ h. ((λ e n. h.0 e (sym slots ∙ n)), subst (λ t. HasNoEmpties (is_hard_tail t) after) (sym tail) (weaker o.content.tail after h.1.1)));
+      (λ h. ((λ e n. h.0 e (sym slots ∙ n)), subst (λ t. HasNoEmptyPairs (is_hard_tail t) after) (sym tail) (weaker o.content.tail after h.1.1)));
 }
   where
-    none_needed : (rs : List Pair) (b : Bool) → HasNoEmpties b rs → HasNoEmpties false rs
+    none_needed : (rs : List Pair) (b : Bool) → HasNoEmptyPairs b rs → HasNoEmptyPairs false rs
     none_needed [] b k = tt
     none_needed (r ∷ rs) b k = ((λ e. absurd (cc)), k.1)
 
-    weaker : (t : Option Tail) (rs : List Pair) → HasNoEmpties (is_hard_tail t) rs → HasNoEmpties (is_hard_tail (softened t)) rs
+    weaker : (t : Option Tail) (rs : List Pair) → HasNoEmptyPairs (is_hard_tail t) rs → HasNoEmptyPairs (is_hard_tail (softened t)) rs
     weaker None rs k = k
     weaker (Some t) rs k = none_needed rs t.hard k
 
@@ -158,7 +158,7 @@ pub record IsPutBeside (disk : Disk) (w : Site) (p q : Pair) (more : List Pair) 
   pub is : all_slots (q ∷ more) ≡ l ++ (news ++ r)
   pub cut : Cut disk (pair_with_slots (l ++ (news ++ r)) p) q more
   pub fit : Each (IsWritableSlot disk.profile disk.block_size disk.page) news
-  pub filled : ends_joined false (w.before ++ w.left) ≡ true → l ++ (news ++ r) ≢ []
+  pub filled : last_tail_is_hard false (w.before ++ w.left) ≡ true → l ++ (news ++ r) ≢ []
   pub run : IsRun (q ∷ more)
   pub empty : f.content.slots ≡ []
   pub tail : f.content.tail ≡ p.content.tail
@@ -197,18 +197,18 @@ module _ (disk new : Disk) (chain before left after : List Pair) (p q : Pair) (m
   soft_front t e k = absurd (let z = sym e ∙ k in cc)
 
   beside_filled : (more : List Pair) → all_slots (q ∷ more) ≡ l ++ (news ++ r) → Cut disk (pair_with_slots (l ++ (news ++ r)) p) q more → IsRun (q ∷ more)
-      → HasNoEmpties (ends_joined false (before ++ left)) (p ∷ [] ++ after) → HasNoEmpties (ends_joined false (before ++ left)) (q ∷ (more ++ f ∷ []) ++ after)
+      → HasNoEmptyPairs (last_tail_is_hard false (before ++ left)) (p ∷ [] ++ after) → HasNoEmptyPairs (last_tail_is_hard false (before ++ left)) (q ∷ (more ++ f ∷ []) ++ after)
   beside_filled [] e k run h = (
     (λ front none. c.filled front (sym (sym (append-nil q.content.slots) ∙ e) ∙ none)),
-    (soft_front (is_hard_tail q.content.tail) run, subst (λ t. HasNoEmpties (is_hard_tail t) after) (sym c.tail) h.1),
+    (soft_front (is_hard_tail q.content.tail) run, subst (λ t. HasNoEmptyPairs (is_hard_tail t) after) (sym c.tail) h.1),
   )
   beside_filled (g ∷ []) e k run h =
       let some = cut_some disk draft q g e k.0 k.1 k.2 in
-      ((λ front. some.0), ((λ hard. some.1), (soft_front (is_hard_tail g.content.tail) run.1, subst (λ t. HasNoEmpties (is_hard_tail t) after) (sym c.tail) h.1)))
+      ((λ front. some.0), ((λ hard. some.1), (soft_front (is_hard_tail g.content.tail) run.1, subst (λ t. HasNoEmptyPairs (is_hard_tail t) after) (sym c.tail) h.1)))
   beside_filled (g ∷ i ∷ more) e k run h = absurd k
 
   pub beside_taken : (extra fresh : List ℕ) (change : Tree → Tree) (walk : PathAddresses → PathAddresses) → IsStepBeside disk new chain before left after p [] q more f extra fresh l olds news r
-      → (P : Path) (a : ℕ × ℕ) → LeadsTo (thread_at (last_site chain before left after) (p ∷ [])) P a → same_pair (begin_of (last_site chain before left after) (p ∷ [])) a ≡ true
+      → (P : Path) (a : ℕ × ℕ) → IsDirectoryAtPath (thread_at (last_site chain before left after) (p ∷ [])) P a → same_pair (begin_of (last_site chain before left after) (p ∷ [])) a ≡ true
       → IsChangedImage disk (thread_at (last_site chain before left after) (p ∷ [])) new (thread_at (last_site chain before left after) (q ∷ (more ++ f ∷ []))) change walk
       → IsWritableChange disk (thread_at (last_site chain before left after) (p ∷ [])) new (thread_at (last_site chain before left after) (q ∷ (more ++ f ∷ []))) change walk
   beside_taken extra fresh change walk step P a leads same follows = record {

@@ -1,12 +1,12 @@
 -- What a stop leaves: the disk before the call always, and what a whole call makes.
 use Rattle.std.specs.Prelude.{ℕ, ◌≡◌, ◌+◌, ◌≤◌, ◌<◌, take, drop}
 use Rattle.std.proofs.Common.{List, [], ◌++◌, length, inl, inr, refl, ap, ◌∙◌, arith, length-append}
-use Rattle.lfs_model.proofs.Common.{length-set, length-take-le, length-drop, get_or-set_same, get_or-set_other, Blocks, block_bytes, overwritten_at, programmed, SameExcept, block_log, DeviceCall, Read, Program, Erase, Blank, may_stop_leave}
+use Rattle.lfs_model.proofs.Common.{length-set, length-take-le, length-drop, get_or-set_same, get_or-set_other, Blocks, block_bytes, overwritten_at, programmed, SameExcept, block_log, DeviceCall, Read, Program, Erase, Blank, power_loss_may_leave}
 
 same_but_nothing : (b : ℕ) (blocks : Blocks) → SameExcept b blocks blocks
 same_but_nothing b blocks = record { count = refl; size = refl; others = λ other d. refl }
 
-pub stops_before : (call : DeviceCall) (before : Blocks) → may_stop_leave call before before
+pub stops_before : (call : DeviceCall) (before : Blocks) → power_loss_may_leave call before before
 stops_before (Read block off len) before = refl
 stops_before (Program block off bytes) before = (same_but_nothing block before, inl refl)
 stops_before (Erase block) before = (same_but_nothing block before, inl refl)
@@ -17,7 +17,7 @@ length_overwritten block off bytes fits =
     omega (arith, length-append (take off block ++ bytes) (drop (off + length bytes) block), length-append (take off block) bytes, length-take-le off block (omega arith), length-drop (off + length bytes) block)
 
 pub stops_whole : (b off : ℕ) (bytes : List ℕ) (before : Blocks) → b < length before → off + length bytes ≤ length (block_bytes before b) →
-    may_stop_leave (Program b off bytes) before (programmed before b off bytes)
+    power_loss_may_leave (Program b off bytes) before (programmed before b off bytes)
 stops_whole b off bytes before below fits = (
   record {
     count = length-set before b written;

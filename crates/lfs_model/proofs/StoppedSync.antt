@@ -1,10 +1,10 @@
 -- A stop in the program of a sync leaves the file with its old bytes or with the new ones.
 use Rattle.std.proofs.Common.{ℕ, ◌≡◌, inl, inr, true, false, List, [], ◌∷◌, Option, Some, None, refl, sym, ap, subst, ◌∙◌}
 use Rattle.std.specs.Prelude.{All, codes, slice_get}
-use Rattle.lfs_model.proofs.Common.{All-from_recursion, Blocks, block_bytes, overwritten_at, SameExcept, Disk, disk_block, SameGeometry, content_at, current_block, Slot, Pair, file_slot, anchor_address, BeginsWith, superblock_entry, Tree, Session, DiskSummary, operation_result, operation_effect, operation_refusal, unless_refused, HasEitherTree, IsHealthySession, with_blocks, SurvivesPowerLoss, IsAccepted, IsWritable, LeftByLoss}
+use Rattle.lfs_model.proofs.Common.{All-from_recursion, Blocks, block_bytes, overwritten_at, SameExcept, Disk, disk_block, SameGeometry, content_at, current_block, Slot, Pair, file_slot, superblock_pair_address, HasFirstLogEntry, superblock_entry, Tree, Session, DiskSummary, operation_result, operation_effect, operation_refusal, unless_refused, HasEitherTree, IsHealthySession, with_blocks, SurvivesPowerLoss, IsAccepted, IsWritable, LeftByLoss}
 use Rattle.lfs_model.specs.format.Crc.{crc_of, checksum_after_bits}
-use Rattle.lfs_model.specs.format.Log.{LogEntry, block_entries, chain_of, chain_within, commit_within, entry_at, closes}
-use Rattle.lfs_model.specs.format.Content.{has_commit, current_of_two, content_after, complete_content, empty_raw_content}
+use Rattle.lfs_model.specs.format.Log.{LogEntry, block_entries, chain_of, bounded_commit_sequence, bounded_commit_at, entry_at, closes}
+use Rattle.lfs_model.specs.format.Content.{has_commit, later_committed_block, content_after, decoded_content, empty_raw_content}
 use Rattle.std.specs.Option.{option_and_then}
 use Rattle.lfs_model.specs.format.Slots.{PairContent, FitsInPair}
 use Rattle.lfs_model.specs.tree.Profile.{IsWritableSlot}
@@ -27,33 +27,33 @@ use Rattle.lfs_model.proofs.WrittenFile.{root, named, superblock, synced, synced
 
 -- ---- a disk whose root has the log of another
 
-current_two : (a b : List ℕ) → has_commit a ≡ true → has_commit b ≡ false → current_of_two a b ≡ Some a
+current_two : (a b : List ℕ) → has_commit a ≡ true → has_commit b ≡ false → later_committed_block a b ≡ Some a
 current_two a b e f = rw e (rw f refl)
 
 abbrev content_of : List LogEntry → Option PairContent
-content_of es = option_and_then complete_content (content_after empty_raw_content es)
+content_of es = option_and_then decoded_content (content_after empty_raw_content es)
 
 abbrev content_of_block : Option (List ℕ) → Option PairContent
-content_of_block o = option_and_then complete_content (option_and_then (λ block. content_after empty_raw_content (block_entries block)) o)
+content_of_block o = option_and_then decoded_content (option_and_then (λ block. content_after empty_raw_content (block_entries block)) o)
 
 module _ (image left : Disk) (file : Slot) (geometry : SameGeometry image left) (log : SameLog (disk_block left 0) (disk_block image 0)) (other : disk_block left 1 ≡ disk_block image 1)
-    (has : has_commit (disk_block image 0) ≡ true) (none : has_commit (disk_block image 1) ≡ false) (holds : content_at image anchor_address ≡ Some (root (file ∷ [])).content)
-    (begins : BeginsWith (current_block image anchor_address) superblock_entry) (files : SameFileBlocks image left file.struct) (inside : IsAccepted image (root (file ∷ []) ∷ [])) where
-  current_left : current_block left anchor_address ≡ Some (disk_block left 0)
+    (has : has_commit (disk_block image 0) ≡ true) (none : has_commit (disk_block image 1) ≡ false) (holds : content_at image superblock_pair_address ≡ Some (root (file ∷ [])).content)
+    (begins : HasFirstLogEntry (current_block image superblock_pair_address) superblock_entry) (files : SameFileBlocks image left file.struct) (inside : IsAccepted image (root (file ∷ []) ∷ [])) where
+  current_left : current_block left superblock_pair_address ≡ Some (disk_block left 0)
   current_left = current_two (disk_block left 0) (disk_block left 1) (has_commit_same (disk_block left 0) (disk_block image 0) log ∙ has) (ap has_commit other ∙ none)
 
-  current_image : current_block image anchor_address ≡ Some (disk_block image 0)
+  current_image : current_block image superblock_pair_address ≡ Some (disk_block image 0)
   current_image = current_two (disk_block image 0) (disk_block image 1) has none
 
   entries : block_entries (disk_block left 0) ≡ block_entries (disk_block image 0)
   entries = entries_same (disk_block left 0) (disk_block image 0) log
 
-  holds_left : content_at left anchor_address ≡ Some (root (file ∷ [])).content
+  holds_left : content_at left superblock_pair_address ≡ Some (root (file ∷ [])).content
   holds_left = ap content_of_block current_left ∙ ap content_of entries ∙ sym (ap content_of_block current_image) ∙ holds
 
-  begins_left : BeginsWith (current_block left anchor_address) superblock_entry
-  begins_left = subst (λ o. BeginsWith o superblock_entry) (sym current_left)
-      (subst (λ (es : List LogEntry). slice_get es 0 ≡ Some superblock_entry) (sym entries) (subst (λ o. BeginsWith o superblock_entry) current_image begins))
+  begins_left : HasFirstLogEntry (current_block left superblock_pair_address) superblock_entry
+  begins_left = subst (λ o. HasFirstLogEntry o superblock_entry) (sym current_left)
+      (subst (λ (es : List LogEntry). slice_get es 0 ≡ Some superblock_entry) (sym entries) (subst (λ o. HasFirstLogEntry o superblock_entry) current_image begins))
 
   device : IsDevice image left (root (file ∷ []) ∷ []) (root (file ∷ []) ∷ [])
   device = record {
@@ -66,15 +66,15 @@ module _ (image left : Disk) (file : Slot) (geometry : SameGeometry image left) 
 -- ---- the two logs that a stop leaves
 
 open_has : has_commit (disk_block image_after_open 0) ≡ true
-unfolding chain_of chain_within commit_within entry_at closes crc_of checksum_after_bits
+unfolding chain_of bounded_commit_sequence bounded_commit_at entry_at closes crc_of checksum_after_bits
 open_has = refl
 
 sync_has : has_commit (disk_block image_after_sync 0) ≡ true
-unfolding chain_of chain_within commit_within entry_at closes crc_of checksum_after_bits
+unfolding chain_of bounded_commit_sequence bounded_commit_at entry_at closes crc_of checksum_after_bits
 sync_has = refl
 
 empty_beside : has_commit (disk_block image_after_open 1) ≡ false
-unfolding chain_of chain_within commit_within entry_at closes crc_of checksum_after_bits
+unfolding chain_of bounded_commit_sequence bounded_commit_at entry_at closes crc_of checksum_after_bits
 empty_beside = refl
 
 none_beside : (disk : Disk) → disk_block disk 1 ≡ disk_block image_after_open 1 → has_commit (disk_block disk 1) ≡ false

@@ -1,7 +1,7 @@
 -- The entries of changes can be stored, so what they make of a content can be written again.
 use Rattle.std.proofs.Common.{ℕ, zero, suc, ◌≡◌, ◌+◌, ◌/◌, ◌%◌, ◌<◌, ◌≤◌, ◌==◌, ◌&&◌, Bool, true, false, cond, List, [], ◌∷◌, length, Some, None, refl, sym, ap, ◌∙◌, arith}
 use Rattle.std.specs.Prelude.{slice_index, nat_le, nat_lt}
-use Rattle.lfs_model.proofs.Common.{list_all, and_parts, ne_eqb, leb-true, ltb-true, make_tag, tag_class, tag_length, RawContent, content_after, is_attribute_removal, no_id, create_tag_type, delete_tag_type, move_type, log_entry, first_attribute_type, address_bytes, bytes_of_move_state, HasTagLength, HaveTagLengths, IsWellFormed, ContentChange, Create, Delete, PutStruct, PutAttribute, RemoveAttribute, PutTail, PutMove, change_entries, entries_of_changes, is_storable, content_with_changes}
+use Rattle.lfs_model.proofs.Common.{list_all, and_parts, ne_eqb, leb-true, ltb-true, make_tag, tag_class, tag_length, RawContent, content_after, is_attribute_removal, no_id, create_tag_type, delete_tag_type, move_state_type, log_entry, first_attribute_type, address_bytes, bytes_of_move_state, HasTagLength, HaveTagLengths, IsWellFormed, ContentChange, Create, Delete, PutStruct, PutAttribute, RemoveAttribute, PutTail, PutMove, change_entries, entries_of_changes, is_storable, content_with_changes}
 use Rattle.lfs_model.specs.layers.WrittenContent.{tail_type, tail_or_null}
 use Rattle.lfs_model.specs.layers.Changes.{is_name_type, is_struct_type, fits_in_tag}
 use Rattle.lfs_model.proofs.WrittenAnew.{tag_length-make_tag}
@@ -68,7 +68,7 @@ stored_change (RemoveAttribute id attribute) s =
 stored_change (PutTail hard pair) s =
     (stored_data (tail_type hard) no_id (address_bytes (tail_or_null pair)) (omega arith) (λ k. small_at (address_bytes (tail_or_null pair)) (pair_small (tail_or_null pair))), tt)
 stored_change (PutMove state) s =
-    (stored_data move_type no_id (bytes_of_move_state state) (omega arith) (λ k. small_at (bytes_of_move_state state) (omega arith, (omega arith, (omega arith, (omega arith, pair_small state.pair))))), tt)
+    (stored_data move_state_type no_id (bytes_of_move_state state) (omega arith) (λ k. small_at (bytes_of_move_state state) (omega arith, (omega arith, (omega arith, (omega arith, pair_small state.pair))))), tt)
 
 stored_changes : (changes : List ContentChange) → list_all is_storable changes ≡ true → HaveTagLengths (entries_of_changes changes)
 stored_changes [] s = tt

@@ -1,14 +1,14 @@
 -- What a loss of power in an operation leaves, and what a mount and a recovery make of it.
 use Rattle.std.proofs.Common.{◌≡◌, ◌⊎◌, inl, inr, ℕ, Bool, true, false, cond, not, List, [], ◌∷◌, ◌++◌, Option, Some, refl, sym, ap, ap₂, subst, ◌∙◌, append_assoc}
 use Rattle.std.specs.Prelude.{Any}
-use Rattle.lfs_model.proofs.Common.{same_Some, append_cancel_right, Blocks, Disk, SameGeometry, block_count, ordered_disk, content_at, Pair, pairs_gstate, Tree, IsAccepted, IsWritable, IsWritableDisk, disk_tree, used_blocks, Operation, Reply, Session, DiskSummary, refuse_if, operation_result, unless_refused, SessionHealth, Healthy, nonremount_result, mounted_session, IsRecovered, SystemState, ShowsTree, HealthyHasDiskTree, is_refusal, IsTreeStep, HasDiskTree, LeftByLoss, ErasesCleanly, HasEitherTree, with_blocks, IsHealthySession, SurvivesPowerLoss, IsMounted, KeepsTree, CallEvent, AllCalls, AllCallsSince, HoldsAtLosses}
+use Rattle.lfs_model.proofs.Common.{same_Some, append_cancel_right, Blocks, Disk, SameGeometry, block_count, disk_with_order, content_at, Pair, pairs_gstate, Tree, IsAccepted, IsWritable, IsWritableDisk, disk_tree, used_blocks, Operation, Reply, Session, DiskSummary, refuse_if, operation_result, unless_refused, SessionHealth, Healthy, nonremount_result, mounted_session, IsRecovered, SystemState, ShowsTree, HealthyHasDiskTree, is_refusal, IsTreeStep, HasDiskTree, LeftByLoss, ErasesCleanly, HasEitherTree, with_blocks, IsHealthySession, SurvivesPowerLoss, IsJustMounted, KeepsTree, CallEvent, AllCalls, AllCallsSince, HoldsAtLosses}
 use Rattle.lfs_model.specs.declared.order.NameOrder.{NameOrder}
 use Rattle.lfs_model.specs.declared.limits.Profile.{Profile}
 use Rattle.lfs_model.specs.session.Operations as ops
 use Rattle.lfs_model.specs.session.Operations.{ReadOnly}
 use Rattle.lfs_model.specs.crash.RepeatedPowerLoss.{SameBytes, RecoversTree, LeftInCall, LeftBetween}
 use Rattle.lfs_model.proofs.AfterStops.{left_before}
-use Rattle.lfs_model.proofs.Sites.{AnyByRecursion, among_from, any_from, among_parts}
+use Rattle.lfs_model.proofs.Sites.{HoldsForSome, among_from, any_from, among_parts}
 use Rattle.lfs_model.proofs.Uniqueness.{one_thread}
 use Rattle.lfs_model.proofs.Kept.{mount_begins, one_tree}
 
@@ -66,7 +66,7 @@ record IsFound (disk : Disk) (ps : List Pair) (begin : SystemState) : Type 0 whe
   tree : disk_tree begin.disk ps ≡ disk_tree disk ps
   state : begin.state ≡ Healthy (mounted_session (disk_tree disk ps))
 
-found : (disk other : Disk) (ps : List Pair) (begin : SystemState) → IsAccepted disk ps → IsWritable disk ps → SameBytes disk other → IsMounted other begin → IsFound disk ps begin
+found : (disk other : Disk) (ps : List Pair) (begin : SystemState) → IsAccepted disk ps → IsWritable disk ps → SameBytes disk other → IsJustMounted other begin → IsFound disk ps begin
 found disk other ps begin ok fits same m =
     let s = m.shows in
     let pairs = same_thread disk other ps s.0 same ok s.1.0 in
@@ -95,9 +95,9 @@ safe_with disk ps ok fits = record {
 }
 
 -- a session that mounts a disk with a safe tree may write there
-pub start_may : (tree : Tree) (order : NameOrder) (left : Disk) (begin : SystemState) → KeepsTree tree (ordered_disk order left) → SameBytes left begin.disk → IsMounted begin.disk begin → HasDiskTree begin × IsWritableDisk begin.disk
+pub start_may : (tree : Tree) (order : NameOrder) (left : Disk) (begin : SystemState) → KeepsTree tree (disk_with_order order left) → SameBytes left begin.disk → IsJustMounted begin.disk begin → HasDiskTree begin × IsWritableDisk begin.disk
 start_may tree order left begin safe same mounts =
-    let f = found (ordered_disk order left) begin.disk safe.pairs begin safe.accepted safe.writable same mounts in
+    let f = found (disk_with_order order left) begin.disk safe.pairs begin safe.accepted safe.writable same mounts in
     (mount_begins begin.disk begin mounts, (safe.pairs, (f.accepted, f.writable)))
 
 -- ---- a stop in an operation
@@ -126,7 +126,7 @@ pub stopped_has : (P : Blocks → Type 0) (old new : List CallEvent) (blocks : B
 stopped_has P old new blocks all since =
     among all.events (all.each) (among_from (λ e. LeftByLoss e blocks) all.events (subst (λ es. Any (λ e. LeftByLoss e blocks) es) (append_cancel_right since.events all.events old (sym since.extends ∙ all.extends)) since.stopped))
   where
-    among : (events : List CallEvent) → AllCalls (λ e. (disk : Blocks) → LeftByLoss e disk → P disk) events → AnyByRecursion (λ e. LeftByLoss e blocks) events → P blocks
+    among : (events : List CallEvent) → AllCalls (λ e. (disk : Blocks) → LeftByLoss e disk → P disk) events → HoldsForSome (λ e. LeftByLoss e blocks) events → P blocks
     among [] h k = absurd k
     among (e ∷ events) h (inl k) = h.0 blocks k
     among (e ∷ events) h (inr k) = among events h.1 k
@@ -151,8 +151,8 @@ pub record IsSurvivedWith (Cut : Disk → Tree → Type 0) (NoRemount : Type 0) 
   pub order : NameOrder
   pub stays : NoRemount → order ≡ left.order
   pub tree : Tree
-  pub cut : Cut (ordered_disk order left) tree
-  pub safe : KeepsTree tree (ordered_disk order left)
+  pub cut : Cut (disk_with_order order left) tree
+  pub safe : KeepsTree tree (disk_with_order order left)
 
 -- ---- where in the calls it was
 
@@ -161,13 +161,13 @@ abbrev pub IsEither : (from next to : SystemState) (blocks : Blocks) → Type 0
 IsEither from next to blocks = LeftInCall from.calls next.calls blocks ⊎ LeftInCall next.calls to.calls blocks
 
 pub either_part : (from next to : SystemState) (blocks : Blocks) {P Q : CallEvent → Type 0} → AllCallsSince P from.calls next.calls → AllCallsSince Q next.calls to.calls → LeftInCall from.calls to.calls blocks → IsEither from next to blocks
-either_part from next to blocks first second since = go (among_parts (λ e. LeftByLoss e blocks) second.events first.events (subst (AnyByRecursion (λ e. LeftByLoss e blocks)) same (among_from (λ e. LeftByLoss e blocks) since.events since.stopped)))
+either_part from next to blocks first second since = go (among_parts (λ e. LeftByLoss e blocks) second.events first.events (subst (HoldsForSome (λ e. LeftByLoss e blocks)) same (among_from (λ e. LeftByLoss e blocks) since.events since.stopped)))
   where
     same : since.events ≡ second.events ++ first.events
     same = append_cancel_right since.events (second.events ++ first.events) from.calls
         (sym since.extends ∙ second.extends ∙ ap (λ (l : List CallEvent). second.events ++ l) first.extends ∙ sym (append_assoc second.events first.events from.calls))
 
-    go : AnyByRecursion (λ e. LeftByLoss e blocks) second.events ⊎ AnyByRecursion (λ e. LeftByLoss e blocks) first.events → IsEither from next to blocks
+    go : HoldsForSome (λ e. LeftByLoss e blocks) second.events ⊎ HoldsForSome (λ e. LeftByLoss e blocks) first.events → IsEither from next to blocks
     go (inl k) = inr (record { events = second.events; extends = second.extends; stopped = any_from (λ e. LeftByLoss e blocks) second.events k })
     go (inr k) = inl (record { events = first.events; extends = first.extends; stopped = any_from (λ e. LeftByLoss e blocks) first.events k })
 
@@ -179,10 +179,10 @@ same_blocks disk new blocks g =
     ap₂ (λ b p. disk_with b p disk.order disk.profile blocks) (sym g.block_size) (sym g.page) ∙ ap₂ (λ o v. disk_with new.block_size new.page o v blocks) (sym g.order) (sym g.profile)
 
 -- a remount alone changes the order of the names
-pub shape_in_order : (b : Bool) (disk new : Disk) → SameGeometry (cond b (ordered_disk new.order disk) disk) new → SameGeometry (ordered_disk new.order disk) new
+pub shape_in_order : (b : Bool) (disk new : Disk) → SameGeometry (cond b (disk_with_order new.order disk) disk) new → SameGeometry (disk_with_order new.order disk) new
 shape_in_order true disk new g = g
 shape_in_order false disk new g = record { block_size = g.block_size; page = g.page; order = refl; profile = g.profile; count = g.count }
 
-pub order_stays : (b : Bool) (disk new : Disk) → SameGeometry (cond b (ordered_disk new.order disk) disk) new → b ≡ false → new.order ≡ disk.order
+pub order_stays : (b : Bool) (disk new : Disk) → SameGeometry (cond b (disk_with_order new.order disk) disk) new → b ≡ false → new.order ≡ disk.order
 order_stays true disk new g e = absurd (cc)
 order_stays false disk new g e = g.order

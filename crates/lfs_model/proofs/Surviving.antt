@@ -1,7 +1,7 @@
 -- Session steps that survive stops survive them.
 use Rattle.std.proofs.Common.{ℕ, ◌≡◌, Bool, true, false, cond, List, Option, Some, refl, sym, ap, ap₂, subst, ◌∙◌}
 use Rattle.lfs_model.specs.declared.limits.Profile.{Profile}
-use Rattle.lfs_model.proofs.Common.{content_at, Disk, block_count, ordered_disk, Operation, Reply, IsHealthySession, HasEitherTree, SurvivesStoppedCalls, SurvivesPowerLoss, HealthyHasDiskTree, ShowsTree, IsTreeStep, SystemState, is_refusal, Session, DiskSummary, Gstate, Healthy, SessionHealth, IsSummary, nonremount_result, is_remount, remount_result, operation_result, Pair, IsAccepted, disk_tree, IsWritable}
+use Rattle.lfs_model.proofs.Common.{content_at, Disk, block_count, disk_with_order, Operation, Reply, IsHealthySession, HasEitherTree, SurvivesStoppedCalls, SurvivesPowerLoss, HealthyHasDiskTree, ShowsTree, IsTreeStep, SystemState, is_refusal, Session, DiskSummary, Gstate, Healthy, SessionHealth, IsDiskSummary, nonremount_result, is_remount, remount_result, operation_result, Pair, IsAccepted, disk_tree, IsWritable}
 use Rattle.lfs_model.proofs.AfterStops.{left_after, left_before}
 use Rattle.lfs_model.proofs.Kept.{one_tree}
 use Rattle.lfs_model.proofs.OtherOrder.{same_pairs, same_tree, writable_in_order}
@@ -16,11 +16,11 @@ same_bit true false f g = sym (f refl)
 same_bit false true f g = g refl
 same_bit false false f g = refl
 
-pub same_surroundings : (disk : Disk) (ps qs : List Pair) (a b : DiskSummary) → IsAccepted disk ps → IsAccepted disk qs → IsSummary disk ps a → IsSummary disk qs b → a ≡ b
+pub same_surroundings : (disk : Disk) (ps qs : List Pair) (a b : DiskSummary) → IsAccepted disk ps → IsAccepted disk qs → IsDiskSummary disk ps a → IsDiskSummary disk qs b → a ≡ b
 same_surroundings disk ps qs a b one other around about =
-    all (subst (λ z. IsSummary disk z a) (one_thread (content_at disk) (block_count disk) ps qs one.thread other.thread) around) about
+    all (subst (λ z. IsDiskSummary disk z a) (one_thread (content_at disk) (block_count disk) ps qs one.thread other.thread) around) about
   where
-    all : IsSummary disk qs a → IsSummary disk qs b → a ≡ b
+    all : IsDiskSummary disk qs a → IsDiskSummary disk qs b → a ≡ b
     all x y =
         ap (λ (k : Profile). record a { profile = k }) (x.profile ∙ sym y.profile)
         ∙ ap₂ (λ (s p : ℕ). record a { profile = b.profile; block_size = s; page = p }) (x.block_size ∙ sym y.block_size) (x.page ∙ sym y.page)
@@ -42,13 +42,13 @@ session_step_survives_loss from op reply to agrees turn survives = record { stop
             (one_tree from.disk (disk_tree from.disk ps) s.tree (ps, (work.accepted, refl)) (subst (HealthyHasDiskTree from.disk) work.healthy agrees)))
 
         -- by a remount, in the order that it found
-        read_anew : to.disk ≡ ordered_disk to.disk.order from.disk → HasEitherTree to.disk s.tree (operation_result around s op).1.tree
+        read_anew : to.disk ≡ disk_with_order to.disk.order from.disk → HasEitherTree to.disk s.tree (operation_result around s op).1.tree
         read_anew e =
             let known = true_from to (session_step_is_healthy from to op reply turn (subst IsHealthy (sym work.healthy) tt)) turn.agrees in
             let shown = subst (λ d. ShowsTree d (Some known.session.tree)) e known.shows in
             let pairs = same_pairs to.disk.order from.disk ps shown.0 work.accepted shown.1.0 in
             subst (λ d. HasEitherTree d s.tree (operation_result around s op).1.tree) (sym e)
-            (left_before (ordered_disk to.disk.order from.disk) shown.0 s.tree (operation_result around s op).1.tree shown.1.0
+            (left_before (disk_with_order to.disk.order from.disk) shown.0 s.tree (operation_result around s op).1.tree shown.1.0
             (writable_in_order to.disk.order from.disk shown.0 (subst (IsWritable from.disk) pairs work.writable))
             (same_tree to.disk.order from.disk (disk_tree from.disk shown.0) s.tree (shown.0, (shown.1.0, refl)) (subst (HealthyHasDiskTree from.disk) work.healthy agrees)))
 

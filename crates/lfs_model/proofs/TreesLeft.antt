@@ -1,16 +1,16 @@
 -- Which tree a loss of power in a life leaves, from what its turns define.
 use Rattle.std.proofs.Common.{append-nil, ◌≡◌, ◌⊎◌, inl, inr, Bool, true, false, cond, List, [], ◌∷◌, ◌++◌, Option, Some, None, refl, sym, ap, subst, ◌∙◌}
-use Rattle.lfs_model.proofs.Common.{default_profile, zero_gstate, Disk, ordered_disk, Pair, Tree, Operation, Reply, Refusal, Session, DiskSummary, IsHealthySession, operation_result, operation_effect, operation_refusal, unless_refused, SessionHealth, HasFailed, Healthy, is_remount, nonremount_result, remount_result, mounted_session, SystemState, HealthyHasDiskTree, IsTreeStep, is_refusal, and_parts}
+use Rattle.lfs_model.proofs.Common.{default_profile, zero_gstate, Disk, disk_with_order, Pair, Tree, Operation, Reply, Refusal, Session, DiskSummary, IsHealthySession, operation_result, operation_effect, operation_refusal, unless_refused, SessionHealth, HasFailed, Healthy, is_remount, nonremount_result, remount_result, mounted_session, SystemState, HealthyHasDiskTree, IsTreeStep, is_refusal, and_parts}
 use Rattle.lfs_model.specs.crash.Failure.{OperationFails}
 use Rattle.lfs_model.specs.session.Operations as ops
 use Rattle.lfs_model.specs.session.Headline.{session_after}
 use Rattle.lfs_model.specs.declared.order.NameOrder.{NameOrder}
-use Rattle.lfs_model.specs.crash.RepeatedPowerLoss.{IsMounted, KeepsTree, LeftBetween, LossInLife, MeetsRunPremises, SameBytes}
+use Rattle.lfs_model.specs.crash.RepeatedPowerLoss.{IsJustMounted, KeepsTree, LeftBetween, LossInLife, MeetsCrashSafetyPremises, SameBytes}
 use Rattle.lfs_model.proofs.SessionSteps.{IsHealthy}
 use Rattle.lfs_model.proofs.Surviving.{same_surroundings}
-use Rattle.lfs_model.specs.crash.Lives.{Turn, EndsWith, IsLife, fails_last, is_last}
+use Rattle.lfs_model.specs.crash.Lives.{Turn, EndsWith, IsLife, only_last_may_fail, is_last}
 use Rattle.lfs_model.specs.crash.LifeHeadline.{session_after_turn}
-use Rattle.lfs_model.specs.crash.LifeTrees.{IsTreeOfLife, LeavesTreeOfLife, MayLosePower, StartsSafely}
+use Rattle.lfs_model.specs.crash.LifeTrees.{IsTreeOfLife, LeavesTreeOfLife, HasWritableDiskTree, HasMountableTree}
 use Rattle.lfs_model.proofs.LivedOn.{step_defined}
 use Rattle.lfs_model.proofs.RunTurns.{only, none_inside}
 use Rattle.lfs_model.proofs.LivesSurvived.{life_survives}
@@ -100,7 +100,7 @@ module _ (P : Tree → Type 0) where
     all : AllTreesHave P around session turns
 
   reached : (around : DiskSummary) (done others : List Turn) (from at : SystemState) (s : Session) → from.state ≡ Healthy s → HealthyHasDiskTree from.disk from.state → (is_last others ≡ false) ⊎ IsHealthy at.state →
-      fails_last (done ++ others) ≡ true → IsLife from done at → AllTreesHave P around s (done ++ others) → IsReached around at others
+      only_last_may_fail (done ++ others) ≡ true → IsLife from done at → AllTreesHave P around s (done ++ others) → IsReached around at others
   reached around [] others from at s healthy agrees some ends same all =
       subst (λ m. IsReached around m others) same (record { session = s; healthy = healthy; agrees = agrees; all = all })
   reached around (turn ∷ done) others from at s healthy agrees some ends (one, rest) all =
@@ -128,7 +128,7 @@ module _ (P : Tree → Type 0) where
 
   -- ---- the tree that is left
 
-  tree_left : (from to : SystemState) (turns : List Turn) (s : Session) (left : Disk) (tree : Tree) → from.state ≡ Healthy s → HealthyHasDiskTree from.disk from.state → fails_last turns ≡ true → IsLife from turns to →
+  tree_left : (from to : SystemState) (turns : List Turn) (s : Session) (left : Disk) (tree : Tree) → from.state ≡ Healthy s → HealthyHasDiskTree from.disk from.state → only_last_may_fail turns ≡ true → IsLife from turns to →
       ((around : DiskSummary) → AllTreesHave P around s turns) → LossInLife from turns to left tree → P tree
   tree_left from to turns s left tree healthy agrees ends lived all (inl h) = by_either h.loss.either
     where
@@ -136,7 +136,7 @@ module _ (P : Tree → Type 0) where
       around = h.loss.around
 
       r : IsReached around h.at (h.cut ∷ h.others)
-      r = reached around h.done (h.cut ∷ h.others) from h.at s healthy agrees (inl refl) (subst (λ ts. fails_last ts ≡ true) h.are ends) h.lived (subst (AllTreesHave P around s) h.are (all around))
+      r = reached around h.done (h.cut ∷ h.others) from h.at s healthy agrees (inl refl) (subst (λ ts. only_last_may_fail ts ≡ true) h.are ends) h.lived (subst (AllTreesHave P around s) h.are (all around))
 
       same : r.session ≡ h.loss.session
       same = same_session r.session h.loss.session (sym r.healthy ∙ h.loss.work.healthy)
@@ -152,7 +152,7 @@ module _ (P : Tree → Type 0) where
       subst P (sym (h.is ∙ ap (λ (t : Session). t.tree) (same_session h.session r.session (sym h.healthy ∙ r.healthy)))) r.all
     where
       r : IsReached any_summary to []
-      r = reached any_summary turns [] from to s healthy agrees (inr (subst IsHealthy (sym h.healthy) tt)) (subst (λ ts. fails_last ts ≡ true) (sym (append-nil turns)) ends) lived (subst (AllTreesHave P any_summary s) (sym (append-nil turns)) (all any_summary))
+      r = reached any_summary turns [] from to s healthy agrees (inr (subst IsHealthy (sym h.healthy) tt)) (subst (λ ts. only_last_may_fail ts ≡ true) (sym (append-nil turns)) ends) lived (subst (AllTreesHave P any_summary s) (sym (append-nil turns)) (all any_summary))
 
 -- ---- the law of a user
 
@@ -171,10 +171,10 @@ all_among P around other s (turn ∷ turns) has = (
   subst (λ t. AllTreesHave P other t turns) (same_turn around other s turn) (all_among P around other (session_after_turn around s turn) turns (λ tree among. has tree (inr among))),
 )
 
-start_may_again : (tree : Tree) (order : NameOrder) (left : Disk) → KeepsTree tree (ordered_disk order left) → (begin : SystemState) → SameBytes left begin.disk → IsMounted begin.disk begin → MayLosePower begin
+start_may_again : (tree : Tree) (order : NameOrder) (left : Disk) → KeepsTree tree (disk_with_order order left) → (begin : SystemState) → SameBytes left begin.disk → IsJustMounted begin.disk begin → HasWritableDiskTree begin
 start_may_again tree order left safe begin same begins = let may = start_may tree order left begin safe same begins in record { agrees = may.0; profile = may.1 }
 
-pub life_leaves : (around : DiskSummary) (s : Session) (from : SystemState) (turns : List Turn) (to : SystemState) (left : Disk) → from.state ≡ Healthy s → fails_last turns ≡ true → IsLife from turns to → MeetsRunPremises from to →
+pub life_leaves : (around : DiskSummary) (s : Session) (from : SystemState) (turns : List Turn) (to : SystemState) (left : Disk) → from.state ≡ Healthy s → only_last_may_fail turns ≡ true → IsLife from turns to → MeetsCrashSafetyPremises from to →
     LeftBetween from to left → LeavesTreeOfLife around s turns left
 life_leaves around s from turns to left healthy ends lived may stop =
     let k = life_survives from turns to left lived (none_inside from turns ends) may stop in
@@ -182,7 +182,7 @@ life_leaves around s from turns to left healthy ends lived may stop =
     record {
       order = k.order;
       tree = k.tree;
-      has = tree_left (IsTreeOfLife around s turns) from to turns s (ordered_disk k.order left) k.tree healthy agrees ends lived
+      has = tree_left (IsTreeOfLife around s turns) from to turns s (disk_with_order k.order left) k.tree healthy agrees ends lived
           (λ other. all_among (IsTreeOfLife around s turns) around other s turns (λ tree among. among)) k.cut;
       safe = k.safe;
       may = start_may_again k.tree k.order left k.safe;
@@ -190,17 +190,17 @@ life_leaves around s from turns to left healthy ends lived may stop =
 
 -- ---- a start
 
-pub keeps_starts : (tree : Tree) (left : Disk) → KeepsTree tree left → StartsSafely (λ t. t ≡ tree) left
+pub keeps_starts : (tree : Tree) (left : Disk) → KeepsTree tree left → HasMountableTree (λ t. t ≡ tree) left
 keeps_starts tree left safe = record { order = left.order; tree = tree; has = refl; safe = safe; may = start_may_again tree left.order left safe }
 
 -- whichever session mounts the disk, its tree has P
-pub start_has : (P : Tree → Type 0) (left : Disk) → StartsSafely P left → (begin : SystemState) → SameBytes left begin.disk → (mounts : IsMounted begin.disk begin) → P mounts.tree
+pub start_has : (P : Tree → Type 0) (left : Disk) → HasMountableTree P left → (begin : SystemState) → SameBytes left begin.disk → (mounts : IsJustMounted begin.disk begin) → P mounts.tree
 start_has P left h begin same mounts =
     subst P (ap (λ (t : Session). t.tree) (same_session (mounted_session h.tree) (mounted_session mounts.tree) (sym (h.safe.mounts begin.disk begin same mounts) ∙ mounts.healthy))) h.has
 
 -- a session that mounts the disk
-pub start_mounts : (P : Tree → Type 0) (left : Disk) → StartsSafely P left → (begin : SystemState) × (SameBytes left begin.disk × IsMounted begin.disk begin)
+pub start_mounts : (P : Tree → Type 0) (left : Disk) → HasMountableTree P left → (begin : SystemState) × (SameBytes left begin.disk × IsJustMounted begin.disk begin)
 start_mounts P left h = (
-  record { disk = ordered_disk h.order left; calls = []; state = Healthy (mounted_session h.tree) },
+  record { disk = disk_with_order h.order left; calls = []; state = Healthy (mounted_session h.tree) },
   (refl, record { on = refl; tree = h.tree; shows = (h.safe.pairs, (h.safe.accepted, sym h.safe.shows)); healthy = refl }),
 )

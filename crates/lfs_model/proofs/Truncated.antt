@@ -1,7 +1,7 @@
 -- What a ghost field says of a device's calls, as a truncated fact, is so: each case of it is decided.
 use Rattle.std.proofs.Common.{ℕ, ◌≡◌, ◌==◌, ◌⊎◌, inl, inr, Bool, true, false, List, [], ◌∷◌, Option, Some, None, refl, ap, ◌∙◌, eqb-true, eq-eqb}
 use Rattle.std.proofs.Math.Logic.{∥∥₁_map, ∥∥₁_elim}
-use Rattle.lfs_model.proofs.Common.{Blocks, SameExcept, block_bytes, overwritten_at, LogEntry, BlockLog, block_log, DeviceCall, Read, Program, Erase, Blank, CallEvent, AllCalls, MayEraseLeave, MayProgramLeave, may_stop_leave, ErasesCleanly, erases_cleanly, FailsLikeLoss, MeetsPremises}
+use Rattle.lfs_model.proofs.Common.{Blocks, SameExcept, block_bytes, overwritten_at, LogEntry, BlockLog, block_log, DeviceCall, Read, Program, Erase, Blank, CallEvent, AllCalls, MayEraseLeave, MayProgramLeave, power_loss_may_leave, ErasesCleanly, erases_cleanly, FailsLikeLoss, MeetsPowerLossPremises}
 use Rattle.lfs_model.specs.crash.Stops.{log_revision}
 
 abbrev Decided : Type 0 → Type 0
@@ -97,7 +97,7 @@ same_but b old new is = record {
   others = λ other d. from_decided (same_list same_number (block_bytes new other) (block_bytes old other)) (∥∥₁_map is (λ s. s.others other d));
 }
 
-stopped : (call : DeviceCall) (before disk : Blocks) → ∥ may_stop_leave call before disk ∥₁ → may_stop_leave call before disk
+stopped : (call : DeviceCall) (before disk : Blocks) → ∥ power_loss_may_leave call before disk ∥₁ → power_loss_may_leave call before disk
 stopped (Read block off len) before disk is = from_decided (same_list (same_list same_number) disk before) is
 stopped (Program block off bytes) before disk is =
     (same_but block before disk (∥∥₁_map is (λ s. s.0)), from_decided (by_program off bytes (block_bytes before block) (block_bytes disk block)) (∥∥₁_map is (λ s. s.1)))
@@ -116,7 +116,7 @@ each : (P : CallEvent → Type 0) → ((e : CallEvent) → ∥ P e ∥₁ → P 
 each P one [] is = tt
 each P one (e ∷ events) is = (one e (∥∥₁_map is (λ all. all.0)), each P one events (∥∥₁_map is (λ all. all.1)))
 
-pub premises_hold : (history : List CallEvent) → ∥ MeetsPremises history ∥₁ → MeetsPremises history
+pub premises_hold : (history : List CallEvent) → ∥ MeetsPowerLossPremises history ∥₁ → MeetsPowerLossPremises history
 premises_hold history is = record {
   erases = each ErasesCleanly (λ e one. cleanly e.call e.failed e.before e.after one) history (∥∥₁_map is (λ m. m.erases));
   failed = each FailsLikeLoss (λ e one failed. stopped e.call e.before e.after (∥∥₁_map one (λ f. f failed))) history (∥∥₁_map is (λ m. m.failed));

@@ -1,7 +1,7 @@
 -- A directory's first pair that isn't the root's gives all its slots to a pair behind it, for the step that moves a worn pair.
 use Rattle.std.proofs.Common.{◌≡◌, ◌≢◌, ◌<◌, ◌≤◌, false, List, [], ◌∷◌, ◌++◌, length, drop, refl, sym, ap, ap₂, subst, ◌∙◌, arith, append_assoc, append-nil, length-append, drop_at}
 use Rattle.std.specs.Prelude.{All, sum_by}
-use Rattle.lfs_model.proofs.Common.{All-from_recursion, Disk, pair_capacity, slots_limit, Slot, slot_size, Pair, address_blocks, is_hard_tail, superblock_first, pairs_gstate, count_before_root, IsTreeEntry, IsAccepted, IsWritableSlot, HasNoEmpties, IsWritable, ends_joined, IsWritableChange}
+use Rattle.lfs_model.proofs.Common.{All-from_recursion, Disk, pair_capacity, slots_limit, Slot, slot_size, Pair, address_blocks, is_hard_tail, begins_with_superblock, pairs_gstate, count_before_root, IsFileOrDirectory, IsAccepted, IsWritableSlot, HasNoEmptyPairs, IsWritable, last_tail_is_hard, IsWritableChange}
 use Rattle.lfs_model.proofs.Counts.{Each, each_right}
 use Rattle.lfs_model.proofs.Global.{HasNoMove}
 use Rattle.lfs_model.proofs.Superblocks.{StructMark, hold_each, hold_from_rules, starts_not}
@@ -17,7 +17,7 @@ use Rattle.lfs_model.proofs.Unthreaded.{SameParts, same_parts, IsReady, Unthread
 use Rattle.lfs_model.proofs.Relocated.{IsUnloaded, unloaded_gstate, each_within, within_same}
 
 pub unload : (disk new : Disk) (chain : List Pair) (f : Pair) (front : List Pair) (x q y : Pair) (back : List Pair) → IsReady disk chain (f ∷ front ++ x ∷ back) →
-    IsUnloaded disk new (chain ++ f ∷ front) x q y back [] → ends_joined false (f ∷ front) ≡ false → x.content.slots ≢ [] → Unthreads disk new chain (f ∷ front ++ x ∷ back) (f ∷ front ++ q ∷ y ∷ back)
+    IsUnloaded disk new (chain ++ f ∷ front) x q y back [] → last_tail_is_hard false (f ∷ front) ≡ false → x.content.slots ≢ [] → Unthreads disk new chain (f ∷ front ++ x ∷ back) (f ∷ front ++ q ∷ y ∷ back)
 unload disk new chain f front x q y back r c soft some = record { taken = taken; ready = ready }
   where
     few : length (chain ++ f ∷ front) < length (chain ++ (f ∷ front ++ x ∷ back))
@@ -51,8 +51,8 @@ unload disk new chain f front x q y back r c soft some = record { taken = taken;
     dirs_before = sym (drop_at at.site.chain (at.site.before ++ at.site.left) (length chain) chain_length) ∙ ap (drop (length chain)) same.front ∙ drop_at chain (f ∷ front) (length chain) refl
 
     -- only the root's first pair has a superblock
-    no_superblock : superblock_first x.content.slots ≡ false
-    no_superblock = starts_not x.content.slots (each_right (λ z. All IsTreeEntry z.content.slots) front (x ∷ back) (hold_each (StructMark disk.profile.versions r.accepted.superblock.0) (front ++ x ∷ back)
+    no_superblock : begins_with_superblock x.content.slots ≡ false
+    no_superblock = starts_not x.content.slots (each_right (λ z. All IsFileOrDirectory z.content.slots) front (x ∷ back) (hold_each (StructMark disk.profile.versions r.accepted.superblock.0) (front ++ x ∷ back)
         (hold_from_rules (StructMark disk.profile.versions r.accepted.superblock.0) chain f (front ++ x ∷ back) r.is_chain r.accepted.superblock.1.1 r.accepted.root r.accepted.slots).1.1)).0
 
     still : pairs_gstate (thread_at at.site (q ∷ y ∷ [])) ≡ pairs_gstate (thread_at at.site (x ∷ []))
@@ -91,10 +91,10 @@ unload disk new chain f front x q y back r c soft some = record { taken = taken;
       ),
     )
 
-    empties : HasNoEmpties (ends_joined false (at.site.before ++ at.site.left)) (x ∷ (at.site.right ++ at.site.after)) → HasNoEmpties (ends_joined false (at.site.before ++ at.site.left)) (q ∷ y ∷ (at.site.right ++ at.site.after))
+    empties : HasNoEmptyPairs (last_tail_is_hard false (at.site.before ++ at.site.left)) (x ∷ (at.site.right ++ at.site.after)) → HasNoEmptyPairs (last_tail_is_hard false (at.site.before ++ at.site.left)) (q ∷ y ∷ (at.site.right ++ at.site.after))
     empties h = (
-      (λ e. absurd (let k = sym (ap (ends_joined false) dirs_before ∙ soft) ∙ e in cc)),
-      ((λ e g. some (sym c.slots ∙ g)), subst (λ t. HasNoEmpties (is_hard_tail t) (at.site.right ++ at.site.after)) (sym c.last) h.1),
+      (λ e. absurd (let k = sym (ap (last_tail_is_hard false) dirs_before ∙ soft) ∙ e in cc)),
+      ((λ e g. some (sym c.slots ∙ g)), subst (λ t. HasNoEmptyPairs (is_hard_tail t) (at.site.right ++ at.site.after)) (sym c.last) h.1),
     )
 
     taken : IsWritableChange disk (chain ++ (f ∷ front ++ x ∷ back)) new (chain ++ (f ∷ front ++ q ∷ y ∷ back)) (λ t. t) (λ d. d)

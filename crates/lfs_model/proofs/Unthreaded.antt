@@ -1,7 +1,7 @@
 -- The pair after another begins a directory that no path leads to, and goes from the thread. So may any number of pairs, in their
 -- order.
 use Rattle.std.proofs.Common.{ℕ, ◌≡◌, ◌<◌, ◌≤◌, true, false, List, [], ◌∷◌, ◌++◌, length, refl, sym, ap, ap₂, subst, ◌∙◌, arith, append_assoc, append-nil, length-append}
-use Rattle.lfs_model.proofs.Common.{Disk, same_pair, Pair, is_hard_tail, pairs_gstate, count_before_root, superblock_first, Path, IsAccepted, IsWritable, LeadsTo}
+use Rattle.lfs_model.proofs.Common.{Disk, same_pair, Pair, is_hard_tail, pairs_gstate, count_before_root, begins_with_superblock, Path, IsAccepted, IsWritable, IsDirectoryAtPath}
 use Rattle.lfs_model.proofs.Global.{HasNoMove}
 use Rattle.lfs_model.proofs.Superblocks.{IsChain}
 use Rattle.lfs_model.proofs.Listings.{IsRun}
@@ -37,7 +37,7 @@ pub record IsUnthreaded (disk new : Disk) (chain front : List Pair) (p o q : Pai
   pub slots : q.content.slots ≡ p.content.slots
   pub tail : q.content.tail ≡ softened o.content.tail
   -- no path leads to o, and where the sync bit isn't set afterwards, one leads to each other directory
-  pub unled : (path : Path) (x : ℕ × ℕ) → LeadsTo (chain ++ (front ++ p ∷ o ∷ back)) path x → same_pair o.at x ≡ true → ⊥
+  pub unled : (path : Path) (x : ℕ × ℕ) → IsDirectoryAtPath (chain ++ (front ++ p ∷ o ∷ back)) path x → same_pair o.at x ≡ true → ⊥
   pub reached : (pairs_gstate (chain ++ (front ++ q ∷ back))).sync ≡ false → (is_hard_tail o.content.tail ≡ false) × AllReachedBut (chain ++ (front ++ p ∷ o ∷ back)) o.at
 
 -- the disk is accepted and in the profile, no move is set, and so many pairs are before the root directory
@@ -116,7 +116,7 @@ unthread disk new chain front p o q back r c = record { taken = taken; ready = r
       device = subst (λ z. IsDevice disk new z (thread_at (last_site at.site.chain at.site.before at.site.left back) (q ∷ []))) old_is
           (subst (IsDevice disk new (chain ++ (front ++ p ∷ o ∷ back))) new_is c.device);
       free = record { distinct = (subst (IsAccepted disk) old_is r.accepted).owned_once; in_range = λ k d l. absurd (omega arith) };
-      shape = unthread_shape p o q c.at c.tail (λ e. ap superblock_first c.slots ∙ e);
+      shape = unthread_shape p o q c.at c.tail (λ e. ap begins_with_superblock c.slots ∙ e);
       was = refl;
       is = append-nil q.content.slots ∙ c.slots ∙ sym (append-nil p.content.slots);
       splice = record { front = λ e. refl; entries = tt; lists = tt; blocks = λ b. omega arith };
@@ -127,7 +127,7 @@ unthread disk new chain front p o q back r c = record { taken = taken; ready = r
         (subst (λ z. IsWritableChange disk (thread_at (last_site at.site.chain at.site.before at.site.left back) (p ∷ ([] ++ o ∷ []))) new z (λ t. t) (λ d. d)) (sym new_is)
         (unthread_taken disk new at.site.chain at.site.before at.site.left back p o q p.content.slots [] (λ t. t) (λ d. d) (subst (IsWritable disk) old_is r.writable) c.tail c.slots step
         (unthreaded disk new at.site.chain at.site.before at.site.left back p [] o q [] p.content.slots [] step
-        (λ path x l e. c.unled path x (subst (λ z. LeadsTo z path x) (sym old_is) l) e)
+        (λ path x l e. c.unled path x (subst (λ z. IsDirectoryAtPath z path x) (sym old_is) l) e)
         (λ e. let k = c.reached (ap (λ z. (pairs_gstate z).sync) new_is ∙ e) in (k.0, subst (λ z. AllReachedBut z o.at) old_is k.1)))))
 
     ready : IsReady new chain (front ++ q ∷ back)

@@ -2,10 +2,10 @@
 use Rattle.std.proofs.Common.{ℕ, ◌≡◌, ◌+◌, List, [], ◌∷◌, ◌++◌, Some, refl, sym, ap, subst, ◌∙◌, arith, zero, suc}
 use Rattle.lfs_model.proofs.Common.{append-nil, flat_map, recursion_from_All, flat_map-append, Disk, BlockStates, IsFree, Free, Used, Slot, Pair, pairs_blocks, pairs_gstate, all_unmoved_slots, struct_blocks, used_blocks}
 use Rattle.lfs_model.specs.layers.BlockSets.{AreUsed}
-use Rattle.lfs_model.proofs.BlockSets.{number_occurrences-Contains, Contains-number_occurrences}
+use Rattle.lfs_model.proofs.BlockSets.{occurrence_count-Contains, Contains-occurrence_count}
 use Rattle.lfs_model.proofs.Changes.{SameFiles, slots_files}
 use Rattle.lfs_model.proofs.Committed.{IsCommit, no_move_from}
-use Rattle.lfs_model.proofs.Counts.{each_left, each_right, number_occurrences, count_append}
+use Rattle.lfs_model.proofs.Counts.{each_left, each_right, occurrence_count, count_append}
 use Rattle.lfs_model.proofs.Files.{SameFileBlocks}
 use Rattle.lfs_model.proofs.Global.{HasNoMove}
 use Rattle.lfs_model.proofs.Sites.{Site, thread_at}
@@ -17,33 +17,33 @@ use Rattle.lfs_model.proofs.Placing.{blocks_append}
 pub slots_append : (xs ys : List Pair) → all_slots (xs ++ ys) ≡ all_slots xs ++ all_slots ys
 slots_append xs ys = flat_map-append (λ (p : Pair). p.content.slots) xs ys
 
-pub count_used : (b : ℕ) (disk : Disk) (ps : List Pair) → HasNoMove (pairs_gstate ps) → number_occurrences b (used_blocks disk ps) ≡ number_occurrences b (pairs_blocks ps) + number_occurrences b (file_blocks disk (all_slots ps))
+pub count_used : (b : ℕ) (disk : Disk) (ps : List Pair) → HasNoMove (pairs_gstate ps) → occurrence_count b (used_blocks disk ps) ≡ occurrence_count b (pairs_blocks ps) + occurrence_count b (file_blocks disk (all_slots ps))
 count_used b disk ps none = count_append b (pairs_blocks ps) (flat_map (λ s. struct_blocks disk s.struct) (all_unmoved_slots ps))
-    ∙ ap (λ z. number_occurrences b (pairs_blocks ps) + number_occurrences b (file_blocks disk z)) (unmoved_in (pairs_gstate ps) none ps)
+    ∙ ap (λ z. occurrence_count b (pairs_blocks ps) + occurrence_count b (file_blocks disk z)) (unmoved_in (pairs_gstate ps) none ps)
 
 -- the slots of a thread, by a site
 pub slots_at : (w : Site) (ps : List Pair) → all_slots (thread_at w ps) ≡ all_slots w.chain ++ (all_slots (w.before ++ w.left) ++ (all_slots ps ++ all_slots (w.right ++ w.after)))
 slots_at w ps = slots_append w.chain ((w.before ++ w.left) ++ (ps ++ (w.right ++ w.after)))
     ∙ ap (λ z. all_slots w.chain ++ z) (slots_append (w.before ++ w.left) (ps ++ (w.right ++ w.after)) ∙ ap (λ z. all_slots (w.before ++ w.left) ++ z) (slots_append ps (w.right ++ w.after)))
 
-pub count_at : (b : ℕ) (disk : Disk) (w : Site) (ps : List Pair) (l mid r : List Slot) → all_slots ps ≡ l ++ (mid ++ r) → number_occurrences b (file_blocks disk (all_slots (thread_at w ps)))
-    ≡ number_occurrences b (file_blocks disk (all_slots w.chain)) + (number_occurrences b (file_blocks disk (all_slots (w.before ++ w.left)))
-    + ((number_occurrences b (file_blocks disk l) + (number_occurrences b (file_blocks disk mid) + number_occurrences b (file_blocks disk r))) + number_occurrences b (file_blocks disk (all_slots (w.right ++ w.after)))))
+pub count_at : (b : ℕ) (disk : Disk) (w : Site) (ps : List Pair) (l mid r : List Slot) → all_slots ps ≡ l ++ (mid ++ r) → occurrence_count b (file_blocks disk (all_slots (thread_at w ps)))
+    ≡ occurrence_count b (file_blocks disk (all_slots w.chain)) + (occurrence_count b (file_blocks disk (all_slots (w.before ++ w.left)))
+    + ((occurrence_count b (file_blocks disk l) + (occurrence_count b (file_blocks disk mid) + occurrence_count b (file_blocks disk r))) + occurrence_count b (file_blocks disk (all_slots (w.right ++ w.after)))))
 count_at b disk w ps l mid r e =
     let f1 = all_slots w.chain in
     let f2 = all_slots (w.before ++ w.left) in
     let g = all_slots (w.right ++ w.after) in
-    let a = ap (λ z. number_occurrences b (file_blocks disk z)) (slots_at w ps) in
+    let a = ap (λ z. occurrence_count b (file_blocks disk z)) (slots_at w ps) in
     let c = count_files b disk f1 (f2 ++ (all_slots ps ++ g)) in
     let d = count_files b disk f2 (all_slots ps ++ g) in
     let h = count_files b disk (all_slots ps) g in
-    let i = ap (λ z. number_occurrences b (file_blocks disk z)) e in
+    let i = ap (λ z. occurrence_count b (file_blocks disk z)) e in
     let j = count_files b disk l (mid ++ r) in
     let k = count_files b disk mid r in
     omega arith
 
-pub count_pairs : (b : ℕ) (w : Site) (ps : List Pair) → number_occurrences b (pairs_blocks (thread_at w ps))
-    ≡ number_occurrences b (pairs_blocks w.chain) + (number_occurrences b (pairs_blocks (w.before ++ w.left)) + (number_occurrences b (pairs_blocks ps) + number_occurrences b (pairs_blocks (w.right ++ w.after))))
+pub count_pairs : (b : ℕ) (w : Site) (ps : List Pair) → occurrence_count b (pairs_blocks (thread_at w ps))
+    ≡ occurrence_count b (pairs_blocks w.chain) + (occurrence_count b (pairs_blocks (w.before ++ w.left)) + (occurrence_count b (pairs_blocks ps) + occurrence_count b (pairs_blocks (w.right ++ w.after))))
 count_pairs b w ps =
     let a = blocks_append w.chain ((w.before ++ w.left) ++ (ps ++ (w.right ++ w.after))) b in
     let c = blocks_append (w.before ++ w.left) (ps ++ (w.right ++ w.after)) b in
@@ -60,7 +60,7 @@ pub record IsTurnOf (disk new : Disk) (w : Site) (p q : Pair) (more : List Pair)
   pub is : all_slots (q ∷ more) ≡ l ++ (news ++ r)
 
 module _ (disk new : Disk) (w : Site) (p q : Pair) (more : List Pair) (l olds news r : List Slot) (gone come : List ℕ) (c : IsTurnOf disk new w p q more l olds news r)
-    (blocks : (b : ℕ) → number_occurrences b (file_blocks new news) + number_occurrences b gone ≡ number_occurrences b come + number_occurrences b (file_blocks disk olds)) where
+    (blocks : (b : ℕ) → occurrence_count b (file_blocks new news) + occurrence_count b gone ≡ occurrence_count b come + occurrence_count b (file_blocks disk olds)) where
   abbrev ps : List Pair
   ps = thread_at w (p ∷ [])
 
@@ -78,10 +78,10 @@ module _ (disk new : Disk) (w : Site) (p q : Pair) (more : List Pair) (l olds ne
   abbrev F : Slot → Type 0
   F s = SameFileBlocks disk new s.struct
 
-  kept : (ss : List Slot) → SameFiles disk new ss → (b : ℕ) → number_occurrences b (file_blocks new ss) ≡ number_occurrences b (file_blocks disk ss)
-  kept ss h b = ap (number_occurrences b) (slots_files disk new ss c.device.geometry h)
+  kept : (ss : List Slot) → SameFiles disk new ss → (b : ℕ) → occurrence_count b (file_blocks new ss) ≡ occurrence_count b (file_blocks disk ss)
+  kept ss h b = ap (occurrence_count b) (slots_files disk new ss c.device.geometry h)
 
-  pub turned_count : (b : ℕ) → number_occurrences b (used_blocks new qs) + number_occurrences b gone ≡ number_occurrences b (pairs_blocks more) + number_occurrences b (used_blocks disk ps) + number_occurrences b come
+  pub turned_count : (b : ℕ) → occurrence_count b (used_blocks new qs) + occurrence_count b gone ≡ occurrence_count b (pairs_blocks more) + occurrence_count b (used_blocks disk ps) + occurrence_count b come
   turned_count b =
       let f1 = all_slots w.chain in
       let f2 = all_slots (w.before ++ w.left) in
@@ -104,13 +104,13 @@ module _ (disk new : Disk) (w : Site) (p q : Pair) (more : List Pair) (l olds ne
       let b2 = count_at b disk w (p ∷ []) l olds r was_one in
       let d1 = count_pairs b w (q ∷ more) in
       let d2 = count_pairs b w (p ∷ []) in
-      let at = ap (λ (a : ℕ × ℕ). number_occurrences b (a.0 ∷ a.1 ∷ [])) c.at in
+      let at = ap (λ (a : ℕ × ℕ). occurrence_count b (a.0 ∷ a.1 ∷ [])) c.at in
       let k = count_append b (q.at.0 ∷ q.at.1 ∷ []) (pairs_blocks more) in
       omega arith
 
 pub used_count_now : (disk new : Disk) (w : Site) (p q : Pair) (more : List Pair) (l olds news r : List Slot) (gone come : List ℕ) → IsCommit disk new w p q more come l olds news r
-    → ((b : ℕ) → number_occurrences b (file_blocks new news) + number_occurrences b gone ≡ number_occurrences b come + number_occurrences b (file_blocks disk olds))
-    → (b : ℕ) → number_occurrences b (used_blocks new (thread_at w (q ∷ more))) + number_occurrences b gone ≡ number_occurrences b (pairs_blocks more) + number_occurrences b (used_blocks disk (thread_at w (p ∷ []))) + number_occurrences b come
+    → ((b : ℕ) → occurrence_count b (file_blocks new news) + occurrence_count b gone ≡ occurrence_count b come + occurrence_count b (file_blocks disk olds))
+    → (b : ℕ) → occurrence_count b (used_blocks new (thread_at w (q ∷ more))) + occurrence_count b gone ≡ occurrence_count b (pairs_blocks more) + occurrence_count b (used_blocks disk (thread_at w (p ∷ []))) + occurrence_count b come
 used_count_now disk new w p q more l olds news r gone come c blocks = turned_count disk new w p q more l olds news r gone come
     (record {
       none = no_move_from (thread_at w (p ∷ [])) c.settled;
@@ -127,16 +127,16 @@ unlike : Some Free ≡ Some Used → ⊥
 unlike e = absurd (cc)
 
 -- a free block isn't among the used ones
-pub not_used : (sets : BlockStates) (bs : List ℕ) → AreUsed sets bs → (b : ℕ) → IsFree sets b → number_occurrences b bs ≡ 0
-not_used sets bs used b free = go (number_occurrences b bs) refl
+pub not_used : (sets : BlockStates) (bs : List ℕ) → AreUsed sets bs → (b : ℕ) → IsFree sets b → occurrence_count b bs ≡ 0
+not_used sets bs used b free = go (occurrence_count b bs) refl
   where
-    go : (n : ℕ) → number_occurrences b bs ≡ n → n ≡ 0
+    go : (n : ℕ) → occurrence_count b bs ≡ n → n ≡ 0
     go zero e = refl
-    go (suc n) e = absurd (unlike (sym free ∙ (used b).1 (Contains-number_occurrences bs b (omega arith))))
+    go (suc n) e = absurd (unlike (sym free ∙ (used b).1 (Contains-occurrence_count bs b (omega arith))))
 
 -- where the image uses the same
-pub used_same : (sets : BlockStates) (us vs : List ℕ) → ((b : ℕ) → number_occurrences b vs ≡ number_occurrences b us) → AreUsed sets us → AreUsed sets vs
+pub used_same : (sets : BlockStates) (us vs : List ℕ) → ((b : ℕ) → occurrence_count b vs ≡ occurrence_count b us) → AreUsed sets us → AreUsed sets vs
 used_same sets us vs same used b = (
-  (λ h. Contains-number_occurrences vs b (let k = number_occurrences-Contains us b ((used b).0 h) in let e = same b in omega arith)),
-  (λ h. (used b).1 (Contains-number_occurrences us b (let k = number_occurrences-Contains vs b h in let e = same b in omega arith))),
+  (λ h. Contains-occurrence_count vs b (let k = occurrence_count-Contains us b ((used b).0 h) in let e = same b in omega arith)),
+  (λ h. (used b).1 (Contains-occurrence_count us b (let k = occurrence_count-Contains vs b h in let e = same b in omega arith))),
 )

@@ -2,9 +2,9 @@
 use Rattle.std.proofs.Common.{ℕ, ◌≡◌, ◌+◌, true, false, cond, nat_eq, List, [], ◌∷◌, ◌++◌, sym, ap, ap₂, subst, ◌∙◌, arith, append_assoc, remove, length, length-append}
 use Rattle.std.specs.Prelude.{◌&&◌}
 use Rattle.std.specs.List.{IsDistinct}
-use Rattle.lfs_model.proofs.Common.{flat_map, Disk, Slot, Gstate, is_superblock, same_pair, Pair, pairs_blocks, pairs_gstate, superblock_first, slots_not_moved, is_hard_tail, count_before_root, IsAccepted, IsWritable, all_directories, used_blocks, set_move_kind, pair_with_slots}
+use Rattle.lfs_model.proofs.Common.{flat_map, Disk, Slot, Gstate, is_superblock, same_pair, Pair, pairs_blocks, pairs_gstate, begins_with_superblock, slots_not_moved, is_hard_tail, count_before_root, IsAccepted, IsWritable, all_directories, used_blocks, set_move_kind, pair_with_slots}
 use Rattle.lfs_model.specs.layers.StepResults.{gstate_without_move}
-use Rattle.lfs_model.proofs.Counts.{Each, each_append, each_left, each_right, each_weaker, number_occurrences}
+use Rattle.lfs_model.proofs.Counts.{Each, each_append, each_left, each_right, each_weaker, occurrence_count}
 use Rattle.lfs_model.proofs.Global.{HasNoMove}
 use Rattle.lfs_model.proofs.Listings.{flip_false}
 use Rattle.lfs_model.proofs.Pairs.{pair_back}
@@ -87,7 +87,7 @@ module _ (disk : Disk) (w : Site) (p o : Pair) (u : Slot) (k : IsEndingWhole dis
       site = k.site;
       still_none = still_none;
       device = x.device;
-      shape = drop_shape p o q x.at x.tail (λ e. ap superblock_first x.slots ∙ e);
+      shape = drop_shape p o q x.at x.tail (λ e. ap begins_with_superblock x.slots ∙ e);
       was = ap (λ z. p.content.slots ++ (z ++ [])) k.held;
       is = ap (λ z. z ++ []) x.slots;
       other = k.other;
@@ -116,8 +116,8 @@ module _ (disk : Disk) (w : Site) (p o : Pair) (u : Slot) (k : IsEndingWhole dis
         (hidden_far g (w.chain ++ ahead) far_ahead) (record { at = x.at; slots = x.slots ∙ sym (unmoved_elsewhere g p far_p); led = hard; tail = ap is_hard_tail x.tail; none = hides }) (hidden_far g back far_back)
 
     -- the blocks that the image used, without the pair's
-    pub whole_count : (b : ℕ) → number_occurrences b (used_blocks new (thread_at w (q ∷ []))) + number_occurrences b (pairs_blocks (o ∷ [])) ≡ number_occurrences b (used_blocks disk (thread_at w (p ∷ o ∷ [])))
+    pub whole_count : (b : ℕ) → occurrence_count b (used_blocks new (thread_at w (q ∷ []))) + occurrence_count b (pairs_blocks (o ∷ [])) ≡ occurrence_count b (used_blocks disk (thread_at w (p ∷ o ∷ [])))
     whole_count b =
         let e = end_count disk new w p (o ∷ []) q p.content.slots u [] whole_step b in
-        let at = ap (λ (a : ℕ × ℕ). number_occurrences b (a.0 ∷ a.1 ∷ [])) x.at in
+        let at = ap (λ (a : ℕ × ℕ). occurrence_count b (a.0 ∷ a.1 ∷ [])) x.at in
         omega arith

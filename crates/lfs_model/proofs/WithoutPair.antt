@@ -2,7 +2,7 @@
 use Rattle.std.proofs.Common.{ℕ, ◌≡◌, ◌+◌, List, [], ◌∷◌, ◌++◌, ap, subst, ◌∙◌, arith, Some}
 use Rattle.lfs_model.proofs.Common.{All-from_recursion, recursion_from_All, content_at, Disk, Slot, Pair, pairs_blocks, pairs_gstate, address_blocks, all_unmoved_slots}
 use Rattle.lfs_model.proofs.Changes.{SameFiles, slots_files}
-use Rattle.lfs_model.proofs.Counts.{each_append, each_left, each_right, number_occurrences}
+use Rattle.lfs_model.proofs.Counts.{each_append, each_left, each_right, occurrence_count}
 use Rattle.lfs_model.proofs.Files.{SameFileBlocks}
 use Rattle.lfs_model.proofs.Global.{HasNoMove}
 use Rattle.lfs_model.proofs.Splices.{IsDevice, count_files, file_blocks, all_slots, unmoved_in}
@@ -33,11 +33,11 @@ module _ (disk new : Disk) (ahead : List Pair) (p o q : Pair) (back : List Pair)
   same = subst (SameFiles disk new) (unmoved_in (pairs_gstate (ahead ++ p ∷ o ∷ back)) none (ahead ++ p ∷ o ∷ back) ∙ slots_append ahead (p ∷ o ∷ back))
       (recursion_from_All (λ (s : Slot). SameFileBlocks disk new s.struct) (all_unmoved_slots (ahead ++ p ∷ o ∷ back)) d.files)
 
-  kept : (ss : List Slot) → SameFiles disk new ss → (b : ℕ) → number_occurrences b (file_blocks new ss) ≡ number_occurrences b (file_blocks disk ss)
-  kept ss h b = ap (number_occurrences b) (slots_files disk new ss d.geometry h)
+  kept : (ss : List Slot) → SameFiles disk new ss → (b : ℕ) → occurrence_count b (file_blocks new ss) ≡ occurrence_count b (file_blocks disk ss)
+  kept ss h b = ap (occurrence_count b) (slots_files disk new ss d.geometry h)
 
-  pub files_dropped : (b : ℕ) → number_occurrences b (file_blocks new (all_slots (ahead ++ q ∷ back))) + number_occurrences b (file_blocks disk o.content.slots)
-      ≡ number_occurrences b (file_blocks disk (all_slots (ahead ++ p ∷ o ∷ back)))
+  pub files_dropped : (b : ℕ) → occurrence_count b (file_blocks new (all_slots (ahead ++ q ∷ back))) + occurrence_count b (file_blocks disk o.content.slots)
+      ≡ occurrence_count b (file_blocks disk (all_slots (ahead ++ p ∷ o ∷ back)))
   files_dropped b =
       let g = all_slots back in
       let f = all_slots ahead in
@@ -48,22 +48,22 @@ module _ (disk new : Disk) (ahead : List Pair) (p o q : Pair) (back : List Pair)
       let e1 = kept f h1 b in
       let e2 = kept p.content.slots h3 b in
       let e3 = kept g h4 b in
-      let b1 = ap (λ z. number_occurrences b (file_blocks new z)) (slots_append ahead (q ∷ back)) in
-      let b2 = ap (λ z. number_occurrences b (file_blocks disk z)) (slots_append ahead (p ∷ o ∷ back)) in
+      let b1 = ap (λ z. occurrence_count b (file_blocks new z)) (slots_append ahead (q ∷ back)) in
+      let b2 = ap (λ z. occurrence_count b (file_blocks disk z)) (slots_append ahead (p ∷ o ∷ back)) in
       let c1 = count_files b new f (q.content.slots ++ g) in
       let c2 = count_files b new q.content.slots g in
-      let c3 = ap (λ z. number_occurrences b (file_blocks new z)) slots in
+      let c3 = ap (λ z. occurrence_count b (file_blocks new z)) slots in
       let c4 = count_files b disk f (p.content.slots ++ (o.content.slots ++ g)) in
       let c5 = count_files b disk p.content.slots (o.content.slots ++ g) in
       let c6 = count_files b disk o.content.slots g in
       omega arith
 
-pub blocks_dropped : (ahead : List Pair) (p o q : Pair) (back : List Pair) → q.at ≡ p.at → (b : ℕ) → number_occurrences b (pairs_blocks (ahead ++ q ∷ back)) + number_occurrences b (address_blocks o.at) ≡ number_occurrences b (pairs_blocks (ahead ++ p ∷ o ∷ back))
+pub blocks_dropped : (ahead : List Pair) (p o q : Pair) (back : List Pair) → q.at ≡ p.at → (b : ℕ) → occurrence_count b (pairs_blocks (ahead ++ q ∷ back)) + occurrence_count b (address_blocks o.at) ≡ occurrence_count b (pairs_blocks (ahead ++ p ∷ o ∷ back))
 blocks_dropped ahead p o q back at b =
     let d1 = blocks_append ahead (q ∷ back) b in
     let d2 = blocks_append ahead (p ∷ o ∷ back) b in
     let d3 = blocks_append (q ∷ []) back b in
     let d4 = blocks_append (p ∷ []) (o ∷ back) b in
     let d5 = blocks_append (o ∷ []) back b in
-    let d6 = ap (λ (a : ℕ × ℕ). number_occurrences b (a.0 ∷ a.1 ∷ [])) at in
+    let d6 = ap (λ (a : ℕ × ℕ). occurrence_count b (a.0 ∷ a.1 ∷ [])) at in
     omega arith

@@ -1,7 +1,7 @@
 -- A compacted block holds what was written to it.
 use Rattle.std.proofs.Common.{ℕ, ◌≡◌, ◌+◌, ◌-◌, ◌*◌, ◌/◌, ◌%◌, ◌^◌, ◌<◌, ◌≤◌, ◌==◌, Bool, true, false, cond, not, List, [], ◌∷◌, ◌++◌, length, Option, Some, None, refl, sym, ap, ap₂, ◌∙◌, arith, length-append, append_assoc, eq-eqb, eqb-true}
 use Rattle.std.specs.Prelude.{nat_lt, nat_le, is_some}
-use Rattle.lfs_model.proofs.Common.{option_and_then, option_map, ne_eqb, or_right, le-ltb, le-leb, and_parts, append-nil, set-append_seam, get_or-append_seam, make_tag, tag_type, tag_id, tag_length, tag_class, tag_chunk, LogEntry, Attributes, Tail, Gstate, zero_gstate, RawSlot, RawContent, content_after_entry, content_after, slots_after, attributes_with, empty_raw_content, is_known_tag, has_needed_id, no_id, create_tag_type, delete_tag_type, is_attribute_removal, decoded_address, tail_if_any, decoded_gstate, move_type, log_entry, part_entries, attribute_entries, slot_entries, entries_of_slots, address_bytes, tail_entries, bytes_of_move_state, move_state_entries, is_zero, content_entries, IsAllowedPart, AllowedIfAny, AttributesInOrder, IsFormedSlot, AreWellFormed, AreWords, IsAllowedTail, MoveStateFits}
+use Rattle.lfs_model.proofs.Common.{option_and_then, option_map, ne_eqb, or_right, le-ltb, le-leb, and_parts, append-nil, set-append_seam, get_or-append_seam, make_tag, tag_type, tag_id, tag_length, tag_class, tag_chunk, LogEntry, Attributes, Tail, Gstate, zero_gstate, RawSlot, RawContent, content_after_entry, content_after, slots_after, attributes_with, empty_raw_content, is_known_tag, has_needed_id, no_id, create_tag_type, delete_tag_type, is_attribute_removal, decoded_address, tail_if_not_null, decoded_gstate, move_state_type, log_entry, name_or_struct_entries, attribute_entries, slot_entries, entries_of_slots, address_bytes, tail_entries, bytes_of_move_state, move_state_entries, is_zero, content_entries, IsNameOrStruct, IsNameOrStructIfAny, AttributesInOrder, IsWellFormedSlot, AreWellFormed, AreU32Addresses, IsAllowedTail, MoveStateFits}
 use Rattle.std.proofs.lemmas.Bool.{lt-leb}
 use Rattle.byteorder.specs.Endian.{little_number, little_bytes}
 use Rattle.byteorder.specs.Numbers.{little_number-reads_back}
@@ -104,7 +104,7 @@ below_later low high (a ∷ others) l h = (omega arith, below_later low high oth
 
 -- ---- the entries that are written
 
-in_table_at : (part : ℕ × List ℕ) (class id : ℕ) → class < 5 → id < 2 ^ 10 → IsAllowedPart class part → is_known_tag (make_tag part.0 id (length part.1)) ≡ true
+in_table_at : (part : ℕ × List ℕ) (class id : ℕ) → class < 5 → id < 2 ^ 10 → IsNameOrStruct class part → is_known_tag (make_tag part.0 id (length part.1)) ≡ true
 in_table_at part class id c i h =
     let of : part.0 / 2 ^ 8 ≡ class = h.of_class in
     let short : length part.1 < 0x3ff = h.short in
@@ -112,7 +112,7 @@ in_table_at part class id c i h =
     let len : tag_length (make_tag part.0 id (length part.1)) ≡ tag_length (make_tag part.0 0 (length part.1)) = omega arith in
     rw (kind, len) h.in_table
 
-name_written : (c : RawContent) (part : ℕ × List ℕ) → length c.slots < 0x3ff → IsAllowedPart 0 part
+name_written : (c : RawContent) (part : ℕ × List ℕ) → length c.slots < 0x3ff → IsNameOrStruct 0 part
     → content_after_entry c (log_entry part.0 (length c.slots) part.1) ≡ Some (record c { slots = c.slots ++ record { name = Some part; struct = None; attributes = [] } ∷ [] })
 name_written c part n h =
     let of : part.0 / 2 ^ 8 ≡ 0 = h.of_class in
@@ -123,7 +123,7 @@ name_written c part n h =
     ∙ ap (option_map (λ slots. record c { slots = slots })) (name_at_end c.slots (log_entry part.0 (length c.slots) part.1) (omega arith) id)
     ∙ ap (λ k. Some (record c { slots = c.slots ++ record { name = Some (k, part.1); struct = None; attributes = [] } ∷ [] })) kind
 
-struct_written : (c : RawContent) (slots : List RawSlot) (s : RawSlot) (part : ℕ × List ℕ) → is_some s.name ≡ true → length slots < 0x3ff → IsAllowedPart 2 part
+struct_written : (c : RawContent) (slots : List RawSlot) (s : RawSlot) (part : ℕ × List ℕ) → is_some s.name ≡ true → length slots < 0x3ff → IsNameOrStruct 2 part
     → content_after_entry (record c { slots = last slots s }) (log_entry part.0 (length slots) part.1) ≡ Some (record c { slots = last slots (record s { struct = Some part }) })
 struct_written c slots s part named n h =
     let of : part.0 / 2 ^ 8 ≡ 2 = h.of_class in
@@ -168,27 +168,27 @@ attributes_written c slots s low (a ∷ rest) named n below up =
     ∙ ap (λ z. Some (record c { slots = last slots (record s { attributes = z }) })) (sym more)
 
 -- a struct, if there is one, after a name
-struct_part_written : (c : RawContent) (slots : List RawSlot) (s : RawSlot) (part : Option (ℕ × List ℕ)) → s.struct ≡ None → is_some s.name ≡ true → length slots < 0x3ff → AllowedIfAny 2 part
-    → content_after (record c { slots = last slots s }) (part_entries (length slots) part) ≡ Some (record c { slots = last slots (record s { struct = part }) })
+struct_part_written : (c : RawContent) (slots : List RawSlot) (s : RawSlot) (part : Option (ℕ × List ℕ)) → s.struct ≡ None → is_some s.name ≡ true → length slots < 0x3ff → IsNameOrStructIfAny 2 part
+    → content_after (record c { slots = last slots s }) (name_or_struct_entries (length slots) part) ≡ Some (record c { slots = last slots (record s { struct = part }) })
 struct_part_written c slots s None none named n h = ap (λ z. Some (record c { slots = last slots (record s { struct = z }) })) none
 struct_part_written c slots s (Some part) none named n h = ap (option_and_then (λ d. content_after d [])) (struct_written c slots s part named n h)
 
 -- a slot after others
-pub slot_written : (c : RawContent) (s : RawSlot) → length c.slots < 0x3ff → is_some s.name ≡ true → IsFormedSlot s
+pub slot_written : (c : RawContent) (s : RawSlot) → length c.slots < 0x3ff → is_some s.name ≡ true → IsWellFormedSlot s
     → content_after c (slot_entries (length c.slots) s) ≡ Some (record c { slots = last c.slots s })
 slot_written c s n has_name h =
-    then c (record c { slots = last c.slots (named s.struct) }) (part_entries (length c.slots) s.name ++ part_entries (length c.slots) s.struct) (attribute_entries (length c.slots) s.attributes) _
-    (then c (record c { slots = last c.slots (named None) }) (part_entries (length c.slots) s.name) (part_entries (length c.slots) s.struct) _ front
+    then c (record c { slots = last c.slots (named s.struct) }) (name_or_struct_entries (length c.slots) s.name ++ name_or_struct_entries (length c.slots) s.struct) (attribute_entries (length c.slots) s.attributes) _
+    (then c (record c { slots = last c.slots (named None) }) (name_or_struct_entries (length c.slots) s.name) (name_or_struct_entries (length c.slots) s.struct) _ front
     (struct_part_written c c.slots (named None) s.struct refl has_name n h.struct))
     (attributes_written c c.slots (named s.struct) 0 s.attributes has_name n tt h.attributes)
   where
     named : Option (ℕ × List ℕ) → RawSlot
     named struct = record { name = s.name; struct = struct; attributes = [] }
 
-    front : content_after c (part_entries (length c.slots) s.name) ≡ Some (record c { slots = last c.slots (named None) })
+    front : content_after c (name_or_struct_entries (length c.slots) s.name) ≡ Some (record c { slots = last c.slots (named None) })
     front = go s.name has_name h.name
       where
-        go : (o : Option (ℕ × List ℕ)) → is_some o ≡ true → AllowedIfAny 0 o → content_after c (part_entries (length c.slots) o) ≡ Some (record c { slots = last c.slots (record { name = o; struct = None; attributes = [] }) })
+        go : (o : Option (ℕ × List ℕ)) → is_some o ≡ true → IsNameOrStructIfAny 0 o → content_after c (name_or_struct_entries (length c.slots) o) ≡ Some (record c { slots = last c.slots (record { name = o; struct = None; attributes = [] }) })
         go None e p = absurd (cc)
         go (Some part) e p = ap (option_and_then (λ d. content_after d [])) (name_written c part n p)
 
@@ -206,7 +206,7 @@ slots_written c (s ∷ slots) n m h =
 
 -- ---- tails and move states
 
-pub decoded_address-address_bytes : (pair : ℕ × ℕ) → AreWords pair → decoded_address (address_bytes pair) ≡ pair
+pub decoded_address-address_bytes : (pair : ℕ × ℕ) → AreU32Addresses pair → decoded_address (address_bytes pair) ≡ pair
 decoded_address-address_bytes pair h =
     let first : little_number 4 (address_bytes pair) ≡ pair.0 = little_number-reads_back 4 pair.0 (little_bytes 4 pair.1) h.0 in
     let second : little_number 4 (little_bytes 4 pair.1 ++ []) ≡ pair.1 = little_number-reads_back 4 pair.1 [] h.1 in
@@ -216,8 +216,8 @@ tail_written : (c : RawContent) (t : Option Tail) → c.tail ≡ None → IsAllo
 tail_written c None none h = ap (λ t. Some (record c { tail = t })) none
 tail_written c (Some t) none h = go t.hard
   where
-    shown : (hard : Bool) → tail_if_any hard (decoded_address (address_bytes t.to)) ≡ Some (record { hard = hard; to = t.to })
-    shown hard = ap (tail_if_any hard) (decoded_address-address_bytes t.to h.0) ∙ ap (λ b. cond b None (Some (record { hard = hard; to = t.to }))) h.1
+    shown : (hard : Bool) → tail_if_not_null hard (decoded_address (address_bytes t.to)) ≡ Some (record { hard = hard; to = t.to })
+    shown hard = ap (tail_if_not_null hard) (decoded_address-address_bytes t.to h.0) ∙ ap (λ b. cond b None (Some (record { hard = hard; to = t.to }))) h.1
 
     go : (hard : Bool) → content_after c (tail_entries (Some (record { hard = hard; to = t.to }))) ≡ Some (record c { tail = Some (record { hard = hard; to = t.to }) })
     go true = ap (λ z. Some (record c { tail = z })) (shown true)
@@ -266,7 +266,7 @@ zero_is_none g z = go g.sync refl
 move_written : (c : RawContent) (g : Gstate) → c.move ≡ zero_gstate → MoveStateFits g → content_after c (move_state_entries g) ≡ Some (record c { move = g })
 move_written c g none h = go (is_zero g) refl
   where
-    go : (z : Bool) → is_zero g ≡ z → content_after c (cond z [] (log_entry move_type no_id (bytes_of_move_state g) ∷ [])) ≡ Some (record c { move = g })
+    go : (z : Bool) → is_zero g ≡ z → content_after c (cond z [] (log_entry move_state_type no_id (bytes_of_move_state g) ∷ [])) ≡ Some (record c { move = g })
     go true z = ap (λ m. Some (record c { move = m })) (none ∙ sym (zero_is_none g z))
     go false z = ap (λ m. Some (record c { move = m })) (decoded_gstate-bytes_of_move_state g h)
 

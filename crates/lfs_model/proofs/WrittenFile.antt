@@ -2,16 +2,16 @@
 use Rattle.std.proofs.Common.{ℕ, zero, suc, ◌≡◌, ◌<◌, List, [], ◌∷◌, ◌++◌, Option, Some, None, get_or, refl, sym, ap, arith, ◌∙◌, Less}
 use Rattle.std.specs.Prelude.{codes, nat_eq}
 use Rattle.std.specs.List.{IsDistinct}
-use Rattle.lfs_model.proofs.Common.{All-from_recursion, Disk, content_at, current_block, default_profile, zero_gstate, Slot, Inline, Pair, anchor_address, BeginsWith, superblock_entry, used_blocks, superblock_slot, file_slot, IsStep, state_after_open, IsAccepted, Healthy, Path, Tree, disk_tree, block_count}
+use Rattle.lfs_model.proofs.Common.{All-from_recursion, Disk, content_at, current_block, default_profile, zero_gstate, Slot, Inline, Pair, superblock_pair_address, HasFirstLogEntry, superblock_entry, used_blocks, superblock_slot, file_slot, IsStep, state_after_open, IsAccepted, Healthy, Path, Tree, disk_tree, block_count}
 use Rattle.lfs_model.specs.tree.Tree.{Node, FileNode, DirectoryNode}
 use Rattle.lfs_model.specs.session.Run.{ShowsTree}
 use Rattle.lfs_model.proofs.Uniqueness.{one_thread}
 use Rattle.lfs_model.specs.format.Crc.{crc_of, checksum_after_bits}
-use Rattle.lfs_model.specs.format.Log.{chain_of, chain_within, commit_within, entry_at, closes}
+use Rattle.lfs_model.specs.format.Log.{chain_of, bounded_commit_sequence, bounded_commit_at, entry_at, closes}
 use Rattle.lfs_model.specs.format.Names.{name_cmp}
 use Rattle.lfs_model.specs.session.Operations as ops
 use Rattle.lfs_model.specs.session.Session.{FileWriter}
-use Rattle.lfs_model.specs.session.Writers.{opened_writer, written_writer}
+use Rattle.lfs_model.specs.session.Writers.{opened_writer, writer_after_write}
 use Rattle.lfs_model.specs.examples.Runs.{image_after_open}
 use Rattle.lfs_model.specs.examples.Sessions.{creating_flags}
 use Rattle.lfs_model.specs.examples.Written.{image_after_sync, image_after_rename, image_after_remove, written_session, synced_session, closed_session, renamed_session, removed_session, state_after_write, state_after_sync, state_after_close, state_after_rename, state_after_remove, programming, synced_commit, renamed_commit, removed_commit}
@@ -34,7 +34,7 @@ named name bytes = record (file_slot name) { struct = Inline bytes }
 
 -- the root's pair with these slots after the superblock
 abbrev pub root : List Slot → Pair
-root others = record { at = anchor_address; content = record { slots = superblock ∷ others; tail = None; move = zero_gstate } }
+root others = record { at = superblock_pair_address; content = record { slots = superblock ∷ others; tail = None; move = zero_gstate } }
 
 abbrev site : Site
 site = record { chain = []; before = []; left = []; right = []; after = [] }
@@ -42,33 +42,33 @@ site = record { chain = []; before = []; left = []; right = []; after = [] }
 -- ---- what each disk holds
 
 abbrev pub Holds : Disk → List Slot → Type 0
-Holds disk others = content_at disk anchor_address ≡ Some (root others).content
+Holds disk others = content_at disk superblock_pair_address ≡ Some (root others).content
 
 abbrev Begins : Disk → Type 0
-Begins disk = BeginsWith (current_block disk anchor_address) superblock_entry
+Begins disk = HasFirstLogEntry (current_block disk superblock_pair_address) superblock_entry
 
 pub synced_holds : Holds image_after_sync (named (codes "b") (codes "hi") ∷ [])
-unfolding chain_of chain_within commit_within entry_at closes crc_of checksum_after_bits
+unfolding chain_of bounded_commit_sequence bounded_commit_at entry_at closes crc_of checksum_after_bits
 synced_holds = refl
 
 pub synced_begins : Begins image_after_sync
-unfolding chain_of chain_within commit_within entry_at closes crc_of checksum_after_bits
+unfolding chain_of bounded_commit_sequence bounded_commit_at entry_at closes crc_of checksum_after_bits
 synced_begins = refl
 
 pub renamed_holds : Holds image_after_rename (named (codes "c") (codes "hi") ∷ [])
-unfolding chain_of chain_within commit_within entry_at closes crc_of checksum_after_bits
+unfolding chain_of bounded_commit_sequence bounded_commit_at entry_at closes crc_of checksum_after_bits
 renamed_holds = refl
 
 renamed_begins : Begins image_after_rename
-unfolding chain_of chain_within commit_within entry_at closes crc_of checksum_after_bits
+unfolding chain_of bounded_commit_sequence bounded_commit_at entry_at closes crc_of checksum_after_bits
 renamed_begins = refl
 
 pub removed_holds : Holds image_after_remove []
-unfolding chain_of chain_within commit_within entry_at closes crc_of checksum_after_bits
+unfolding chain_of bounded_commit_sequence bounded_commit_at entry_at closes crc_of checksum_after_bits
 removed_holds = refl
 
 removed_begins : Begins image_after_remove
-unfolding chain_of chain_within commit_within entry_at closes crc_of checksum_after_bits
+unfolding chain_of bounded_commit_sequence bounded_commit_at entry_at closes crc_of checksum_after_bits
 removed_begins = refl
 
 distinct : (disk : Disk) (name bytes : List ℕ) → IsDistinct nat_eq (([] ++ []) ++ used_blocks disk (root (named name bytes ∷ []) ∷ []))
@@ -109,11 +109,11 @@ sync_commit = record {
 }
 
 abbrev writer : FileWriter
-writer = written_writer (opened_writer (codes "b" ∷ []) creating_flags []) (codes "hi")
+writer = writer_after_write (opened_writer (codes "b" ∷ []) creating_flags []) (codes "hi")
 
 pub synced_completed : CompletesOperation image_after_open (before.next ∷ []) written_session (ops.Sync 0) image_after_sync (synced ∷ [])
 synced_completed = sync_completed image_after_open image_after_sync site before.next synced [] [] (superblock ∷ []) [] (file_slot (codes "b")) (named (codes "b") (codes "hi")) sync_commit refl
-    [] anchor_address refl refl written_session (sym (before.completed.tree around)) writer refl refl refl refl (refl, omega arith) 0 refl
+    [] superblock_pair_address refl refl written_session (sym (before.completed.tree around)) writer refl refl refl refl (refl, omega arith) 0 refl
 
 pub written_over : IsOver image_after_open (before.next ∷ []) written_session around
 written_over = record { accepted = opened_over.accepted; surrounds = opened_over.surrounds; tree = opened_over.tree }
@@ -184,7 +184,7 @@ behind = record { within = omega arith; below = below; above = λ j d low high. 
 
 pub renamed_completed : CompletesOperation image_after_sync (synced ∷ []) closed_session (ops.Rename (codes "/b") (codes "/c")) image_after_rename (renamed ∷ [])
 renamed_completed = renamed_behind_completed image_after_sync image_after_rename site synced renamed [] (superblock ∷ []) (named (codes "b") (codes "hi")) [] [] (codes "c") rename_commit refl
-    [] anchor_address refl refl behind closed_session (codes "/b") (codes "/c") closed_over.tree refl refl
+    [] superblock_pair_address refl refl behind closed_session (codes "/b") (codes "/c") closed_over.tree refl refl
 
 pub rename_step : IsStep state_after_close (ops.Rename (codes "/b") (codes "/c")) ops.Done state_after_rename
 rename_step = completed_step image_after_sync (synced ∷ []) closed_session around (ops.Rename (codes "/b") (codes "/c")) image_after_rename (renamed ∷ []) (programming 768 renamed_commit image_after_sync image_after_rename ∷ []) state_after_sync.calls
@@ -236,7 +236,7 @@ renamed_over = record {
 
 pub removed_completed : CompletesOperation image_after_rename (renamed ∷ []) renamed_session (ops.Remove (codes "/c")) image_after_remove (removed ∷ [])
 removed_completed = remove_completed image_after_rename image_after_remove site renamed removed [] (superblock ∷ []) [] (named (codes "c") (codes "hi")) remove_commit refl refl
-    [] anchor_address refl refl renamed_session (codes "/c") renamed_over.tree refl (λ e. absurd (cc))
+    [] superblock_pair_address refl refl renamed_session (codes "/c") renamed_over.tree refl (λ e. absurd (cc))
 
 pub remove_step : IsStep state_after_rename (ops.Remove (codes "/c")) ops.Done state_after_remove
 remove_step = completed_step image_after_rename (renamed ∷ []) renamed_session around (ops.Remove (codes "/c")) image_after_remove (removed ∷ []) (programming 1024 removed_commit image_after_rename image_after_remove ∷ []) state_after_rename.calls

@@ -1,13 +1,13 @@
 -- How many bytes a content takes when it is written anew.
 use Rattle.std.proofs.Common.{ℕ, ◌≡◌, ◌+◌, ◌≤◌, Bool, true, false, cond, List, [], ◌∷◌, ◌++◌, length, Option, Some, None, refl, arith}
 use Rattle.std.specs.Prelude.{sum_by}
-use Rattle.lfs_model.proofs.Common.{sum_by-append, sum_by-cons, Attributes, Tail, Gstate, attributes_size, LogEntry, RawSlot, RawContent, log_entry, first_attribute_type, part_entries, attribute_entries, slot_entries, entries_of_slots, tail_entries, move_state_entries, is_zero, content_entries, part_size, slot_size_raw, raw_slots_size}
+use Rattle.lfs_model.proofs.Common.{sum_by-append, sum_by-cons, Attributes, Tail, Gstate, attributes_size, LogEntry, RawSlot, RawContent, log_entry, first_attribute_type, name_or_struct_entries, attribute_entries, slot_entries, entries_of_slots, tail_entries, move_state_entries, is_zero, content_entries, name_or_struct_size, raw_slot_size, raw_slots_size}
 use Rattle.lfs_model.specs.layers.WrittenContent.{move_entry}
 
 abbrev entry_size : LogEntry → ℕ
 entry_size e = 4 + length e.bytes
 
-part_entries_size : (id : ℕ) (part : Option (ℕ × List ℕ)) → sum_by entry_size (part_entries id part) ≡ part_size part
+part_entries_size : (id : ℕ) (part : Option (ℕ × List ℕ)) → sum_by entry_size (name_or_struct_entries id part) ≡ name_or_struct_size part
 part_entries_size id None = refl
 part_entries_size id (Some part) = omega arith
 
@@ -19,20 +19,20 @@ attribute_entries_size id (a ∷ attributes) =
     let rest = attribute_entries_size id attributes in
     omega (arith, left, right, rest)
 
-slot_size_written : (id : ℕ) (s : RawSlot) → sum_by entry_size (slot_entries id s) ≡ slot_size_raw s
+slot_size_written : (id : ℕ) (s : RawSlot) → sum_by entry_size (slot_entries id s) ≡ raw_slot_size s
 slot_size_written id s =
-    let all = sum_by-append entry_size (part_entries id s.name ++ part_entries id s.struct) (attribute_entries id s.attributes) in
-    let front = sum_by-append entry_size (part_entries id s.name) (part_entries id s.struct) in
+    let all = sum_by-append entry_size (name_or_struct_entries id s.name ++ name_or_struct_entries id s.struct) (attribute_entries id s.attributes) in
+    let front = sum_by-append entry_size (name_or_struct_entries id s.name) (name_or_struct_entries id s.struct) in
     let name = part_entries_size id s.name in
     let struct = part_entries_size id s.struct in
     let attributes = attribute_entries_size id s.attributes in
     omega arith
 
-slots_size_written : (id : ℕ) (slots : List RawSlot) → sum_by entry_size (entries_of_slots id slots) ≡ sum_by slot_size_raw slots
+slots_size_written : (id : ℕ) (slots : List RawSlot) → sum_by entry_size (entries_of_slots id slots) ≡ sum_by raw_slot_size slots
 slots_size_written id [] = refl
 slots_size_written id (s ∷ slots) =
     let all = sum_by-append entry_size (slot_entries id s) (entries_of_slots (id + 1) slots) in
-    let whole = sum_by-cons slot_size_raw s slots in
+    let whole = sum_by-cons raw_slot_size s slots in
     let here = slot_size_written id s in
     let rest = slots_size_written (id + 1) slots in
     omega arith

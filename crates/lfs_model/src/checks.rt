@@ -8,12 +8,12 @@ ghost use Rattle.lfs_model.specs.session.State.{mounted_session};
 ghost use Rattle.lfs_model.specs.tree.Fresh.{empty_tree};
 ghost use Rattle.lfs_model.specs.crash.Frame.{refused_before_search, needs_session_alone};
 ghost use Rattle.lfs_model.specs.examples.Runs.{all_refusals, writer_session};
-ghost use Rattle.lfs_model.specs.examples.Sessions.{writable_summary, all_replies, fresh_replies, with_used_count, read_flags, write_flags, creating_flags};
+ghost use Rattle.lfs_model.specs.examples.Sessions.{writable_summary, replies_to_operations, fresh_replies, with_used_count, read_flags, write_flags, creating_flags};
 
 /// A disk outside the writing profile can only be read. An operation that would change such a disk
 /// is refused with `ReadOnly` before any other check.
 pub fn read_only_is_checked_first()
-    ensures { all_replies (λ used. record (writable_summary 4096 256 16 used) { writable = false }) (mounted_session empty_tree) (with_used_count 2
+    ensures { replies_to_operations (λ used. record (writable_summary 4096 256 16 used) { writable = false }) (mounted_session empty_tree) (with_used_count 2
         (ops.Open [] write_flags ∷ ops.Open (codes "/a") (record write_flags { read = true }) ∷ ops.Mkdir [] ∷ ops.Remove (codes "/")
         ∷ ops.Rename (codes "/") [] ∷ ops.SetAttr (codes "/") 0x41 [] ∷ ops.RemoveAttr (codes "/x/y") 0x41 ∷ ops.Recover
         ∷ ops.Open [] read_flags ∷ ops.Write 0 [] ∷ ops.ListAll (codes "/") ∷ ops.Stat (codes "/") ∷ ops.GetAttr (codes "/") 0x41 ∷ []))
@@ -35,10 +35,10 @@ pub fn some_refusals_need_no_look_up()
 /// Queries of a disk report its global state, whether a block is used, and how many blocks are
 /// used.
 pub fn queries_of_disk_are_answered()
-    ensures plain { all_replies (writable_summary 4096 256 16) (mounted_session empty_tree) (with_used_count 1
+    ensures plain { replies_to_operations (writable_summary 4096 256 16) (mounted_session empty_tree) (with_used_count 1
         (ops.AskGstate ∷ ops.IsUsed 0 ∷ ops.IsUsed 15 ∷ ops.IsUsed 16 ∷ ops.UsedCount ∷ ops.Recover ∷ []))
         ≡ ops.GstateIs false None ∷ ops.Yes true ∷ ops.Yes false ∷ ops.Refused Invalid ∷ ops.Count 1 ∷ ops.Done ∷ [] }
-    ensures set_move { all_replies (λ used. record (writable_summary 4096 256 16 used) { gstate = record zero_gstate { sync = true; kind = 0x4ff; id = 3; pair = (3, 2) } }) (mounted_session empty_tree)
+    ensures set_move { replies_to_operations (λ used. record (writable_summary 4096 256 16 used) { gstate = record zero_gstate { sync = true; kind = 0x4ff; id = 3; pair = (3, 2) } }) (mounted_session empty_tree)
         (with_used_count 4 (ops.AskGstate ∷ []))
         ≡ ops.GstateIs true (Some ((3, 2), 3)) ∷ [] }
 {}

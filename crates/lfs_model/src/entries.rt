@@ -7,14 +7,14 @@ ghost use Rattle.lfs_model.specs.declared.order.NameOrder.TheVariants.{ShorterFi
 ghost use Rattle.lfs_model.specs.format.Tag.{IsValidTag, make_tag, tag_type, tag_id, tag_length};
 ghost use Rattle.lfs_model.specs.format.Slots.{Gstate, zero_gstate, gstate_xor};
 ghost use Rattle.lfs_model.specs.format.Content.{empty_raw_content, empty_slot, content_after};
-ghost use Rattle.lfs_model.specs.format.EntryTypes.{unpacked_gstate, create_tag_type, delete_tag_type, file_name_type, superblock_name_type, inline_type, directory_type, ctz_type, soft_tail_type, hard_tail_type, move_type, no_id};
+ghost use Rattle.lfs_model.specs.format.EntryTypes.{unpacked_gstate, create_tag_type, delete_tag_type, file_name_type, superblock_name_type, inline_struct_type, directory_struct_type, ctz_struct_type, soft_tail_type, hard_tail_type, move_state_type, no_id};
 ghost use Rattle.lfs_model.specs.layers.Lookup.{IsNameId, IsInsertionId, bytes_at};
 ghost use Rattle.lfs_model.specs.examples.Images.{raw_superblock, raw_empty_file};
 ghost use Rattle.lfs_model.specs.layers.WrittenContent.{log_entry, tail_entry};
-ghost use Rattle.lfs_model.specs.layers.BlockBytes.{inline_entries, move_state_entry};
+ghost use Rattle.lfs_model.specs.layers.BlockBytes.{inline_file_entries, move_state_entry};
 
 /// A tag consists of a type of 11 bits, an id of 10 bits and a length of 10 bits.
-pub fn tag_is_its_fields()
+pub fn tag_encodes_its_fields()
     ensures kind { (kind id len : ℕ) → kind < 2 ^ 11 → id < 2 ^ 10 → len < 2 ^ 10 → tag_type (make_tag kind id len) ≡ kind }
     ensures id { (kind id len : ℕ) → kind < 2 ^ 11 → id < 2 ^ 10 → len < 2 ^ 10 → tag_id (make_tag kind id len) ≡ id }
     ensures len { (kind id len : ℕ) → kind < 2 ^ 11 → id < 2 ^ 10 → len < 2 ^ 10 → tag_length (make_tag kind id len) ≡ len }
@@ -23,15 +23,15 @@ pub fn tag_is_its_fields()
 {}
 
 /// Shows three tags as the 32-bit numbers that are stored.
-pub fn tags_are_stored_numbers()
+pub fn tags_have_specified_numbers()
     ensures create { make_tag create_tag_type 3 0 ≡ 0x40100c00 }
     ensures soft_tail { make_tag soft_tail_type no_id 8 ≡ 0x600ffc08 }
-    ensures move_state { make_tag move_type no_id 12 ≡ 0x7ffffc0c }
+    ensures move_state { make_tag move_state_type no_id 12 ≡ 0x7ffffc0c }
 {}
 
 /// A move state has the sync bit, a type and an id in its first word, followed by the address of a
 /// pair. The lowest ten bits of the first word are ignored.
-pub fn move_state_is_its_fields()
+pub fn move_state_encodes_its_fields()
     ensures set_move { unpacked_gstate 0x4ff00800 (2, 3) ≡ record { sync = false; kind = 0x4ff; id = 2; pair = (2, 3) } }
     ensures sync { unpacked_gstate 0x80000000 (0, 0) ≡ record { sync = true; kind = 0; id = 0; pair = (0, 0) } }
     ensures ignored { unpacked_gstate 0x000003ff (0, 0) ≡ zero_gstate }
@@ -43,10 +43,10 @@ pub fn move_state_is_its_fields()
 pub fn log_entries_make_slots()
     // "b" is created, "a" is created before it and removed again, and "b" gets an attribute.
     ensures shifted { content_after empty_raw_content
-        (log_entry create_tag_type 0 [] ∷ inline_entries 0 (codes "b") []
-        ++ log_entry create_tag_type 0 [] ∷ inline_entries 0 (codes "a") []
+        (log_entry create_tag_type 0 [] ∷ inline_file_entries 0 (codes "b") []
+        ++ log_entry create_tag_type 0 [] ∷ inline_file_entries 0 (codes "a") []
         ++ log_entry delete_tag_type 0 [] ∷ log_entry 0x341 0 (codes "x") ∷ [])
-        ≡ Some (record empty_raw_content { slots = record { name = Some (file_name_type, codes "b"); struct = Some (inline_type, []); attributes = (0x41, codes "x") ∷ [] } ∷ [] }) }
+        ≡ Some (record empty_raw_content { slots = record { name = Some (file_name_type, codes "b"); struct = Some (inline_struct_type, []); attributes = (0x41, codes "x") ∷ [] } ∷ [] }) }
 
     // A name entry with an id past the last slot creates all slots up to that id.
     ensures extended { content_after empty_raw_content (log_entry file_name_type 1 (codes "a") ∷ [])
@@ -88,14 +88,14 @@ pub fn log_with_bad_entry_is_malformed()
 pub fn entry_of_absent_slot_is_malformed()
     ensures create_past_the_end { content_after empty_raw_content (log_entry create_tag_type 1 [] ∷ []) ≡ None }
     ensures delete_absent { content_after empty_raw_content (log_entry delete_tag_type 0 [] ∷ []) ≡ None }
-    ensures struct_absent { content_after empty_raw_content (log_entry inline_type 0 [] ∷ []) ≡ None }
+    ensures struct_absent { content_after empty_raw_content (log_entry inline_struct_type 0 [] ∷ []) ≡ None }
     ensures attribute_absent { content_after empty_raw_content (log_entry 0x341 0 [] ∷ []) ≡ None }
 {}
 
 /// A struct or an attribute for a slot without a name makes a log malformed, and so does a name
 /// without an id.
 pub fn entry_without_name_is_malformed()
-    ensures struct_without_name { content_after empty_raw_content (log_entry create_tag_type 0 [] ∷ log_entry inline_type 0 [] ∷ []) ≡ None }
+    ensures struct_without_name { content_after empty_raw_content (log_entry create_tag_type 0 [] ∷ log_entry inline_struct_type 0 [] ∷ []) ≡ None }
     ensures attribute_without_name { content_after empty_raw_content (log_entry create_tag_type 0 [] ∷ log_entry 0x341 0 [] ∷ []) ≡ None }
     ensures name_without_id { content_after empty_raw_content (log_entry file_name_type no_id (codes "a") ∷ []) ≡ None }
 {}
@@ -103,18 +103,18 @@ pub fn entry_without_name_is_malformed()
 /// A name or a struct of a wrong length makes a log malformed.
 pub fn slot_entry_length_is_checked()
     ensures superblock_len { content_after empty_raw_content (log_entry superblock_name_type 0 (codes "little") ∷ []) ≡ None }
-    ensures directory_len { content_after empty_raw_content (log_entry file_name_type 0 (codes "a") ∷ log_entry directory_type 0 (codes "1234567") ∷ []) ≡ None }
-    ensures list_len { content_after empty_raw_content (log_entry file_name_type 0 (codes "a") ∷ log_entry ctz_type 0 (codes "123456789") ∷ []) ≡ None }
+    ensures directory_len { content_after empty_raw_content (log_entry file_name_type 0 (codes "a") ∷ log_entry directory_struct_type 0 (codes "1234567") ∷ []) ≡ None }
+    ensures list_len { content_after empty_raw_content (log_entry file_name_type 0 (codes "a") ∷ log_entry ctz_struct_type 0 (codes "123456789") ∷ []) ≡ None }
     ensures removed_name { content_after empty_raw_content (record { tag = make_tag file_name_type 0 0x3ff; bytes = [] } ∷ []) ≡ None }
 {}
 
 /// A create, a delete, a tail or a move state of a wrong length makes a log malformed.
-pub fn other_entry_length_is_checked()
+pub fn create_and_tail_lengths_are_checked()
     ensures create_len { content_after empty_raw_content (log_entry create_tag_type 0 (codes "1") ∷ []) ≡ None }
     ensures delete_len { content_after empty_raw_content (log_entry create_tag_type 0 [] ∷ log_entry delete_tag_type 0 (codes "1") ∷ [])
         ≡ None }
     ensures tail_len { content_after empty_raw_content (log_entry hard_tail_type no_id (codes "1234") ∷ []) ≡ None }
-    ensures move_len { content_after empty_raw_content (log_entry move_type no_id (codes "12345678") ∷ []) ≡ None }
+    ensures move_len { content_after empty_raw_content (log_entry move_state_type no_id (codes "12345678") ∷ []) ≡ None }
 {}
 
 /// Shows the id at which a name is found among slots, or at which a new name is inserted. The
@@ -128,7 +128,7 @@ pub fn id_of_name_among_slots_is_found()
 {}
 
 /// If one name is a prefix of another, the `NameOrder` decides which of them comes first.
-pub fn beginning_of_name_is_ordered()
+pub fn name_order_ranks_prefixes()
     ensures longer { name_cmp LongerFirst (codes "log.old") (codes "log") ≡ Less }
     ensures shorter { name_cmp ShorterFirst (codes "log") (codes "log.old") ≡ Less }
 {}
@@ -137,7 +137,7 @@ pub fn beginning_of_name_is_ordered()
 /// the slot.
 pub fn slot_bytes_are_found_by_type_and_id()
     ensures name { bytes_at (raw_superblock ∷ raw_empty_file (codes "b") ∷ []) file_name_type 1 ≡ Some (codes "b") }
-    ensures structure { bytes_at (raw_superblock ∷ raw_empty_file (codes "b") ∷ []) inline_type 1 ≡ Some [] }
+    ensures structure { bytes_at (raw_superblock ∷ raw_empty_file (codes "b") ∷ []) inline_struct_type 1 ≡ Some [] }
     ensures attribute { bytes_at (record (raw_empty_file (codes "b")) { attributes = (0x41, codes "x") ∷ [] } ∷ []) 0x341 0
         ≡ Some (codes "x") }
 {}
@@ -146,7 +146,7 @@ pub fn slot_bytes_are_found_by_type_and_id()
 pub fn absent_slot_bytes_are_none()
     ensures no_attribute { bytes_at (record (raw_empty_file (codes "b")) { attributes = (0x41, codes "x") ∷ [] } ∷ []) 0x342 0 ≡ None }
     ensures other_name { bytes_at (raw_superblock ∷ []) file_name_type 0 ≡ None }
-    ensures other_struct { bytes_at (raw_empty_file (codes "b") ∷ []) ctz_type 0 ≡ None }
+    ensures other_struct { bytes_at (raw_empty_file (codes "b") ∷ []) ctz_struct_type 0 ≡ None }
     ensures absent { bytes_at (raw_superblock ∷ []) file_name_type 1 ≡ None }
     ensures splice { bytes_at (raw_superblock ∷ []) create_tag_type 0 ≡ None }
 {}

@@ -14,9 +14,9 @@ ghost use Rattle.lfs_model.specs.tree.Profile.{IsWritable};
 ghost use Rattle.lfs_model.specs.tree.Shown.{disk_tree, used_blocks};
 ghost use Rattle.lfs_model.specs.tree.Fresh.{IsFreshDisk, fresh_pair, empty_tree};
 ghost use Rattle.lfs_model.specs.layers.WrittenContent.{tail_entry};
-ghost use Rattle.lfs_model.specs.layers.BlockBytes.{unwritten_bytes, block_padded, inline_entries, list_slot_entries, branch_entries, move_state_entry, superblock_entries, checksum_entry, metadata_bytes};
-ghost use Rattle.lfs_model.specs.examples.Images.{nodes_view, IsNotAccepted, IsNotWritable, small_image, large_image, shifted_slot_block, shifted_slot_image, image_over_zeros, two_commit_image, large_disk_with, root_block_with, pair_block_with, superblock_struct_with, disk_with_versions, superblock_entries_with, root_struct_block, blocks_image};
-ghost use Rattle.lfs_model.specs.examples.Violations.{unwritable_inline_image, short_names_image};
+ghost use Rattle.lfs_model.specs.layers.BlockBytes.{unwritten_bytes, block_padded, inline_file_entries, list_file_entries, directory_slot_entries, move_state_entry, superblock_entries, checksum_entry, metadata_block_bytes};
+ghost use Rattle.lfs_model.specs.examples.Images.{nodes_view, IsNotAccepted, IsNotWritable, small_image, large_image, shifted_slot_block, shifted_slot_image, image_on_zeroed_storage, two_commit_image, large_disk_with, root_block_with, pair_block_with, superblock_struct_with, disk_with_versions, superblock_entries_with, root_struct_block, blocks_image};
+ghost use Rattle.lfs_model.specs.examples.Violations.{long_inline_image, short_name_limit_image};
 
 /// A fresh image is accepted and may be written. A fresh image has an empty root directory, and
 /// uses only blocks 0 and 1.
@@ -40,7 +40,7 @@ pub fn image_shows_its_only_file()
         (nodes_view (([], DirectoryNode [] (codes "b" ∷ []))
         ∷ (codes "b" ∷ [], FileNode ((0x41, codes "x") ∷ []) []) ∷ [])
         zero_gstate (0 ∷ 1 ∷ [])) }
-    ensures inline { HasDiskView (blocks_image (root_block_with (inline_entries 1 (codes "a") (codes "hello")) 0xe787463a 190) [])
+    ensures inline { HasDiskView (blocks_image (root_block_with (inline_file_entries 1 (codes "a") (codes "hello")) 0xe787463a 190) [])
         (nodes_view (([], DirectoryNode [] (codes "a" ∷ []))
         ∷ (codes "a" ∷ [], FileNode [] (codes "hello")) ∷ [])
         zero_gstate (0 ∷ 1 ∷ [])) }
@@ -54,7 +54,7 @@ pub fn image_shows_its_only_file()
     }) }
 
     // The erased bytes of this storage are zero.
-    ensures zeroed { HasDiskView image_over_zeros
+    ensures zeroed { HasDiskView image_on_zeroed_storage
         (nodes_view (([], DirectoryNode [] (codes "b" ∷ []))
         ∷ (codes "b" ∷ [], FileNode [] []) ∷ [])
         zero_gstate (0 ∷ 1 ∷ [])) }
@@ -62,7 +62,7 @@ pub fn image_shows_its_only_file()
     // The file has three blocks. The last block has one byte, after the addresses of the second and
     // the first block.
     ensures list { HasDiskView
-        (blocks_image (root_block_with (list_slot_entries 1 (codes "a") 4 8189) 0xaa94cc85 187)
+        (blocks_image (root_block_with (list_file_entries 1 (codes "a") 4 8189) 0xaa94cc85 187)
         (replicate 4096 97
         ∷ (little_bytes 4 2 ++ replicate 4092 98)
         ∷ block_padded 4096 (little_bytes 4 3 ++ little_bytes 4 2 ++ 99 ∷ []) ∷ []))
@@ -75,14 +75,14 @@ pub fn image_shows_its_only_file()
 pub fn later_block_of_pair_is_shown()
     // Block 1 is a fresh root with an earlier revision count than block 0.
     ensures first { HasDiskView
-        (large_disk_with (shifted_slot_block ∷ metadata_bytes 4096 0xffffffff (superblock_entries default_profile 4096 16 ++ checksum_entry 0xc3e1dffc 204 ∷ []) ∷ []))
+        (large_disk_with (shifted_slot_block ∷ metadata_block_bytes 4096 0xffffffff (superblock_entries default_profile 4096 16 ++ checksum_entry 0xc3e1dffc 204 ∷ []) ∷ []))
         (nodes_view (([], DirectoryNode [] (codes "b" ∷ []))
         ∷ (codes "b" ∷ [], FileNode ((0x41, codes "x") ∷ []) []) ∷ [])
         zero_gstate (0 ∷ 1 ∷ [])) }
 
     // Block 1 has a file and a later revision count than block 0.
     ensures second { HasDiskView
-        (large_disk_with (root_block_with [] 0xf3277f4a 204 ∷ metadata_bytes 4096 2 (superblock_entries default_profile 4096 16 ++ inline_entries 1 (codes "a") (codes "hello") ++ checksum_entry 0xe6da60eb 190 ∷ []) ∷ []))
+        (large_disk_with (root_block_with [] 0xf3277f4a 204 ∷ metadata_block_bytes 4096 2 (superblock_entries default_profile 4096 16 ++ inline_file_entries 1 (codes "a") (codes "hello") ++ checksum_entry 0xe6da60eb 190 ∷ []) ∷ []))
         (nodes_view (([], DirectoryNode [] (codes "a" ∷ []))
         ∷ (codes "a" ∷ [], FileNode [] (codes "hello")) ∷ [])
         zero_gstate (0 ∷ 1 ∷ [])) }
@@ -94,18 +94,18 @@ pub fn directory_consists_of_joined_pairs()
     // The entry may give the two blocks in either order. If the two revision counts are equal, the
     // first block in the tail is active.
     ensures either_order { HasDiskView
-        (blocks_image (root_block_with (branch_entries 1 (codes "d") (3, 2) ++ tail_entry false (Some (2, 3)) ∷ []) 0x73136a7f 175)
-        (pair_block_with (inline_entries 0 (codes "x") (codes "hi")) 0x99061daa 233
-        ∷ pair_block_with (inline_entries 0 (codes "f") (codes "hi")) 0x6586f267 233 ∷ []))
+        (blocks_image (root_block_with (directory_slot_entries 1 (codes "d") (3, 2) ++ tail_entry false (Some (2, 3)) ∷ []) 0x73136a7f 175)
+        (pair_block_with (inline_file_entries 0 (codes "x") (codes "hi")) 0x99061daa 233
+        ∷ pair_block_with (inline_file_entries 0 (codes "f") (codes "hi")) 0x6586f267 233 ∷ []))
         (nodes_view (([], DirectoryNode [] (codes "d" ∷ []))
         ∷ (codes "d" ∷ [], DirectoryNode [] (codes "x" ∷ []))
         ∷ (codes "d" ∷ codes "x" ∷ [], FileNode [] (codes "hi")) ∷ [])
         zero_gstate (0 ∷ 1 ∷ 2 ∷ 3 ∷ [])) }
     ensures two_pairs { HasDiskView
-        (blocks_image (root_block_with (branch_entries 1 (codes "d") (4, 5) ++ tail_entry false (Some (4, 5)) ∷ []) 0x8a1d57fc 175)
+        (blocks_image (root_block_with (directory_slot_entries 1 (codes "d") (4, 5) ++ tail_entry false (Some (4, 5)) ∷ []) 0x8a1d57fc 175)
         (unwritten_bytes 4096 ∷ unwritten_bytes 4096
-        ∷ pair_block_with (inline_entries 0 (codes "a") (codes "hi") ++ tail_entry true (Some (6, 7)) ∷ []) 0xd0dc452b 221 ∷ unwritten_bytes 4096
-        ∷ pair_block_with (inline_entries 0 (codes "z") (codes "hi")) 0xc16aa46b 233 ∷ []))
+        ∷ pair_block_with (inline_file_entries 0 (codes "a") (codes "hi") ++ tail_entry true (Some (6, 7)) ∷ []) 0xd0dc452b 221 ∷ unwritten_bytes 4096
+        ∷ pair_block_with (inline_file_entries 0 (codes "z") (codes "hi")) 0xc16aa46b 233 ∷ []))
         (nodes_view (([], DirectoryNode [] (codes "d" ∷ []))
         ∷ (codes "d" ∷ [], DirectoryNode [] (codes "a" ∷ codes "z" ∷ []))
         ∷ (codes "d" ∷ codes "a" ∷ [], FileNode [] (codes "hi"))
@@ -118,8 +118,8 @@ pub fn moved_slot_is_hidden()
     // The file "f" of the pair {2, 3} was moved to "g" in the root, and its old slot is still
     // there.
     ensures old_place { HasDiskView
-        (blocks_image (root_block_with (branch_entries 1 (codes "d") (2, 3) ++ inline_entries 2 (codes "g") (codes "hi") ++ tail_entry false (Some (2, 3)) ∷ move_state_entry 0x4ff00000 (2, 3) ∷ []) 0x3341c275 148)
-        (pair_block_with (inline_entries 0 (codes "f") (codes "hi")) 0x6586f267 233 ∷ []))
+        (blocks_image (root_block_with (directory_slot_entries 1 (codes "d") (2, 3) ++ inline_file_entries 2 (codes "g") (codes "hi") ++ tail_entry false (Some (2, 3)) ∷ move_state_entry 0x4ff00000 (2, 3) ∷ []) 0x3341c275 148)
+        (pair_block_with (inline_file_entries 0 (codes "f") (codes "hi")) 0x6586f267 233 ∷ []))
         (nodes_view (([], DirectoryNode [] (codes "d" ∷ codes "g" ∷ []))
         ∷ (codes "d" ∷ [], DirectoryNode [] [])
         ∷ (codes "g" ∷ [], FileNode [] (codes "hi")) ∷ [])
@@ -128,7 +128,7 @@ pub fn moved_slot_is_hidden()
     // The move refers to one of two slots of the same name. The moved slot doesn't count, nor does
     // its list, which begins past the last block.
     ensures same_name { HasDiskView
-        (blocks_image (root_block_with (list_slot_entries 1 (codes "f") 16 5 ++ inline_entries 2 (codes "f") (codes "hi") ++ move_state_entry 0x4ff00400 (0, 1) ∷ []) 0x13066eaa 160) [])
+        (blocks_image (root_block_with (list_file_entries 1 (codes "f") 16 5 ++ inline_file_entries 2 (codes "f") (codes "hi") ++ move_state_entry 0x4ff00400 (0, 1) ∷ []) 0x13066eaa 160) [])
         (nodes_view (([], DirectoryNode [] (codes "f" ∷ []))
         ∷ (codes "f" ∷ [], FileNode [] (codes "hi")) ∷ [])
         (record { sync = false; kind = 0x4ff; id = 1; pair = (0, 1) }) (0 ∷ 1 ∷ [])) }
@@ -156,7 +156,7 @@ pub fn null_tail_ends_thread()
 pub fn root_begins_at_end_of_superblock_chain()
     ensures expanded { HasDiskView
         (blocks_image (root_block_with (tail_entry true (Some (2, 3)) ∷ []) 0xef8649c3 192)
-        (root_block_with (inline_entries 1 (codes "a") (codes "hi")) 0xa7a04ca1 193 ∷ []))
+        (root_block_with (inline_file_entries 1 (codes "a") (codes "hi")) 0xa7a04ca1 193 ∷ []))
         (nodes_view (([], DirectoryNode [] (codes "a" ∷ []))
         ∷ (codes "a" ∷ [], FileNode [] (codes "hi")) ∷ [])
         zero_gstate (0 ∷ 1 ∷ 2 ∷ 3 ∷ [])) }
@@ -164,7 +164,7 @@ pub fn root_begins_at_end_of_superblock_chain()
     ensures three_pairs { HasDiskView
         (blocks_image (root_block_with (tail_entry true (Some (2, 3)) ∷ []) 0xef8649c3 192)
         (root_block_with (tail_entry true (Some (4, 5)) ∷ []) 0xc6d4e5a4 192 ∷ unwritten_bytes 4096
-        ∷ root_block_with (inline_entries 1 (codes "a") (codes "hi")) 0xa7a04ca1 193 ∷ []))
+        ∷ root_block_with (inline_file_entries 1 (codes "a") (codes "hi")) 0xa7a04ca1 193 ∷ []))
         (nodes_view (([], DirectoryNode [] (codes "a" ∷ []))
         ∷ (codes "a" ∷ [], FileNode [] (codes "hi")) ∷ [])
         zero_gstate (0 ∷ 1 ∷ 2 ∷ 3 ∷ 4 ∷ 5 ∷ [])) }
@@ -172,7 +172,7 @@ pub fn root_begins_at_end_of_superblock_chain()
     // A second pair without a superblock continues the root directory.
     ensures follower { HasDiskView
         (blocks_image (root_block_with (tail_entry true (Some (2, 3)) ∷ []) 0xef8649c3 192)
-        (pair_block_with (inline_entries 0 (codes "a") (codes "hi")) 0x4cbde7e4 233 ∷ []))
+        (pair_block_with (inline_file_entries 0 (codes "a") (codes "hi")) 0x4cbde7e4 233 ∷ []))
         (nodes_view (([], DirectoryNode [] (codes "a" ∷ []))
         ∷ (codes "a" ∷ [], FileNode [] (codes "hi")) ∷ [])
         zero_gstate (0 ∷ 1 ∷ 2 ∷ 3 ∷ [])) }
@@ -180,7 +180,7 @@ pub fn root_begins_at_end_of_superblock_chain()
     // The first pair's superblock has version 2.0, and the second pair's has version 2.1.
     ensures two_versions { HasDiskView
         (disk_with_versions AlsoTwoOne (blocks_image (root_block_with (tail_entry true (Some (2, 3)) ∷ []) 0xef8649c3 192)
-        (pair_block_with (superblock_entries_with (superblock_struct_with 0x00020001 4096 255) ++ inline_entries 1 (codes "a") (codes "hi")) 0xe9294708 193 ∷ [])))
+        (pair_block_with (superblock_entries_with (superblock_struct_with 0x00020001 4096 255) ++ inline_file_entries 1 (codes "a") (codes "hi")) 0xe9294708 193 ∷ [])))
         (nodes_view (([], DirectoryNode [] (codes "a" ∷ []))
         ∷ (codes "a" ∷ [], FileNode [] (codes "hi")) ∷ [])
         zero_gstate (0 ∷ 1 ∷ 2 ∷ 3 ∷ [])) }
@@ -191,14 +191,14 @@ pub fn bad_superblock_chain_is_refused()
     // The superblock of the second pair states 17 blocks.
     ensures other_bytes { IsNotAccepted
         (blocks_image (root_block_with (tail_entry true (Some (2, 3)) ∷ []) 0xef8649c3 192)
-        (pair_block_with (superblock_entries default_profile 4096 17 ++ inline_entries 1 (codes "a") (codes "hi")) 0xa947a470 193 ∷ [])) }
+        (pair_block_with (superblock_entries default_profile 4096 17 ++ inline_file_entries 1 (codes "a") (codes "hi")) 0xa947a470 193 ∷ [])) }
     ensures other_version { IsNotAccepted
         (blocks_image (root_block_with (tail_entry true (Some (2, 3)) ∷ []) 0xef8649c3 192)
-        (pair_block_with (superblock_entries_with (superblock_struct_with 0x00020001 4096 255) ++ inline_entries 1 (codes "a") (codes "hi")) 0xe9294708 193 ∷ [])) }
+        (pair_block_with (superblock_entries_with (superblock_struct_with 0x00020001 4096 255) ++ inline_file_entries 1 (codes "a") (codes "hi")) 0xe9294708 193 ∷ [])) }
 
     // The first pair has a file in addition to its superblock.
     ensures not_alone { IsNotAccepted
-        (blocks_image (root_block_with (inline_entries 1 (codes "z") [] ++ tail_entry true (Some (2, 3)) ∷ []) 0xfc3d37d9 183)
+        (blocks_image (root_block_with (inline_file_entries 1 (codes "z") [] ++ tail_entry true (Some (2, 3)) ∷ []) 0xfc3d37d9 183)
         (root_block_with [] 0xf3277f4a 204 ∷ [])) }
 {}
 
@@ -206,7 +206,7 @@ pub fn bad_superblock_chain_is_refused()
 pub fn moved_superblock_is_read()
     ensures moved { HasDiskView
         (blocks_image (pair_block_with (tail_entry true (Some (2, 3)) ∷ []) 0x9f96c0e0 232)
-        (root_block_with (inline_entries 1 (codes "a") (codes "hi")) 0xa7a04ca1 193 ∷ []))
+        (root_block_with (inline_file_entries 1 (codes "a") (codes "hi")) 0xa7a04ca1 193 ∷ []))
         (nodes_view (([], DirectoryNode [] (codes "a" ∷ []))
         ∷ (codes "a" ∷ [], FileNode [] (codes "hi")) ∷ [])
         zero_gstate (0 ∷ 1 ∷ 2 ∷ 3 ∷ [])) }
@@ -216,7 +216,7 @@ pub fn moved_superblock_is_read()
     ensures between { HasDiskView
         (blocks_image (root_block_with (tail_entry true (Some (2, 3)) ∷ []) 0xef8649c3 192)
         (pair_block_with (tail_entry true (Some (4, 5)) ∷ []) 0xb6c46c87 232 ∷ unwritten_bytes 4096
-        ∷ root_block_with (inline_entries 1 (codes "a") (codes "hi")) 0xa7a04ca1 193 ∷ []))
+        ∷ root_block_with (inline_file_entries 1 (codes "a") (codes "hi")) 0xa7a04ca1 193 ∷ []))
         (nodes_view (([], DirectoryNode [] (codes "a" ∷ []))
         ∷ (codes "a" ∷ [], FileNode [] (codes "hi")) ∷ [])
         zero_gstate (0 ∷ 1 ∷ 2 ∷ 3 ∷ 4 ∷ 5 ∷ [])) }
@@ -226,7 +226,7 @@ pub fn moved_superblock_is_read()
     ensures no_more { HasDiskView
         (blocks_image (root_block_with (tail_entry true (Some (2, 3)) ∷ []) 0xef8649c3 192)
         (pair_block_with (tail_entry true (Some (4, 5)) ∷ []) 0xb6c46c87 232 ∷ unwritten_bytes 4096
-        ∷ pair_block_with (inline_entries 0 (codes "a") (codes "hi")) 0x4cbde7e4 233 ∷ []))
+        ∷ pair_block_with (inline_file_entries 0 (codes "a") (codes "hi")) 0x4cbde7e4 233 ∷ []))
         (nodes_view (([], DirectoryNode [] (codes "a" ∷ []))
         ∷ (codes "a" ∷ [], FileNode [] (codes "hi")) ∷ [])
         zero_gstate (0 ∷ 1 ∷ 2 ∷ 3 ∷ 4 ∷ 5 ∷ [])) }
@@ -234,25 +234,25 @@ pub fn moved_superblock_is_read()
     // A soft tail doesn't continue the chain, and the chain must have a superblock.
     ensures soft { IsNotAccepted
         (blocks_image (pair_block_with (tail_entry false (Some (2, 3)) ∷ []) 0xc7d2fcdf 232)
-        (root_block_with (inline_entries 1 (codes "a") (codes "hi")) 0xa7a04ca1 193 ∷ [])) }
+        (root_block_with (inline_file_entries 1 (codes "a") (codes "hi")) 0xa7a04ca1 193 ∷ [])) }
     ensures none { IsNotAccepted
         (blocks_image (pair_block_with (tail_entry true (Some (2, 3)) ∷ []) 0x9f96c0e0 232)
-        (pair_block_with (inline_entries 0 (codes "a") (codes "hi")) 0x4cbde7e4 233 ∷ [])) }
+        (pair_block_with (inline_file_entries 0 (codes "a") (codes "hi")) 0x4cbde7e4 233 ∷ [])) }
 {}
 
 /// An image outside the writing profile is accepted and shows its tree, but may not be written.
 pub fn image_outside_profile_is_read_only()
     // The file has 600 inline bytes, and at most 512 are written.
-    ensures long_entry { HasDiskView unwritable_inline_image
+    ensures long_entry { HasDiskView long_inline_image
         (nodes_view (([], DirectoryNode [] (codes "a" ∷ []))
         ∷ (codes "a" ∷ [], FileNode [] (replicate 600 97)) ∷ [])
         zero_gstate (0 ∷ 1 ∷ [])) }
-    ensures long_entry_read_only { IsNotWritable unwritable_inline_image }
+    ensures long_entry_read_only { IsNotWritable long_inline_image }
 
     // The superblock limits names to 32 bytes.
-    ensures name_limit { HasDiskView short_names_image
+    ensures name_limit { HasDiskView short_name_limit_image
         (nodes_view (([], DirectoryNode [] []) ∷ []) zero_gstate (0 ∷ 1 ∷ [])) }
-    ensures name_limit_read_only { IsNotWritable short_names_image }
+    ensures name_limit_read_only { IsNotWritable short_name_limit_image }
 
     // The superblock has version 2.1, which the profile accepts.
     ensures newer { HasDiskView (disk_with_versions AlsoTwoOne (blocks_image (root_struct_block (superblock_struct_with 0x00020001 4096 255) 0xf2928257) []))

@@ -14,9 +14,9 @@ ghost use Rattle.lfs_model.specs.session.Session.{OpenFile, OpenFilesByNumber, S
 ghost use Rattle.lfs_model.specs.session.State.{Healthy, is_remount, mounted_session};
 ghost use Rattle.lfs_model.specs.session.Run.{SystemState, IsTreeStep, is_refusal};
 ghost use Rattle.lfs_model.specs.session.Accepted.{IsAcceptedOpen, IsAcceptedStep};
-ghost use Rattle.lfs_model.specs.crash.Lives.{Turn, IsLife, answered, failed, all_answered, fails_last};
-ghost use Rattle.lfs_model.specs.crash.RepeatedPowerLoss.{IsMounted, KeepsTree, LeftBetween, MeetsRunPremises, SameBytes};
-ghost use Rattle.lfs_model.specs.crash.LifeTrees.{IsTreeOfLife, LeavesTreeOfLife, MayLosePower, StartsSafely};
+ghost use Rattle.lfs_model.specs.crash.Lives.{Turn, IsLife, answered, failed, all_answered, only_last_may_fail};
+ghost use Rattle.lfs_model.specs.crash.RepeatedPowerLoss.{IsJustMounted, KeepsTree, LeftBetween, MeetsCrashSafetyPremises, SameBytes};
+ghost use Rattle.lfs_model.specs.crash.LifeTrees.{IsTreeOfLife, LeavesTreeOfLife, HasWritableDiskTree, HasMountableTree};
 ghost use Rattle.lfs_model.specs.examples.Sessions.{creating_flags, read_flags};
 ghost use Rattle.lfs_model.specs.examples.Images.{small_image};
 ghost use Rattle.lfs_model.specs.examples.Runs.{fresh_state, failed_state, blockless_disk};
@@ -37,35 +37,35 @@ pub fn accepted_operations_have_their_effect()
 /// A power loss at any point of a session's life leaves one of that life's trees, and the next
 /// session that mounts the disk has this tree.
 pub fn power_loss_leaves_a_tree_of_the_life()
-    ensures { (around : DiskSummary) (s : Session) (from : SystemState) (turns : List Turn) (to : SystemState) (left : Disk) → from.state ≡ Healthy s → fails_last turns ≡ true → IsLife from turns to → MeetsRunPremises from to
+    ensures { (around : DiskSummary) (s : Session) (from : SystemState) (turns : List Turn) (to : SystemState) (left : Disk) → from.state ≡ Healthy s → only_last_may_fail turns ≡ true → IsLife from turns to → MeetsCrashSafetyPremises from to
         → LeftBetween from to left → LeavesTreeOfLife around s turns left }
 {}
 
 /// After a power loss a session can mount the disk. Each session that mounts the disk has a tree of
 /// the interrupted session's life.
-pub fn sessions_start_safely()
-    ensures mounts { (around : DiskSummary) (s : Session) (turns : List Turn) (left : Disk) → LeavesTreeOfLife around s turns left → (begin : SystemState) × (SameBytes left begin.disk × IsMounted begin.disk begin) }
-    ensures has { (around : DiskSummary) (s : Session) (turns : List Turn) (left : Disk) → LeavesTreeOfLife around s turns left → (begin : SystemState) → SameBytes left begin.disk → (mounts : IsMounted begin.disk begin)
+pub fn session_mounts_disk_after_power_loss()
+    ensures mounts { (around : DiskSummary) (s : Session) (turns : List Turn) (left : Disk) → LeavesTreeOfLife around s turns left → (begin : SystemState) × (SameBytes left begin.disk × IsJustMounted begin.disk begin) }
+    ensures has { (around : DiskSummary) (s : Session) (turns : List Turn) (left : Disk) → LeavesTreeOfLife around s turns left → (begin : SystemState) → SameBytes left begin.disk → (mounts : IsJustMounted begin.disk begin)
         → IsTreeOfLife around s turns mounts.tree }
-    ensures keeps { (tree : Tree) (left : Disk) → KeepsTree tree left → StartsSafely (λ t. t ≡ tree) left }
+    ensures keeps { (tree : Tree) (left : Disk) → KeepsTree tree left → HasMountableTree (λ t. t ≡ tree) left }
 
     // A session can mount a fresh disk, and then has the empty tree. No session can mount a disk
     // without blocks.
-    ensures fresh { StartsSafely (λ tree. tree ≡ empty_tree) small_image }
-    ensures no_other { StartsSafely (λ tree. tree [] ≡ None) small_image → ⊥ }
-    ensures none { (tree : Tree) → StartsSafely (λ t. t ≡ tree) blockless_disk → ⊥ }
+    ensures fresh { HasMountableTree (λ tree. tree ≡ empty_tree) small_image }
+    ensures no_other { HasMountableTree (λ tree. tree [] ≡ None) small_image → ⊥ }
+    ensures none { (tree : Tree) → HasMountableTree (λ t. t ≡ tree) blockless_disk → ⊥ }
 {}
 
 /// A session may lose power after a format, after a recovery that isn't refused, and after any
 /// turns that were answered. The only other premise of the promise on power loss is about the
 /// device's erases.
-pub fn session_may_lose_power()
-    ensures fresh { (at : SystemState) → IsFreshDisk at.disk → at.state ≡ Healthy (mounted_session empty_tree) → MayLosePower at }
-    ensures recovered { (from to : SystemState) (s : Session) → from.state ≡ Healthy s → IsTreeStep from ops.Recover ops.Done to → MayLosePower to }
-    ensures goes_on { (from : SystemState) (turns : List Turn) (to : SystemState) → MayLosePower from → IsLife from turns to → all_answered turns ≡ true → MayLosePower to }
-    ensures premises { (from to : SystemState) → MayLosePower from → AllCallsSince ErasesCleanly from.calls to.calls → MeetsRunPremises from to }
-    ensures may { MayLosePower fresh_state }
-    ensures may_not { MayLosePower failed_state → ⊥ }
+pub fn premises_hold_after_format_and_recovery()
+    ensures fresh { (at : SystemState) → IsFreshDisk at.disk → at.state ≡ Healthy (mounted_session empty_tree) → HasWritableDiskTree at }
+    ensures recovered { (from to : SystemState) (s : Session) → from.state ≡ Healthy s → IsTreeStep from ops.Recover ops.Done to → HasWritableDiskTree to }
+    ensures goes_on { (from : SystemState) (turns : List Turn) (to : SystemState) → HasWritableDiskTree from → IsLife from turns to → all_answered turns ≡ true → HasWritableDiskTree to }
+    ensures premises { (from to : SystemState) → HasWritableDiskTree from → AllCallsSince ErasesCleanly from.calls to.calls → MeetsCrashSafetyPremises from to }
+    ensures may { HasWritableDiskTree fresh_state }
+    ensures may_not { HasWritableDiskTree failed_state → ⊥ }
 {}
 
 /// A life in which a directory is made has two trees, one without the directory and one with it. A

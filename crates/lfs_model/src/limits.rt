@@ -72,6 +72,6 @@ impl Profile {
 }
 
 /// An image that is accepted with version 2.0 alone is also accepted if version 2.1 is allowed.
-pub fn later_version_is_accepted_too()
+pub fn accepting_later_version_keeps_earlier()
     ensures { (disk : Disk) (ps : List Pair) → IsAccepted (disk_with_versions OnlyTwoZero disk) ps → IsAccepted (disk_with_versions AlsoTwoOne disk) ps }
 {}

@@ -2,19 +2,19 @@
 // error ended.
 
 ghost use Rattle.std.specs.Prelude.{◌≡◌, true, false, List, [], ◌∷◌, ◌++◌, Option, Some, None, codes};
-ghost use Rattle.lfs_model.specs.format.Disk.{ordered_disk};
+ghost use Rattle.lfs_model.specs.format.Disk.{disk_with_order};
 ghost use Rattle.lfs_model.specs.declared.order.NameOrder.TheVariants.{LongerFirst};
 ghost use Rattle.lfs_model.specs.session.Operations as ops;
 ghost use Rattle.lfs_model.specs.session.Operations.{Operation, Reply, Failed};
 ghost use Rattle.lfs_model.specs.session.Run.{SystemState, HealthyHasDiskTree, IsStep, IsTreeStep};
 ghost use Rattle.lfs_model.specs.crash.Performed.{ArePerformed, IsRun};
-ghost use Rattle.lfs_model.specs.crash.Lives.{Turn, IsTurn, IsLife, IsLifeOfRun, IsRunInTurns, FailLikeLossInside, answered, failed, fails_last};
+ghost use Rattle.lfs_model.specs.crash.Lives.{Turn, IsTurn, IsLife, IsLifeOfRun, IsRunInTurns, FailLikeLossBeforeLast, answered, failed, only_last_may_fail};
 ghost use Rattle.lfs_model.specs.crash.LifeHeadline.{AnswersAsDisk, AreAnswers, LifeMatchesDisk};
 ghost use Rattle.lfs_model.specs.examples.Images.{small_image};
 ghost use Rattle.lfs_model.specs.examples.Runs.{fresh_state, failed_state, state_after_open};
 
 /// `IsStep` implies `IsTreeStep`, which says nothing about where slots are.
-pub fn steps_are_tree_steps()
+pub fn steps_with_layout_are_tree_steps()
     ensures { (from to : SystemState) (op : Operation) (reply : Reply) → IsStep from op reply to → IsTreeStep from op reply to }
 {}
 
@@ -32,7 +32,7 @@ pub fn runs_are_lives()
     ensures run { (from : SystemState) (operations : List Operation) (to : SystemState) → IsRun from operations to → (turns : List Turn) × IsRunInTurns from operations turns to }
 
     // If an error ended only the last turn, nothing is assumed about the calls that failed.
-    ensures last { (from : SystemState) (turns : List Turn) → fails_last turns ≡ true → FailLikeLossInside from turns }
+    ensures last { (from : SystemState) (turns : List Turn) → only_last_may_fail turns ≡ true → FailLikeLossBeforeLast from turns }
 {}
 
 /// A session that works agrees with its disk at every moment of its life.
@@ -44,8 +44,8 @@ pub fn session_agrees_with_its_disk_all_its_life()
 pub fn session_lives_on_after_error()
     ensures asked { IsLife fresh_state (answered (ops.Stat (codes "/")) (ops.StatIs None) fresh_state ∷ []) fresh_state }
     ensures ended { IsLife fresh_state (answered (ops.Stat (codes "/")) (ops.StatIs None) fresh_state ∷ failed (ops.Mkdir (codes "/d")) failed_state ∷ []) failed_state }
-    ensures again { IsLife failed_state (answered (ops.Stat (codes "/")) (ops.Refused Failed) failed_state ∷ answered ops.Remount ops.Done (record fresh_state { disk = ordered_disk LongerFirst small_image }) ∷ [])
-        (record fresh_state { disk = ordered_disk LongerFirst small_image }) }
+    ensures again { IsLife failed_state (answered (ops.Stat (codes "/")) (ops.Refused Failed) failed_state ∷ answered ops.Remount ops.Done (record fresh_state { disk = disk_with_order LongerFirst small_image }) ∷ [])
+        (record fresh_state { disk = disk_with_order LongerFirst small_image }) }
 
     // No reply has another size. No session works after an operation that failed, and a failed
     // session answers only with `Failed`.
@@ -54,12 +54,12 @@ pub fn session_lives_on_after_error()
     ensures not_again { (next to : SystemState) → IsLife fresh_state (failed (ops.Mkdir (codes "/d")) next ∷ answered (ops.Stat (codes "/")) (ops.StatIs None) to ∷ []) to → ⊥ }
 {}
 
-/// A session on a fresh disk agrees with its disk, and a failed session doesn't. `fails_last` says
+/// A session on a fresh disk agrees with its disk, and a failed session doesn't. `only_last_may_fail` says
 /// whether an error ended no turn except perhaps the last one.
 pub fn fresh_session_agrees_with_its_disk()
     ensures matches { LifeMatchesDisk fresh_state (answered (ops.Stat (codes "/")) (ops.StatIs None) fresh_state ∷ []) fresh_state }
     ensures not_answered { AreAnswers fresh_state (answered (ops.Stat (codes "/")) (ops.StatIs (Some 5)) fresh_state ∷ []) fresh_state → ⊥ }
     ensures not_failed { AnswersAsDisk failed_state → ⊥ }
-    ensures last { fails_last (answered (ops.Stat (codes "/")) (ops.StatIs None) fresh_state ∷ failed (ops.Mkdir (codes "/d")) failed_state ∷ []) ≡ true }
-    ensures not_last { fails_last (failed (ops.Mkdir (codes "/d")) failed_state ∷ answered (ops.Stat (codes "/")) (ops.Refused Failed) failed_state ∷ []) ≡ false }
+    ensures last { only_last_may_fail (answered (ops.Stat (codes "/")) (ops.StatIs None) fresh_state ∷ failed (ops.Mkdir (codes "/d")) failed_state ∷ []) ≡ true }
+    ensures not_last { only_last_may_fail (failed (ops.Mkdir (codes "/d")) failed_state ∷ answered (ops.Stat (codes "/")) (ops.Refused Failed) failed_state ∷ []) ≡ false }
 {}

@@ -4,10 +4,10 @@ ghost use Rattle.std.specs.Prelude.{◌≡◌, ℕ, ◌+◌, ◌≤◌, ◌<◌,
 ghost use Rattle.byteorder.specs.Endian.{little_bytes};
 ghost use Rattle.lfs_model.specs.format.Crc.{IsCrcFrom, crc_of};
 ghost use Rattle.lfs_model.specs.format.Log.{LogEntry, AreCommits, chain_of, block_revision};
-ghost use Rattle.lfs_model.specs.format.Content.{has_commit, is_later, current_of_two};
+ghost use Rattle.lfs_model.specs.format.Content.{has_commit, is_later, later_committed_block};
 ghost use Rattle.lfs_model.specs.format.EntryTypes.{create_tag_type, no_id};
 ghost use Rattle.lfs_model.specs.layers.WrittenContent.{log_entry};
-ghost use Rattle.lfs_model.specs.layers.BlockBytes.{unwritten_bytes, metadata_bytes, checksum_entry};
+ghost use Rattle.lfs_model.specs.layers.BlockBytes.{unwritten_bytes, metadata_block_bytes, checksum_entry};
 ghost use Rattle.lfs_model.specs.examples.Images.{IsNotAccepted, small_block, small_disk_with, bad_checksum_block, shifted_slot_block};
 
 /// `crc_of` computes the remainder of the polynomial division that defines the checksum. No other
@@ -55,10 +55,10 @@ pub fn padding_may_be_any_bytes()
 /// A commit ends with a checksum entry of type 0x500 or 0x501 that has 4 to 1,022 bytes. The
 /// checksum covers everything before it, including its own tag.
 pub fn checksum_ends_commit()
-    ensures shortest { has_commit (metadata_bytes 64 1 (log_entry create_tag_type 0 [] ∷ checksum_entry 0x3316d230 0 ∷ [])) ≡ true }
-    ensures longest { has_commit (metadata_bytes 1100 1 (log_entry create_tag_type 0 [] ∷ checksum_entry 0x45539af1 1018 ∷ []))
+    ensures shortest { has_commit (metadata_block_bytes 64 1 (log_entry create_tag_type 0 [] ∷ checksum_entry 0x3316d230 0 ∷ [])) ≡ true }
+    ensures longest { has_commit (metadata_block_bytes 1100 1 (log_entry create_tag_type 0 [] ∷ checksum_entry 0x45539af1 1018 ∷ []))
         ≡ true }
-    ensures other_type { has_commit (metadata_bytes 64 1 (log_entry create_tag_type 0 []
+    ensures other_type { has_commit (metadata_block_bytes 64 1 (log_entry create_tag_type 0 []
         ∷ log_entry 0x501 no_id (little_bytes 4 0x2f307140) ∷ [])) ≡ true }
 {}
 
@@ -67,17 +67,17 @@ pub fn checksum_ends_commit()
 pub fn bad_checksum_ends_no_commit()
     // The checksum has only three bytes, its entry has another type of the same class, or it
     // doesn't cover its own tag.
-    ensures too_short { has_commit (metadata_bytes 64 1 (log_entry create_tag_type 0 []
+    ensures too_short { has_commit (metadata_block_bytes 64 1 (log_entry create_tag_type 0 []
         ∷ log_entry 0x500 no_id (little_bytes 3 0xad724793) ∷ [])) ≡ false }
-    ensures no_checksum { has_commit (metadata_bytes 64 1 (log_entry create_tag_type 0 []
+    ensures no_checksum { has_commit (metadata_block_bytes 64 1 (log_entry create_tag_type 0 []
         ∷ log_entry 0x502 no_id (little_bytes 4 0x0b5b94d0) ∷ [])) ≡ false }
-    ensures not_its_tag { has_commit (metadata_bytes 64 1 (log_entry create_tag_type 0 [] ∷ checksum_entry 0x0ffefba6 0 ∷ [])) ≡ false }
+    ensures not_its_tag { has_commit (metadata_block_bytes 64 1 (log_entry create_tag_type 0 [] ∷ checksum_entry 0x0ffefba6 0 ∷ [])) ≡ false }
 
     // The padding reaches past the end of the block, the padding ends within the block, or the
     // block has no checksum at all.
-    ensures past_the_end { has_commit (take 64 (metadata_bytes 64 1 (log_entry create_tag_type 0 [] ∷ checksum_entry 0x7ea4b368 96 ∷ [])))
+    ensures past_the_end { has_commit (take 64 (metadata_block_bytes 64 1 (log_entry create_tag_type 0 [] ∷ checksum_entry 0x7ea4b368 96 ∷ [])))
         ≡ false }
-    ensures within { has_commit (metadata_bytes 64 1 (log_entry create_tag_type 0 [] ∷ checksum_entry 0x7ea4b368 96 ∷ [])) ≡ true }
+    ensures within { has_commit (metadata_block_bytes 64 1 (log_entry create_tag_type 0 [] ∷ checksum_entry 0x7ea4b368 96 ∷ [])) ≡ true }
     ensures absent { has_commit (unwritten_bytes 64) ≡ false }
 {}
 
@@ -85,16 +85,16 @@ pub fn bad_checksum_ends_no_commit()
 /// only one block has a commit, that block is active.
 pub fn later_block_is_current()
     ensures second { (a b : List ℕ) → has_commit a ≡ true → has_commit b ≡ true → is_later (block_revision a) (block_revision b) ≡ true
-        → current_of_two a b ≡ Some b }
+        → later_committed_block a b ≡ Some b }
     ensures first { (a b : List ℕ) → has_commit a ≡ true → has_commit b ≡ true → is_later (block_revision a) (block_revision b)
-        ≡ false → current_of_two a b ≡ Some a }
-    ensures only_second { (a b : List ℕ) → has_commit a ≡ false → has_commit b ≡ true → current_of_two a b ≡ Some b }
-    ensures only_first { (a b : List ℕ) → has_commit a ≡ true → has_commit b ≡ false → current_of_two a b ≡ Some a }
-    ensures neither { (a b : List ℕ) → has_commit a ≡ false → has_commit b ≡ false → current_of_two a b ≡ None }
+        ≡ false → later_committed_block a b ≡ Some a }
+    ensures only_second { (a b : List ℕ) → has_commit a ≡ false → has_commit b ≡ true → later_committed_block a b ≡ Some b }
+    ensures only_first { (a b : List ℕ) → has_commit a ≡ true → has_commit b ≡ false → later_committed_block a b ≡ Some a }
+    ensures neither { (a b : List ℕ) → has_commit a ≡ false → has_commit b ≡ false → later_committed_block a b ≡ None }
 {}
 
 /// The sign of the difference of two revision counts decides which of them is later.
-pub fn later_revision_is_by_sign()
+pub fn revisions_compare_by_signed_difference()
     ensures later { is_later 1 2 ≡ true }
     ensures earlier { is_later 2 1 ≡ false }
     ensures wrapped { is_later 0xffffffff 0 ≡ true }

@@ -2,7 +2,7 @@
 
 ghost use Rattle.std.specs.Prelude.{◌≡◌, ◌⊎◌, ◌≢◌, ℕ, false, List, [], ◌∷◌, ◌++◌, None, codes};
 ghost use Rattle.lfs_model.specs.format.Blocks.{Blocks};
-ghost use Rattle.lfs_model.specs.session.History.{CallEvent, Read, call_event, AllCallsSince, LeftByLatest};
+ghost use Rattle.lfs_model.specs.session.History.{CallEvent, Read, call_event, AllCallsSince, LeftByLatestCall};
 ghost use Rattle.lfs_model.specs.format.Disk.{Disk};
 ghost use Rattle.lfs_model.specs.crash.FailedCalls.{FailLikeLossSince};
 ghost use Rattle.lfs_model.specs.tree.Fresh.{empty_tree};
@@ -16,8 +16,8 @@ ghost use Rattle.lfs_model.specs.crash.PowerLoss.{HasEitherTree, SurvivesLossSin
 ghost use Rattle.lfs_model.specs.crash.Standing.{SameConformingDevice};
 ghost use Rattle.lfs_model.specs.crash.Stops.{ErasesCleanly};
 ghost use Rattle.lfs_model.specs.tree.Tree.{Tree};
-ghost use Rattle.lfs_model.specs.crash.Lives.{Turn, IsLife, FailLikeLossInside, answered};
-ghost use Rattle.lfs_model.specs.crash.RepeatedPowerLoss.{RecoversTree, KeepsTree, LeftInCall, SurvivesLossInLife, LeftByLife, LeftByLosses, MeetsRunPremises, CrashSafe};
+ghost use Rattle.lfs_model.specs.crash.Lives.{Turn, IsLife, FailLikeLossBeforeLast, answered};
+ghost use Rattle.lfs_model.specs.crash.RepeatedPowerLoss.{RecoversTree, KeepsTree, LeftInCall, SurvivesLossInLife, LeftByLife, LeftByLosses, MeetsCrashSafetyPremises, CrashSafe};
 ghost use Rattle.lfs_model.specs.examples.Images.{small_image, two_commit_image};
 ghost use Rattle.lfs_model.specs.examples.Runs.{fresh_state, failed_state, state_after_open, blockless_disk, repeated_reads};
 
@@ -60,11 +60,11 @@ pub fn fresh_disk_keeps_its_tree()
 
 /// A session's life survives a power loss at any point, and any number of power losses after it.
 pub fn power_loss_is_survived()
-    ensures life { (from : SystemState) (turns : List Turn) (to : SystemState) → IsLife from turns to → FailLikeLossInside from turns → MeetsRunPremises from to → CrashSafe from turns to }
+    ensures life { (from : SystemState) (turns : List Turn) (to : SystemState) → IsLife from turns to → FailLikeLossBeforeLast from turns → MeetsCrashSafetyPremises from to → CrashSafe from turns to }
 
     // A session on a fresh disk may lose power. The loss leaves neither a disk without blocks nor
     // another tree. If no operation had begun, the disk has its old tree.
-    ensures may { MeetsRunPremises fresh_state fresh_state }
+    ensures may { MeetsCrashSafetyPremises fresh_state fresh_state }
     ensures survived { SurvivesLossInLife fresh_state (answered (ops.Stat (codes "/")) (ops.StatIs None) fresh_state ∷ []) fresh_state small_image }
     ensures none_begun { (to : SystemState) → IsLife fresh_state [] to → (left : Disk) (s : SurvivesLossInLife fresh_state [] to left) → s.tree ≡ empty_tree }
     ensures not_lost { (turns : List Turn) (to : SystemState) → SurvivesLossInLife fresh_state turns to blockless_disk → ⊥ }
@@ -90,10 +90,10 @@ pub fn operation_surviving_stopped_calls_survives_power_loss()
 /// After an operation's last call, a conforming device holds what a power loss in that call may
 /// leave, even if an error ended the operation.
 pub fn disk_after_last_call_is_power_loss_outcome()
-    ensures left { (disk : Disk) (old new : List CallEvent) (first last : Blocks) (before after : Tree) → old ≢ [] → LeftByLatest old first → LeftByLatest new last → CallsConform new
+    ensures left { (disk : Disk) (old new : List CallEvent) (first last : Blocks) (before after : Tree) → old ≢ [] → LeftByLatestCall old first → LeftByLatestCall new last → CallsConform new
         → SurvivesLossSince disk old new before after → AllCallsSince ErasesCleanly old new → FailLikeLossSince old new
         → HasEitherTree (with_blocks first disk) before after → HasEitherTree (with_blocks last disk) before after }
-    ensures called { (from to : SystemState) → from.calls ≢ [] → LeftByLatest from.calls from.disk.blocks → LeftByLatest to.calls to.disk.blocks → CallsConform to.calls
+    ensures called { (from to : SystemState) → from.calls ≢ [] → LeftByLatestCall from.calls from.disk.blocks → LeftByLatestCall to.calls to.disk.blocks → CallsConform to.calls
         → to.disk ≡ with_blocks to.disk.blocks from.disk → SameConformingDevice from to }
     ensures survives_loss { (from to : SystemState) (op : Operation) → HealthyHasDiskTree from.disk from.state → SameConformingDevice from to → SurvivesStoppedCalls from op to → SurvivesPowerLoss from op to }
 

@@ -4,7 +4,7 @@ ghost use Rattle.std.specs.Prelude.{true, false, [], ◌∷◌, ◌++◌, Some, 
 ghost use Rattle.byteorder.specs.Endian.{little_bytes};
 ghost use Rattle.lfs_model.specs.declared.limits.AcceptedVersions.TheVariants.{AlsoTwoOne};
 ghost use Rattle.lfs_model.specs.layers.WrittenContent.{tail_entry};
-ghost use Rattle.lfs_model.specs.layers.BlockBytes.{unwritten_bytes, block_padded, inline_entries, list_slot_entries, branch_entries, move_state_entry};
+ghost use Rattle.lfs_model.specs.layers.BlockBytes.{unwritten_bytes, block_padded, inline_file_entries, list_file_entries, directory_slot_entries, move_state_entry};
 ghost use Rattle.lfs_model.specs.examples.Images.{IsNotAccepted, root_block_with, pair_block_with, blocks_image, resized_image, superblock_struct_with, root_struct_block, disk_with_versions};
 
 /// The threaded linked-list of metadata pairs must end, stay within the disk, and contain no block
@@ -25,49 +25,49 @@ pub fn bad_thread_is_not_accepted()
 /// A directory's entry must point to the first pair of a directory, and no two entries may point to
 /// the same directory.
 pub fn bad_directory_address_is_not_accepted()
-    ensures root { IsNotAccepted (blocks_image (root_block_with (branch_entries 1 (codes "d") (0, 1)) 0xe27bd4d5 187) []) }
+    ensures root { IsNotAccepted (blocks_image (root_block_with (directory_slot_entries 1 (codes "d") (0, 1)) 0xe27bd4d5 187) []) }
     ensures twice { IsNotAccepted
-        (blocks_image (root_block_with (branch_entries 1 (codes "d") (2, 3) ++ branch_entries 2 (codes "e") (2, 3) ++ tail_entry false (Some (2, 3)) ∷ []) 0x9b4a311a 158)
+        (blocks_image (root_block_with (directory_slot_entries 1 (codes "d") (2, 3) ++ directory_slot_entries 2 (codes "e") (2, 3) ++ tail_entry false (Some (2, 3)) ∷ []) 0x9b4a311a 158)
         (pair_block_with [] 0x43f29ceb 244 ∷ [])) }
-    ensures absent { IsNotAccepted (blocks_image (root_block_with (branch_entries 1 (codes "d") (2, 3)) 0x4c654d37 187)
+    ensures absent { IsNotAccepted (blocks_image (root_block_with (directory_slot_entries 1 (codes "d") (2, 3)) 0x4c654d37 187)
         (pair_block_with [] 0x43f29ceb 244 ∷ [])) }
 
     // The entry points to a pair that continues the root directory.
     ensures follower { IsNotAccepted
-        (blocks_image (root_block_with (branch_entries 1 (codes "d") (2, 3) ++ tail_entry true (Some (2, 3)) ∷ []) 0xcf150821 175)
+        (blocks_image (root_block_with (directory_slot_entries 1 (codes "d") (2, 3) ++ tail_entry true (Some (2, 3)) ∷ []) 0xcf150821 175)
         (pair_block_with [] 0x43f29ceb 244 ∷ [])) }
 {}
 
 /// Names must be well-formed, and in ascending order within their directory.
 pub fn bad_name_is_not_accepted()
-    ensures descending { IsNotAccepted (blocks_image (root_block_with (inline_entries 1 (codes "b") [] ++ inline_entries 2 (codes "a")
+    ensures descending { IsNotAccepted (blocks_image (root_block_with (inline_file_entries 1 (codes "b") [] ++ inline_file_entries 2 (codes "a")
         []) 0x5f10df56 186) []) }
-    ensures twice { IsNotAccepted (blocks_image (root_block_with (inline_entries 1 (codes "a") [] ++ inline_entries 2 (codes "a")
+    ensures twice { IsNotAccepted (blocks_image (root_block_with (inline_file_entries 1 (codes "a") [] ++ inline_file_entries 2 (codes "a")
         []) 0xb5960234 186) []) }
-    ensures dot { IsNotAccepted (blocks_image (root_block_with (inline_entries 1 (codes ".") []) 0x78002b02 195) []) }
-    ensures slash { IsNotAccepted (blocks_image (root_block_with (inline_entries 1 (codes "a/b") []) 0xd9b0dbad 193) []) }
-    ensures long { IsNotAccepted (blocks_image (root_block_with (inline_entries 1 (replicate 256 97) []) 0xe28fdd43 196) []) }
+    ensures dot { IsNotAccepted (blocks_image (root_block_with (inline_file_entries 1 (codes ".") []) 0x78002b02 195) []) }
+    ensures slash { IsNotAccepted (blocks_image (root_block_with (inline_file_entries 1 (codes "a/b") []) 0xd9b0dbad 193) []) }
+    ensures long { IsNotAccepted (blocks_image (root_block_with (inline_file_entries 1 (replicate 256 97) []) 0xe28fdd43 196) []) }
 
     // The names are in two pairs of one directory.
     ensures across { IsNotAccepted
-        (blocks_image (root_block_with (inline_entries 1 (codes "b") [] ++ tail_entry true (Some (2, 3)) ∷ []) 0x922b2c43 183)
-        (pair_block_with (inline_entries 0 (codes "a") (codes "hi")) 0x4cbde7e4 233 ∷ [])) }
+        (blocks_image (root_block_with (inline_file_entries 1 (codes "b") [] ++ tail_entry true (Some (2, 3)) ∷ []) 0x922b2c43 183)
+        (pair_block_with (inline_file_entries 0 (codes "a") (codes "hi")) 0x4cbde7e4 233 ∷ [])) }
 {}
 
 /// A file's CTZ skip-list must stay within the disk, have 1 to 2,147,483,647 bytes and correct
 /// pointers, and share no block.
 pub fn bad_skip_list_is_not_accepted()
     ensures shared { IsNotAccepted
-        (blocks_image (root_block_with (list_slot_entries 1 (codes "a") 2 10 ++ list_slot_entries 2 (codes "b") 2 10) 0xc767c5eb 170)
+        (blocks_image (root_block_with (list_file_entries 1 (codes "a") 2 10 ++ list_file_entries 2 (codes "b") 2 10) 0xc767c5eb 170)
         (block_padded 4096 (codes "0123456789") ∷ [])) }
-    ensures of_the_root { IsNotAccepted (blocks_image (root_block_with (list_slot_entries 1 (codes "a") 1 10) 0x560f4ae1 187) []) }
-    ensures head { IsNotAccepted (blocks_image (root_block_with (list_slot_entries 1 (codes "a") 16 10) 0xc1b2eb72 187) []) }
-    ensures empty { IsNotAccepted (blocks_image (root_block_with (list_slot_entries 1 (codes "a") 2 0) 0xb05184d9 187) []) }
-    ensures too_long { IsNotAccepted (blocks_image (root_block_with (list_slot_entries 1 (codes "a") 2 0x80000000) 0x01b7344b 187) []) }
+    ensures of_the_root { IsNotAccepted (blocks_image (root_block_with (list_file_entries 1 (codes "a") 1 10) 0x560f4ae1 187) []) }
+    ensures head { IsNotAccepted (blocks_image (root_block_with (list_file_entries 1 (codes "a") 16 10) 0xc1b2eb72 187) []) }
+    ensures empty { IsNotAccepted (blocks_image (root_block_with (list_file_entries 1 (codes "a") 2 0) 0xb05184d9 187) []) }
+    ensures too_long { IsNotAccepted (blocks_image (root_block_with (list_file_entries 1 (codes "a") 2 0x80000000) 0x01b7344b 187) []) }
 
     // Pointer 1 of the third block points to the second block instead of the first.
     ensures pointer { IsNotAccepted
-        (blocks_image (root_block_with (list_slot_entries 1 (codes "a") 4 8189) 0xaa94cc85 187)
+        (blocks_image (root_block_with (list_file_entries 1 (codes "a") 4 8189) 0xaa94cc85 187)
         (replicate 4096 97
         ∷ (little_bytes 4 2 ++ replicate 4092 98)
         ∷ block_padded 4096 (little_bytes 4 3 ++ little_bytes 4 3 ++ 99 ∷ []) ∷ [])) }

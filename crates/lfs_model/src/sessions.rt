@@ -6,7 +6,7 @@ ghost use Rattle.lfs_model.specs.session.Operations as ops;
 ghost use Rattle.lfs_model.specs.session.Operations.{NoEnt, BadFile, Busy, Exist, NotDir, IsDir, Invalid, TooBig, NoSpace, NameTooLong, NotEmpty, NoAttr, EntryFull, Failed};
 ghost use Rattle.lfs_model.specs.session.State.{SessionHealth, HasFailed, Healthy, mounted_session, result_and_health};
 ghost use Rattle.lfs_model.specs.tree.Fresh.{empty_tree};
-ghost use Rattle.lfs_model.specs.examples.Sessions.{writable_summary, fresh_replies, all_replies, with_used_count, no_flags, read_flags, write_flags, creating_flags};
+ghost use Rattle.lfs_model.specs.examples.Sessions.{writable_summary, fresh_replies, replies_to_operations, with_used_count, no_flags, read_flags, write_flags, creating_flags};
 
 /// A malformed path is refused with `Invalid`, and a name of more than 255 bytes with
 /// `NameTooLong`.
@@ -148,7 +148,7 @@ pub fn space_for_blocks_is_checked()
 
 /// A name and its attributes may need at most half of a metadata pair. In these examples half a
 /// pair has 428 bytes, of which 128 are reserved for inline contents.
-pub fn attributes_are_kept_up_to_charge_limit()
+pub fn entry_size_limits_attributes()
     ensures limit { fresh_replies 1024 128 64 (with_used_count 2
         (ops.Open (47 ∷ replicate 255 97) creating_flags ∷ ops.Close 0
         ∷ ops.SetAttr (47 ∷ replicate 255 97) 0x41 (replicate 33 1)
@@ -169,7 +169,7 @@ pub fn attributes_are_kept_up_to_charge_limit()
 
 /// Shows the replies of a session that makes a directory, writes a file in it, moves the file to
 /// the root, and reads it there.
-pub fn replies_of_a_whole_session()
+pub fn example_session_gets_these_replies()
     ensures { fresh_replies 1024 128 64
         ((2, ops.Mkdir (codes "/d")) ∷ with_used_count 4 (ops.Open (codes "/d/f") creating_flags ∷ ops.Write 0 (replicate 5000 7)
         ∷ ops.Seek 0 10 ∷ ops.Write 0 (1 ∷ []) ∷ ops.Close 0 ∷ [])
@@ -194,7 +194,7 @@ pub fn failed_session_refuses_all_but_remount()
 
 /// A profile can lower the limits on names, files and attributes.
 pub fn profile_lowers_limits()
-    ensures { all_replies (λ used. record (writable_summary 4096 256 16 used) { profile = record default_profile { name_max = 3; file_max = 5; attr_max = 2 } }) (mounted_session empty_tree)
+    ensures { replies_to_operations (λ used. record (writable_summary 4096 256 16 used) { profile = record default_profile { name_max = 3; file_max = 5; attr_max = 2 } }) (mounted_session empty_tree)
         (with_used_count 2
         (ops.Mkdir (codes "/abc") ∷ ops.Mkdir (codes "/abcd") ∷ ops.Open (codes "/abcd") creating_flags ∷ ops.Rename (codes "/abc") (codes "/abcd")
         ∷ ops.Open (codes "/f") creating_flags ∷ ops.Write 0 (codes "hello") ∷ ops.Write 0 (codes "!") ∷ ops.Truncate 0 6 ∷ ops.Seek 0 5 ∷ ops.Seek 0 6

@@ -3,7 +3,7 @@
 ghost use Rattle.std.specs.Prelude.{◌≡◌, [], ◌∷◌, map, Some, None, codes};
 ghost use Rattle.lfs_model.specs.tree.Tree.{FileNode, DirectoryNode};
 ghost use Rattle.lfs_model.specs.tree.Fresh.{empty_tree};
-ghost use Rattle.lfs_model.specs.layers.Source.{HaveBadOrRepeated, AFile, AFolder, node_at, IsSourceTree};
+ghost use Rattle.lfs_model.specs.layers.Source.{HaveBadOrRepeatedNames, AFile, AFolder, node_at, IsSourceTree};
 ghost use Rattle.lfs_model.specs.examples.Sources.{file_source, endless_source};
 ghost use Rattle.lfs_model.specs.examples.Images.{tree_of_nodes};
 
@@ -17,7 +17,7 @@ pub fn tree_mirrors_source_folders()
 
 /// A folder of a source may not list a bad name, such as one with a slash, or the same name twice.
 pub fn bad_source_names_are_found()
-    ensures slash { HaveBadOrRepeated (codes "a" ∷ codes "a/b" ∷ []) }
-    ensures twice { HaveBadOrRepeated (codes "a" ∷ codes "b" ∷ codes "a" ∷ []) }
-    ensures good { HaveBadOrRepeated (codes "a" ∷ codes "b" ∷ []) → ⊥ }
+    ensures slash { HaveBadOrRepeatedNames (codes "a" ∷ codes "a/b" ∷ []) }
+    ensures twice { HaveBadOrRepeatedNames (codes "a" ∷ codes "b" ∷ codes "a" ∷ []) }
+    ensures good { HaveBadOrRepeatedNames (codes "a" ∷ codes "b" ∷ []) → ⊥ }
 {}

@@ -9,12 +9,12 @@ ghost use Rattle.lfs_model.specs.session.State.{Healthy};
 ghost use Rattle.lfs_model.specs.session.Run.{IsDiskEffect, IsStep};
 ghost use Rattle.lfs_model.specs.crash.PowerLoss.{SurvivesPowerLoss};
 ghost use Rattle.lfs_model.specs.examples.Sessions.{write_flags};
-ghost use Rattle.lfs_model.specs.examples.Runs.{blockless_disk, image_after_open, state_after_open, root_with_file, root_and_unreached, repeated_reads};
-ghost use Rattle.lfs_model.specs.examples.Written.{image_after_sync, image_after_rename, programming, renamed_commit, root_and_empty, opened_session, synced_session, closed_session, renamed_session, removed_session, state_after_write, state_after_sync, state_after_close, state_after_reopen, state_after_rename, state_after_remove};
+ghost use Rattle.lfs_model.specs.examples.Runs.{blockless_disk, image_after_open, state_after_open, root_with_file, root_and_unreached_pair, repeated_reads};
+ghost use Rattle.lfs_model.specs.examples.Written.{image_after_sync, image_after_rename, programming, renamed_commit, root_and_empty_pair, opened_session, synced_session, closed_session, renamed_session, removed_session, state_after_write, state_after_sync, state_after_close, state_after_reopen, state_after_rename, state_after_remove};
 
 /// After a write of two bytes, the bytes are only in memory. The write makes no device call and
 /// leaves the disk unchanged.
-pub fn written_bytes_are_not_shown()
+pub fn unsynced_bytes_are_not_visible()
     ensures turn { IsStep state_after_open (ops.Write 0 (codes "hi")) (ops.Count 2) state_after_write }
     ensures not_shown { IsStep state_after_open (ops.Write 0 (codes "hi")) (ops.Count 2) (record state_after_write { disk = image_after_sync; calls = state_after_sync.calls }) → ⊥ }
 {}
@@ -39,7 +39,7 @@ pub fn file_is_renamed_and_removed()
 
 /// The disk stays unchanged if an existing file is opened, a file is renamed to itself, or nothing
 /// is left to recover.
-pub fn disk_is_left_where_nothing_is_to_do()
+pub fn needless_operation_leaves_disk_unchanged()
     ensures opened { IsStep state_after_close (ops.Open (codes "/b") write_flags) (ops.Opened 0) state_after_reopen }
     ensures itself { IsStep state_after_close (ops.Rename (codes "/b") (codes "/b")) ops.Done state_after_close }
     ensures recovered { IsStep state_after_close ops.Recover ops.Done state_after_close }
@@ -48,7 +48,7 @@ pub fn disk_is_left_where_nothing_is_to_do()
 /// A query, or an open of an existing file, may not change the disk. A rename of a file to itself
 /// may not program, nor may a recovery with nothing to recover. A sync of a clean file may not even
 /// read.
-pub fn disk_isnt_changed_where_nothing_is_to_do()
+pub fn needless_operation_writes_nothing()
     ensures asks { (calls : List CallEvent) (qs : List Pair) → IsDiskEffect image_after_sync (root_with_file (codes "b") (codes "hi")) closed_session (ops.Stat (codes "/b")) calls image_after_rename qs → ⊥ }
     ensures opens { (calls : List CallEvent) (qs : List Pair) → IsDiskEffect image_after_sync (root_with_file (codes "b") (codes "hi")) closed_session (ops.Open (codes "/b") write_flags) calls image_after_rename qs → ⊥ }
     ensures itself { (qs : List Pair) → IsDiskEffect image_after_sync (root_with_file (codes "b") (codes "hi")) closed_session (ops.Rename (codes "/b") (codes "/b"))
@@ -60,9 +60,9 @@ pub fn disk_isnt_changed_where_nothing_is_to_do()
 
 /// A write may not make its bytes visible on the disk. A mkdir or a query may not leave anything to
 /// recover, and a query may not leave an empty pair.
-pub fn disk_isnt_left_outside_profile()
+pub fn operation_keeps_disk_in_profile()
     ensures fills { (calls : List CallEvent) → IsDiskEffect image_after_open (root_with_file (codes "b") []) opened_session (ops.Write 0 (codes "hi")) calls image_after_sync (root_with_file (codes "b") (codes "hi")) → ⊥ }
-    ensures recovered { (calls : List CallEvent) (new : Disk) → IsDiskEffect image_after_sync (root_with_file (codes "b") (codes "hi")) closed_session (ops.Mkdir (codes "/d")) calls new root_and_unreached → ⊥ }
-    ensures stays { (calls : List CallEvent) (new : Disk) → IsDiskEffect image_after_sync (root_with_file (codes "b") (codes "hi")) closed_session (ops.Stat (codes "/b")) calls new root_and_unreached → ⊥ }
-    ensures profile { (calls : List CallEvent) (new : Disk) → IsDiskEffect image_after_sync (root_with_file (codes "b") (codes "hi")) closed_session (ops.Stat (codes "/b")) calls new root_and_empty → ⊥ }
+    ensures recovered { (calls : List CallEvent) (new : Disk) → IsDiskEffect image_after_sync (root_with_file (codes "b") (codes "hi")) closed_session (ops.Mkdir (codes "/d")) calls new root_and_unreached_pair → ⊥ }
+    ensures stays { (calls : List CallEvent) (new : Disk) → IsDiskEffect image_after_sync (root_with_file (codes "b") (codes "hi")) closed_session (ops.Stat (codes "/b")) calls new root_and_unreached_pair → ⊥ }
+    ensures profile { (calls : List CallEvent) (new : Disk) → IsDiskEffect image_after_sync (root_with_file (codes "b") (codes "hi")) closed_session (ops.Stat (codes "/b")) calls new root_and_empty_pair → ⊥ }
 {}

@@ -8,7 +8,7 @@ ghost use Rattle.lfs_model.specs.format.Thread.{Pair};
 ghost use Rattle.lfs_model.specs.tree.Tree.{Path, Node, FileNode, DirectoryNode, Tree};
 ghost use Rattle.lfs_model.specs.tree.Shown.{disk_tree};
 ghost use Rattle.lfs_model.specs.session.Operations as ops;
-ghost use Rattle.lfs_model.specs.layers.Listing.{PathNode, IsWalk, listing_lines, IsListing, MakeDirectory, PutFile, Unpack, new_flags, CopyTree};
+ghost use Rattle.lfs_model.specs.layers.Listing.{PathNode, IsTreeWalk, listing_lines, IsListing, MakeDirectory, PutFile, Unpack, new_flags, AreCopyOperations};
 ghost use Rattle.lfs_model.specs.examples.Images.{tree_of_nodes, small_nodes};
 
 /// Every list of pairs shows a tree: each node's name is in its parent directory, and each name in
@@ -26,7 +26,7 @@ pub fn tree_nodes_match_directory_names()
 pub fn example_tree_is_listed_and_unpacked()
     ensures lines { IsListing (tree_of_nodes small_nodes) (codes "f 5 /a\nd 0 /d\nf 0 /d/x\n") }
     ensures actions { Unpack (tree_of_nodes small_nodes) (PutFile (codes "/a") (codes "hello") ∷ MakeDirectory (codes "/d") ∷ PutFile (codes "/d/x") [] ∷ []) }
-    ensures operations { CopyTree (tree_of_nodes small_nodes)
+    ensures operations { AreCopyOperations (tree_of_nodes small_nodes)
         (ops.Open (codes "/a") new_flags ∷ ops.Write 0 (codes "hello") ∷ ops.Close 0 ∷ ops.Mkdir (codes "/d")
         ∷ ops.Open (codes "/d/x") new_flags ∷ ops.Write 0 [] ∷ ops.Close 0 ∷ []) }
 
@@ -35,5 +35,5 @@ pub fn example_tree_is_listed_and_unpacked()
         ≡ codes "f 0 /a" ++ 0x5c ∷ codes "x0a" ++ 0x5c ∷ codes "x5c" ++ 0x5c ∷ codes "xc3" ++ 0x5c ∷ codes "xa9" ++ 0x0a ∷ [] }
 
     // A tree has only one listing.
-    ensures one { (tree : Tree) (a b : List PathNode) → IsWalk tree a → IsWalk tree b → a ≡ b }
+    ensures one { (tree : Tree) (a b : List PathNode) → IsTreeWalk tree a → IsTreeWalk tree b → a ≡ b }
 {}

@@ -2,7 +2,7 @@
 use Rattle.std.proofs.Common.{ℕ, suc, ◌≡◌, ◌+◌, ◌<◌, Bool, true, false, List, [], ◌∷◌, ◌++◌, length, map, get_or, Option, Some, None, refl, sym, ap, subst, ◌∙◌, arith, slice_get, option_map, nat_eq, Less, AllPairs, add-one, true≢false}
 use Rattle.std.specs.Prelude.{All}
 use Rattle.std.specs.List.{IsDistinct}
-use Rattle.lfs_mount.proofs.Common.{length-map, All-cons, same_Some, slice_get-map, slice_get_within, slice_get-get_or, Name, name_cmp, Slot, address_view, same_pair, Pair, BeginsDirectory, ThreadDirectory, root_address, IsReachedBySome, all_directories, pair_back, DirectoryGraph, Vertex, AreReachedMarks, IsRepeated, found_vertices, graph_view, vertex_view, IsPathReached, slot_branches, directory_index, IsThreadGraph, BreaksGraphRule}
+use Rattle.lfs_mount.proofs.Common.{length-map, All-cons, same_Some, slice_get-map, slice_get_within, slice_get-get_or, Name, name_cmp, Slot, address_of_array, same_pair, Pair, BeginsDirectory, ThreadDirectory, root_address, IsReachedDirectory, all_directories, pair_back, DirectoryGraph, Vertex, AreReachedMarks, OccursTwice, visited_vertices, graph_view, vertex_view, IsPathReached, slots_subdirectory_addresses, directory_index, IsGraphOfThread, BreaksGraphRule}
 use Rattle.lfs_model.specs.declared.order.NameOrder.{NameOrder}
 use Rattle.lfs_model.specs.tree.Tree.{names_at}
 use Rattle.lfs_model.specs.tree.Shown.{all_entries}
@@ -18,8 +18,8 @@ use Rattle.lfs_mount.proofs.Searches.{AreSoundBefore, Goes, IsLedTwice, found_le
 -- ---- the directories of the code
 
 -- the address of a directory's first pair
-pub first_at : (addresses : List (List ℕ)) (v : ℕ) → v < length addresses → slice_get (map address_view addresses) v ≡ Some (address_view (get_or addresses v []))
-first_at addresses v lt = slice_get-map address_view addresses v ∙ ap (option_map address_view) (slice_get-get_or addresses v [] lt)
+pub first_at : (addresses : List (List ℕ)) (v : ℕ) → v < length addresses → slice_get (map address_of_array addresses) v ≡ Some (address_of_array (get_or addresses v []))
+first_at addresses v lt = slice_get-map address_of_array addresses v ∙ ap (option_map address_of_array) (slice_get-get_or addresses v [] lt)
 
 pub some_in : (by : NameOrder) (ds : List Directory) → 0 < length ds → 0 < length (graph_view by ds)
 some_in by ds some = omega (arith, length-map ds (vertex_view by))
@@ -46,10 +46,10 @@ record IsLooseLink (ds : List ThreadDirectory) (slots : List Slot) : Type 0 wher
   pub link : slice_get (links_in slots) b ≡ Some (name, to)
   pub loose : ¬ BeginsDirectory ds to
 
-loose_link : (ds : List ThreadDirectory) (slots : List Slot) → ¬ All (BeginsDirectory ds) (slot_branches slots) → IsLooseLink ds slots
-loose_link ds slots h = go (leads_or_not ds (slot_branches slots))
+loose_link : (ds : List ThreadDirectory) (slots : List Slot) → ¬ All (BeginsDirectory ds) (slots_subdirectory_addresses slots) → IsLooseLink ds slots
+loose_link ds slots h = go (leads_or_not ds (slots_subdirectory_addresses slots))
   where
-    go : Leads ds (slot_branches slots) → IsLooseLink ds slots
+    go : Leads ds (slots_subdirectory_addresses slots) → IsLooseLink ds slots
     go (fast all) = absurd (h all)
     go (loose i x here none) =
         let pair : option_map (λ l. l.1) (slice_get (links_in slots) i) ≡ Some x =
@@ -85,7 +85,7 @@ record IsLedLoose (ps : List Pair) (v : ℕ) : Type 0 where
   pub loose : ¬ BeginsDirectory (all_directories ps) to
 
 module _ {by : NameOrder} (graph : DirectoryGraph) (firsts : List (ℕ × ℕ)) (sync : Bool) (some : 0 < length graph) where
-  module _ (ps : List Pair) (shows : IsThreadGraph by graph firsts sync ps) where
+  module _ (ps : List Pair) (shows : IsGraphOfThread by graph firsts sync ps) where
     begins_at : (v : ℕ) (d : ThreadDirectory) (at : ℕ × ℕ) → slice_get (all_directories ps) v ≡ Some d → slice_get firsts v ≡ Some at → d.at ≡ at
     begins_at v d at e there =
         same_Some d.at at
@@ -96,10 +96,10 @@ module _ {by : NameOrder} (graph : DirectoryGraph) (firsts : List (ℕ × ℕ)) 
         let a = at_index (all_directories ps) l.at v l.index in
         record { leads = l.leads; same = pair_back at l.at (ap (λ (x : ℕ × ℕ). same_pair x l.at) (sym (begins_at v a.listing at a.here there)) ∙ a.same) }
 
-    led_at : (k v : ℕ) → AreSoundBefore graph k → slice_get (found_vertices graph k) k ≡ Some v → Led ps v
+    led_at : (k v : ℕ) → AreSoundBefore graph k → slice_get (visited_vertices graph k) k ≡ Some v → Led ps v
     led_at k v sound here = found_led (all_directories ps) (root_address ps) graph shows.draws (first ps graph firsts sync shows some) k sound k v here
 
-    falling : (k v : ℕ) (x : Vertex) → AreSoundBefore graph k → slice_get (found_vertices graph k) k ≡ Some v → slice_get graph v ≡ Some x → x.rises ≡ false → IsLedFalling by ps v
+    falling : (k v : ℕ) (x : Vertex) → AreSoundBefore graph k → slice_get (visited_vertices graph k) k ≡ Some v → slice_get graph v ≡ Some x → x.rises ≡ false → IsLedFalling by ps v
     falling k v x sound here vertex unrisen =
         let l = led_at k v sound here in
         let n = known_at (all_directories ps) graph shows.draws l.at v l.index in
@@ -109,7 +109,7 @@ module _ {by : NameOrder} (graph : DirectoryGraph) (firsts : List (ℕ × ℕ)) 
           falls = λ rise. true≢false (sym (n.drawn.rises.1 (subst (λ (slots : List Slot). AllPairs (λ a b. name_cmp by a b ≡ Less) (map (λ s. s.name) slots)) n.entries rise)) ∙ same);
         }
 
-    leading : (k v : ℕ) (x : Vertex) → AreSoundBefore graph k → slice_get (found_vertices graph k) k ≡ Some v → slice_get graph v ≡ Some x → x.rises ≡ true → x.leads ≡ false → IsLedLoose ps v
+    leading : (k v : ℕ) (x : Vertex) → AreSoundBefore graph k → slice_get (visited_vertices graph k) k ≡ Some v → slice_get graph v ≡ Some x → x.rises ≡ true → x.leads ≡ false → IsLedLoose ps v
     leading k v x sound here vertex risen unled =
         let l = led_at k v sound here in
         let n = known_at (all_directories ps) graph shows.draws l.at v l.index in
@@ -124,12 +124,12 @@ module _ {by : NameOrder} (graph : DirectoryGraph) (firsts : List (ℕ × ℕ)) 
           loose = link.loose;
         }
 
-    twice : (k x : ℕ) → AreSoundBefore graph (k + 1) → IsDistinct nat_eq (found_vertices graph k) → IsRepeated (found_vertices graph (k + 1)) x → IsLedTwice (all_directories ps) (root_address ps) x
+    twice : (k x : ℕ) → AreSoundBefore graph (k + 1) → IsDistinct nat_eq (visited_vertices graph k) → OccursTwice (visited_vertices graph (k + 1)) x → IsLedTwice (all_directories ps) (root_address ps) x
     twice k x sound distinct repeated =
         found_twice_led (all_directories ps) (root_address ps) graph shows.draws (first ps graph firsts sync shows some) k (subst (AreSoundBefore graph) (add-one k) sound) distinct x
-        (subst (λ n. IsRepeated (found_vertices graph n) x) (add-one k) repeated)
+        (subst (λ n. OccursTwice (visited_vertices graph n) x) (add-one k) repeated)
 
-    never : (marks : List Bool) → AreReachedMarks graph marks → (v : ℕ) (d : ThreadDirectory) → slice_get (all_directories ps) v ≡ Some d → slice_get marks v ≡ Some false → ¬ IsReachedBySome ps d.at
+    never : (marks : List Bool) → AreReachedMarks graph marks → (v : ℕ) (d : ThreadDirectory) → slice_get (all_directories ps) v ≡ Some d → slice_get marks v ≡ Some false → ¬ IsReachedDirectory ps d.at
     never marks r v d here unmarked reached =
         let l = led_from_reached ps v d shows.distinct here reached in
         let i = led_finished (all_directories ps) (root_address ps) graph shows.draws (first ps graph firsts sync shows some) r.steps r.finished v l in
@@ -144,50 +144,50 @@ module _ {by : NameOrder} (graph : DirectoryGraph) (firsts : List (ℕ × ℕ)) 
 
   -- ---- the rules
 
-  pub names_broken : (k v : ℕ) (x : Vertex) (pair : List ℕ) → AreSoundBefore graph k → slice_get (found_vertices graph k) k ≡ Some v → slice_get graph v ≡ Some x → x.rises ≡ false
-      → slice_get firsts v ≡ Some (address_view pair) → BreaksGraphRule by graph firsts sync (violation.Names pair)
+  pub names_broken : (k v : ℕ) (x : Vertex) (pair : List ℕ) → AreSoundBefore graph k → slice_get (visited_vertices graph k) k ≡ Some v → slice_get graph v ≡ Some x → x.rises ≡ false
+      → slice_get firsts v ≡ Some (address_of_array pair) → BreaksGraphRule by graph firsts sync (violation.Names pair)
   names_broken k v x pair sound here vertex unrisen there = record {
     broken = λ disk ps order shows.
         let f = falling ps shows k v x sound here vertex unrisen in
-        record { path = f.led.path; to = f.led.at; reached = reached_at ps shows v (address_view pair) there f.led; falls = subst (λ (o : NameOrder). ¬ NamesRise o ps f.led.at) (sym order) f.falls };
+        record { path = f.led.path; to = f.led.at; reached = reached_at ps shows v (address_of_array pair) there f.led; falls = subst (λ (o : NameOrder). ¬ NamesRise o ps f.led.at) (sym order) f.falls };
   }
 
-  pub branch_broken : (k v : ℕ) (x : Vertex) (pair : List ℕ) → AreSoundBefore graph k → slice_get (found_vertices graph k) k ≡ Some v → slice_get graph v ≡ Some x → x.rises ≡ true → x.leads ≡ false
-      → slice_get firsts v ≡ Some (address_view pair) → BreaksGraphRule by graph firsts sync (violation.Branch pair)
+  pub branch_broken : (k v : ℕ) (x : Vertex) (pair : List ℕ) → AreSoundBefore graph k → slice_get (visited_vertices graph k) k ≡ Some v → slice_get graph v ≡ Some x → x.rises ≡ true → x.leads ≡ false
+      → slice_get firsts v ≡ Some (address_of_array pair) → BreaksGraphRule by graph firsts sync (violation.Branch pair)
   branch_broken k v x pair sound here vertex risen unled there = record {
     broken = λ disk ps order shows.
         let f = leading ps shows k v x sound here vertex risen unled in
-        record { path = f.led.path; to = f.led.at; reached = reached_at ps shows v (address_view pair) there f.led; name = f.name; target = f.to; leads = f.leads; loose = f.loose };
+        record { path = f.led.path; to = f.led.at; reached = reached_at ps shows v (address_of_array pair) there f.led; name = f.name; target = f.to; leads = f.leads; loose = f.loose };
   }
 
-  pub paths_broken : (k x : ℕ) (pair : List ℕ) → AreSoundBefore graph (k + 1) → IsDistinct nat_eq (found_vertices graph k) → IsRepeated (found_vertices graph (k + 1)) x
-      → slice_get firsts x ≡ Some (address_view pair) → BreaksGraphRule by graph firsts sync (violation.TwoPaths pair)
+  pub paths_broken : (k x : ℕ) (pair : List ℕ) → AreSoundBefore graph (k + 1) → IsDistinct nat_eq (visited_vertices graph k) → OccursTwice (visited_vertices graph (k + 1)) x
+      → slice_get firsts x ≡ Some (address_of_array pair) → BreaksGraphRule by graph firsts sync (violation.TwoPaths pair)
   paths_broken k x pair sound distinct repeated there = record {
     broken = λ disk ps order shows.
         let t = twice ps shows k x sound distinct repeated in
         record {
           path = t.one.path;
           to = t.one.at;
-          reached = reached_at ps shows x (address_view pair) there t.one;
+          reached = reached_at ps shows x (address_of_array pair) there t.one;
           other = t.other.path;
           other_to = t.other.at;
-          other_reached = reached_at ps shows x (address_view pair) there t.other;
+          other_reached = reached_at ps shows x (address_of_array pair) there t.other;
           differ = t.differ;
         };
   }
 
-  pub no_path_broken : (marks : List Bool) → AreReachedMarks graph marks → (v : ℕ) (pair : List ℕ) → sync ≡ false → slice_get marks v ≡ Some false → slice_get firsts v ≡ Some (address_view pair)
+  pub no_path_broken : (marks : List Bool) → AreReachedMarks graph marks → (v : ℕ) (pair : List ℕ) → sync ≡ false → slice_get marks v ≡ Some false → slice_get firsts v ≡ Some (address_of_array pair)
       → BreaksGraphRule by graph firsts sync (violation.NoPath pair)
   no_path_broken marks r v pair clear unmarked there = record {
     broken = λ disk ps order shows.
         let d = directory_at ps shows marks r v unmarked in
-        let at = begins_at ps shows v d.0 (address_view pair) d.1 there in
+        let at = begins_at ps shows v d.0 (address_of_array pair) d.1 there in
         record {
           sync = shows.same ∙ clear;
           index = v;
           directory = d.0;
           there = d.1;
           at_is = at;
-          unreached = subst (λ (x : ℕ × ℕ). ¬ IsReachedBySome ps x) at (never ps shows marks r v d.0 d.1 unmarked);
+          unreached = subst (λ (x : ℕ × ℕ). ¬ IsReachedDirectory ps x) at (never ps shows marks r v d.0 d.1 unmarked);
         };
   }

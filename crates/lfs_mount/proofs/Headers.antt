@@ -1,7 +1,7 @@
 -- The content on the disk of a pair that a header describes.
 use Rattle.std.proofs.Common.{ℕ, zero, suc, ◌≡◌, ◌<◌, Bool, true, false, cond, List, [], ◌∷◌, length, slice_get, Option, Some, None, sym, ap, subst, ◌∙◌, option_and_then, option_map}
 use Rattle.std.specs.Prelude.{unwrap_or}
-use Rattle.lfs_mount.proofs.Common.{same_Some, slice_get-map, RawContent, complete_slots, complete_content, content_after, content_at, current_block, empty_raw_content, Disk, disk_block, block_count, CallEvent, block_entries, zero_gstate, Pair, is_hard_tail, completed_parts, tail_view, move_view, header_address, PairHeader, AreHeaders, IsHeader, header_pairs}
+use Rattle.lfs_mount.proofs.Common.{same_Some, slice_get-map, RawContent, decoded_slots, decoded_content, content_after, content_at, current_block, empty_raw_content, Disk, disk_block, block_count, CallEvent, block_entries, zero_gstate, Pair, is_hard_tail, completed_parts, tail_view, move_view, header_address, PairHeader, AreHeaders, IsHeader, header_pairs}
 use Rattle.lfs_model.specs.format.Slots.{PairContent}
 use Rattle.lfs_model.proofs.Completed.{complete_length}
 use Rattle.lfs_pair.specs.Pair.{active_block_at, is_second_active}
@@ -14,7 +14,7 @@ pub record IsSeen (disk : Disk) (h : PairHeader) : Type 0 where
   pub active : h.active < block_count disk
   pub held : RawContent
   pub log : content_after empty_raw_content (block_entries (disk_block disk h.active)) ≡ Some held
-  pub slots : complete_slots held.slots ≡ Some (pair_of disk h).content.slots
+  pub slots : decoded_slots held.slots ≡ Some (pair_of disk h).content.slots
   pub move : move_view h.move_state ≡ (pair_of disk h).content.move
   pub count : h.slot_count ≡ length (pair_of disk h).content.slots
   pub hard : is_hard_tail (option_map tail_view h.tail) ≡ is_hard_tail (pair_of disk h).content.tail
@@ -34,10 +34,10 @@ active_within disk at first second = go (is_second_active (disk_block disk at.0)
 pub seen_from : (disk : Disk) (history : List CallEvent) (h : PairHeader) → IsHeader disk history h → IsSeen disk h
 seen_from disk history h is =
     let at = header_address h in
-    let whole : content_at disk at ≡ Some is.content = ap (option_and_then complete_content) is.raw ∙ is.complete in
+    let whole : content_at disk at ≡ Some is.content = ap (option_and_then decoded_content) is.raw ∙ is.complete in
     let content : (pair_of disk h).content ≡ is.content = content_on disk at is.content whole in
     let parts = completed_parts is.held is.content is.complete in
-    let slots : complete_slots is.held.slots ≡ Some (pair_of disk h).content.slots = parts.slots ∙ ap (λ (c : PairContent). Some c.slots) (sym content) in
+    let slots : decoded_slots is.held.slots ≡ Some (pair_of disk h).content.slots = parts.slots ∙ ap (λ (c : PairContent). Some c.slots) (sym content) in
     let d = is.is_pair.describes in
     record {
       active = subst (λ b. b < block_count disk) (sym is.is_pair.active) (active_within disk at is.address.first is.address.second);

@@ -1,18 +1,18 @@
 -- The number of pairs of the superblock's chain before the root's first one.
 use Rattle.std.proofs.Common.{ℕ, zero, suc, ◌≡◌, ◌⊎◌, inl, inr, ◌==◌, ◌&&◌, ◌||◌, ◌+◌, ◌-◌, ◌<◌, ◌≤◌, Bool, true, false, cond, List, [], ◌∷◌, ◌++◌, length, drop, slice_get, slice_index_or, Option, Some, None, refl, sym, ap, ap₂, subst, ◌∙◌, arith, eqb-true, option_and_then, option_map}
-use Rattle.lfs_mount.proofs.Common.{and_from, and_parts, length-map, same_Some, slice_get_read, slice_get_within, Blocks, current_block, Disk, disk_block, block_count, CallEvent, Slot, Inline, address_view, Pair, first_address, has_no_entry, is_hard_tail, has_superblock, superblock_first, count_before_root, pairs_from_root, RepeatsSuperblockStruct, IsSuperblock, PairsBreak, Each, tail_view, AreHeaders, PairHeader, header_pairs, FirstHasStruct, HasSuperblockAlone, HasNoEntries, AreThreadHeaders, BreaksFirstSuperblock, HasChain, first_filled, first_repeats_superblock, first_slot_struct}
+use Rattle.lfs_mount.proofs.Common.{and_from, and_parts, length-map, same_Some, slice_get_read, slice_get_within, Blocks, current_block, Disk, disk_block, block_count, CallEvent, Slot, Inline, address_of_array, Pair, first_address, has_no_entry, is_hard_tail, has_superblock, begins_with_superblock, count_before_root, pairs_from_root, RepeatsSuperblockStruct, IsSuperblockStruct, PairsBreak, Each, tail_view, AreHeaders, PairHeader, header_pairs, FirstSlotIsSuperblock, HasOnlySuperblockSlot, IsEmptyOrOnlySuperblock, AreThreadHeaders, BreaksFirstSuperblock, HasSuperblockChainLength, first_filled, first_repeats_superblock, first_slot_struct}
 use Rattle.std.proofs.lemmas.Bool.{and_right, eqb-false}
 use Rattle.lfs_device.specs.declared.geometry.Geometry.{Geometry}
 use Rattle.lfs_model.specs.format.Blocks.{block_bytes}
 use Rattle.lfs_model.specs.format.Thread as Thread
-use Rattle.lfs_model.specs.format.Thread.{pairs_from_filled, has_slots, superblock_or_later}
-use Rattle.lfs_model.specs.tree.View.{BeginsWith, first_pair_slots, first_slot_name, superblock_entry}
-use Rattle.lfs_model.specs.layers.Violations.{HasFirstSlot, first_filled_address}
+use Rattle.lfs_model.specs.format.Thread.{pairs_from_nonempty, has_slots, superblock_first_or_empty}
+use Rattle.lfs_model.specs.tree.View.{HasFirstLogEntry, first_pair_slots, first_slot_name, superblock_entry}
+use Rattle.lfs_model.specs.layers.Violations.{HasFirstSlot, first_nonempty_address}
 use Rattle.lfs_model.specs.declared.limits.AcceptedVersions.{AcceptedVersions}
 use Rattle.lfs_model.specs.declared.violations.Violation.{Violation}
 use Rattle.lfs_model.specs.declared.violations.Violation.TheVariants as violation
 use Rattle.lfs_model.proofs.Superblocks.{meets_from, meets_starting}
-use Rattle.lfs_mount.specs.SuperblockChain.{BlockHasSuperblock, may_continue_after, repeats_superblock, superblock_in_log}
+use Rattle.lfs_mount.specs.SuperblockChain.{BlockHasSuperblock, may_superblock_chain_continue, repeats_superblock, superblock_in_log}
 use Rattle.lfs_mount.proofs.FirstSlots.{IsFirst, begins_struct, first_begins, first_found, first_is, first_of_disk, repeats_false, repeats_none, repeats_true, struct_described}
 use Rattle.lfs_mount.proofs.Headers.{IsSeen, header_at, pair_at, pair_of, seen_from}
 
@@ -20,7 +20,7 @@ use Rattle.lfs_mount.proofs.Headers.{IsSeen, header_at, pair_at, pair_of, seen_f
 
 -- a pair in front of the root's first one; `v` are the versions that are accepted
 abbrev pub IsLink : AcceptedVersions → List ℕ → Pair → Type 0
-IsLink v bytes p = HasNoEntries v bytes p × (is_hard_tail p.content.tail ≡ true)
+IsLink v bytes p = IsEmptyOrOnlySuperblock v bytes p × (is_hard_tail p.content.tail ≡ true)
 
 -- so many of them
 abbrev pub Linked : AcceptedVersions → List ℕ → ℕ → List Pair → Type 0
@@ -31,17 +31,17 @@ Linked v bytes (suc k) (p ∷ ps) = IsLink v bytes p × Linked v bytes k ps
 -- and behind them one that begins with the superblock
 abbrev pub Led : AcceptedVersions → List ℕ → ℕ → List Pair → Type 0
 Led v bytes k [] = ⊥
-Led v bytes zero (p ∷ ps) = FirstHasStruct v bytes p.content.slots
+Led v bytes zero (p ∷ ps) = FirstSlotIsSuperblock v bytes p.content.slots
 Led v bytes (suc k) (p ∷ ps) = IsLink v bytes p × Led v bytes k ps
 
-starts_so : (v : AcceptedVersions) (bytes : List ℕ) (slots : List Slot) → FirstHasStruct v bytes slots → superblock_first slots ≡ true
+starts_so : (v : AcceptedVersions) (bytes : List ℕ) (slots : List Slot) → FirstSlotIsSuperblock v bytes slots → begins_with_superblock slots ≡ true
 starts_so v bytes [] h = absurd h
 starts_so v bytes (s ∷ slots) h = h.0
 
-alone_start : (v : AcceptedVersions) (bytes : List ℕ) (p : Pair) → HasSuperblockAlone v bytes p → FirstHasStruct v bytes p.content.slots
-alone_start v bytes p a = subst (FirstHasStruct v bytes) (sym a.slots) (a.superblock, a.struct)
+alone_start : (v : AcceptedVersions) (bytes : List ℕ) (p : Pair) → HasOnlySuperblockSlot v bytes p → FirstSlotIsSuperblock v bytes p.content.slots
+alone_start v bytes p a = subst (FirstSlotIsSuperblock v bytes) (sym a.slots) (a.superblock, a.struct)
 
-link_bare : (v : AcceptedVersions) (bytes : List ℕ) (p : Pair) → HasNoEntries v bytes p → has_no_entry p.content.slots ≡ true
+link_bare : (v : AcceptedVersions) (bytes : List ℕ) (p : Pair) → IsEmptyOrOnlySuperblock v bytes p → has_no_entry p.content.slots ≡ true
 link_bare v bytes p (inl none) = ap has_no_entry none
 link_bare v bytes p (inr alone) = ap has_no_entry alone.slots ∙ alone.superblock
 
@@ -49,7 +49,7 @@ link_leads : (v : AcceptedVersions) (bytes : List ℕ) (p : Pair) → IsLink v b
 link_leads v bytes p h = and_from (has_no_entry p.content.slots) (is_hard_tail p.content.tail) (link_bare v bytes p h.0) h.1
 
 link_meets : (v : AcceptedVersions) (bytes : List ℕ) (p : Pair) (ps : List Pair) → IsLink v bytes p → has_superblock ps ≡ true → has_superblock (p ∷ ps) ≡ true
-link_meets v bytes p ps (inl none, hard) e = ap (λ z. superblock_or_later z (is_hard_tail p.content.tail && has_superblock ps)) none ∙ and_from (is_hard_tail p.content.tail) (has_superblock ps) hard e
+link_meets v bytes p ps (inl none, hard) e = ap (λ z. superblock_first_or_empty z (is_hard_tail p.content.tail && has_superblock ps)) none ∙ and_from (is_hard_tail p.content.tail) (has_superblock ps) hard e
 link_meets v bytes p ps (inr alone, hard) e = meets_starting p ps (starts_so v bytes p.content.slots (alone_start v bytes p alone))
 
 before_link : (v : AcceptedVersions) (bytes : List ℕ) (p : Pair) (ps : List Pair) → IsLink v bytes p → has_superblock ps ≡ true → count_before_root (p ∷ ps) ≡ suc (count_before_root ps)
@@ -73,9 +73,9 @@ linked_more v bytes k [] p h e link = absurd (cc)
 linked_more v bytes zero (x ∷ ps) p h e link = (subst (IsLink v bytes) (sym (same_Some x p e)) link, tt)
 linked_more v bytes (suc k) (x ∷ ps) p h e link = (h.0, linked_more v bytes k ps p h.1 e link)
 
-led_from : (v : AcceptedVersions) (bytes : List ℕ) (k : ℕ) (ps : List Pair) (p : Pair) → Linked v bytes k ps → slice_get ps k ≡ Some p → FirstHasStruct v bytes p.content.slots → Led v bytes k ps
+led_from : (v : AcceptedVersions) (bytes : List ℕ) (k : ℕ) (ps : List Pair) (p : Pair) → Linked v bytes k ps → slice_get ps k ≡ Some p → FirstSlotIsSuperblock v bytes p.content.slots → Led v bytes k ps
 led_from v bytes k [] p h e start = absurd (cc)
-led_from v bytes zero (x ∷ ps) p h e start = subst (λ (z : Pair). FirstHasStruct v bytes z.content.slots) (sym (same_Some x p e)) start
+led_from v bytes zero (x ∷ ps) p h e start = subst (λ (z : Pair). FirstSlotIsSuperblock v bytes z.content.slots) (sym (same_Some x p e)) start
 led_from v bytes (suc k) (x ∷ ps) p h e start = (h.0, led_from v bytes k ps p h.1 e start)
 
 led_linked : (v : AcceptedVersions) (bytes : List ℕ) (k : ℕ) (ps : List Pair) → Led v bytes k ps → Linked v bytes k ps
@@ -83,9 +83,9 @@ led_linked v bytes k [] l = absurd l
 led_linked v bytes zero (p ∷ ps) l = tt
 led_linked v bytes (suc k) (p ∷ ps) l = (l.0, led_linked v bytes k ps l.1)
 
-led_start : (v : AcceptedVersions) (bytes : List ℕ) (k : ℕ) (ps : List Pair) (p : Pair) → Led v bytes k ps → slice_get ps k ≡ Some p → FirstHasStruct v bytes p.content.slots
+led_start : (v : AcceptedVersions) (bytes : List ℕ) (k : ℕ) (ps : List Pair) (p : Pair) → Led v bytes k ps → slice_get ps k ≡ Some p → FirstSlotIsSuperblock v bytes p.content.slots
 led_start v bytes k [] p l e = absurd l
-led_start v bytes zero (x ∷ ps) p l e = subst (λ (z : Pair). FirstHasStruct v bytes z.content.slots) (same_Some x p e) l
+led_start v bytes zero (x ∷ ps) p l e = subst (λ (z : Pair). FirstSlotIsSuperblock v bytes z.content.slots) (same_Some x p e) l
 led_start v bytes (suc k) (x ∷ ps) p l e = led_start v bytes k ps p l.1 e
 
 dropped : (ps : List Pair) (k : ℕ) (p : Pair) → slice_get ps k ≡ Some p → drop k ps ≡ p ∷ drop (suc k) ps
@@ -105,7 +105,7 @@ pub record IsWalked (v : AcceptedVersions) (bytes : List ℕ) (ps : List Pair) (
   pub led : Led v bytes root ps
   pub linked : Linked v bytes index ps
   pub below : root ≤ index
-  pub bare : (p : Pair) → slice_get ps index ≡ Some p → (p.content.slots ≡ []) ⊎ FirstHasStruct v bytes p.content.slots
+  pub bare : (p : Pair) → slice_get ps index ≡ Some p → (p.content.slots ≡ []) ⊎ FirstSlotIsSuperblock v bytes p.content.slots
   pub ends : (p : Pair) → slice_get ps index ≡ Some p → (has_superblock (drop (suc index) ps) && Thread.chain_may_continue p) ≡ false → count_before_root ps ≡ root
 
 walked_at : (v : AcceptedVersions) (bytes : List ℕ) (k : ℕ) (ps : List Pair) → Led v bytes k ps → IsWalked v bytes ps k k
@@ -128,11 +128,11 @@ few_le n f = go (n == 0) refl (n == 1) refl f
     go false e true g h = let z = eqb-true n 1 g in omega arith
     go false e false g h = absurd (cc)
 
-bare_from : (v : AcceptedVersions) (bytes : List ℕ) (p : Pair) → (p.content.slots ≡ []) ⊎ FirstHasStruct v bytes p.content.slots → (length p.content.slots == 0 || length p.content.slots == 1) ≡ true → HasNoEntries v bytes p
+bare_from : (v : AcceptedVersions) (bytes : List ℕ) (p : Pair) → (p.content.slots ≡ []) ⊎ FirstSlotIsSuperblock v bytes p.content.slots → (length p.content.slots == 0 || length p.content.slots == 1) ≡ true → IsEmptyOrOnlySuperblock v bytes p
 bare_from v bytes p (inl none) few = inl none
 bare_from v bytes p (inr start) few = go p.content.slots refl start (few_le (length p.content.slots) few)
   where
-    go : (slots : List Slot) → p.content.slots ≡ slots → FirstHasStruct v bytes slots → length p.content.slots ≤ 1 → HasNoEntries v bytes p
+    go : (slots : List Slot) → p.content.slots ≡ slots → FirstSlotIsSuperblock v bytes slots → length p.content.slots ≤ 1 → IsEmptyOrOnlySuperblock v bytes p
     go [] is k f = absurd k
     go (s ∷ []) is k f = inr (record { slot = s; slots = is; superblock = k.0; struct = k.1 })
     go (s ∷ t ∷ slots) is k f = absurd (let l = ap length is in omega arith)
@@ -150,7 +150,7 @@ stops p e = go (length p.content.slots == 0 || length p.content.slots == 1) refl
     go false f k = ap (λ b. b && is_hard_tail p.content.tail) (many_slots p.content.slots f)
     go true f k = and_right (has_no_entry p.content.slots) (is_hard_tail p.content.tail) k
 
-meets_slots : (slots : List Slot) (later : Bool) → (slots ≡ [] → ⊥) → superblock_or_later slots later ≡ superblock_first slots
+meets_slots : (slots : List Slot) (later : Bool) → (slots ≡ [] → ⊥) → superblock_first_or_empty slots later ≡ begins_with_superblock slots
 meets_slots [] later some = absurd (some refl)
 meets_slots (s ∷ slots) later some = refl
 
@@ -162,8 +162,8 @@ record IsSplit (v : AcceptedVersions) (bytes : List ℕ) (k : ℕ) (ps : List Pa
   rest : List Pair
   parts : ps ≡ chain ++ p ∷ rest
   chain_is : length chain ≡ k
-  bare : Each (HasNoEntries v bytes) chain
-  start : FirstHasStruct v bytes p.content.slots
+  bare : Each (IsEmptyOrOnlySuperblock v bytes) chain
+  start : FirstSlotIsSuperblock v bytes p.content.slots
 
 split : (v : AcceptedVersions) (bytes : List ℕ) (k : ℕ) (ps : List Pair) → Led v bytes k ps → IsSplit v bytes k ps
 split v bytes k [] l = absurd l
@@ -182,11 +182,11 @@ some_first : (slots : List Slot) → (slots ≡ [] → ⊥) → (s : Slot) × (s
 some_first [] some = absurd (some refl)
 some_first (s ∷ slots) some = (s, refl)
 
-starting_some : (slots : List Slot) → superblock_first slots ≡ true → slots ≡ [] → ⊥
+starting_some : (slots : List Slot) → begins_with_superblock slots ≡ true → slots ≡ [] → ⊥
 starting_some [] h e = cc
 starting_some (s ∷ slots) h e = cc
 
-starting_so : (v : AcceptedVersions) (bytes : List ℕ) (slots : List Slot) (s : Slot) → slice_get slots 0 ≡ Some s → superblock_first slots ≡ true → RepeatsSuperblockStruct v bytes s → FirstHasStruct v bytes slots
+starting_so : (v : AcceptedVersions) (bytes : List ℕ) (slots : List Slot) (s : Slot) → slice_get slots 0 ≡ Some s → begins_with_superblock slots ≡ true → RepeatsSuperblockStruct v bytes s → FirstSlotIsSuperblock v bytes slots
 starting_so v bytes [] s e starts h = absurd (cc)
 starting_so v bytes (x ∷ slots) s e starts h = (starts, subst (RepeatsSuperblockStruct v bytes) (sym (same_Some x s e)) h)
 
@@ -223,7 +223,7 @@ record IsFilled (disk : Disk) (hs : List PairHeader) (k : ℕ) (bytes : List ℕ
   some : (pair_of disk header).content.slots ≡ [] → ⊥
   linked : Linked disk.profile.versions bytes k (header_pairs disk hs)
   rest : List Pair
-  from : pairs_from_filled (header_pairs disk hs) ≡ pair_of disk header ∷ rest
+  from : pairs_from_nonempty (header_pairs disk hs) ≡ pair_of disk header ∷ rest
 
 no_slots : (slots : List Slot) → length slots ≡ 0 → slots ≡ []
 no_slots [] e = refl
@@ -249,7 +249,7 @@ filled disk history bytes (x ∷ hs) k each e =
       some = some;
       linked = tt;
       rest = header_pairs disk hs;
-      from = ap (λ t. cond t (pair_of disk x ∷ header_pairs disk hs) (pairs_from_filled (header_pairs disk hs))) (filled_slots (pair_of disk x).content.slots some);
+      from = ap (λ t. cond t (pair_of disk x ∷ header_pairs disk hs) (pairs_from_nonempty (header_pairs disk hs))) (filled_slots (pair_of disk x).content.slots some);
     })
       where
         some : (pair_of disk x).content.slots ≡ [] → ⊥
@@ -262,7 +262,7 @@ filled disk history bytes (x ∷ hs) k each e =
       some = (next j f).some;
       linked = ((inl empty, sym seen.hard ∙ hard), (next j f).linked);
       rest = (next j f).rest;
-      from = ap (λ z. cond (has_slots z) (pair_of disk x ∷ header_pairs disk hs) (pairs_from_filled (header_pairs disk hs))) empty ∙ (next j f).from;
+      from = ap (λ z. cond (has_slots z) (pair_of disk x ∷ header_pairs disk hs) (pairs_from_nonempty (header_pairs disk hs))) empty ∙ (next j f).from;
     })
       where
         empty : (pair_of disk x).content.slots ≡ []
@@ -282,11 +282,11 @@ none_filled disk history (x ∷ hs) each e = go (x.slot_count == 0) refl (is_har
     go true n true hard None f is next = empty ∙ ap (λ b. is_hard_tail (pair_of disk x).content.tail && b) (next f) ∙ and_right (is_hard_tail (pair_of disk x).content.tail) false refl
       where
         empty : has_superblock (header_pairs disk (x ∷ hs)) ≡ (is_hard_tail (pair_of disk x).content.tail && has_superblock (header_pairs disk hs))
-        empty = ap (λ z. superblock_or_later z (is_hard_tail (pair_of disk x).content.tail && has_superblock (header_pairs disk hs))) (no_slots (pair_of disk x).content.slots (sym seen.count ∙ eqb-true x.slot_count 0 n))
+        empty = ap (λ z. superblock_first_or_empty z (is_hard_tail (pair_of disk x).content.tail && has_superblock (header_pairs disk hs))) (no_slots (pair_of disk x).content.slots (sym seen.count ∙ eqb-true x.slot_count 0 n))
     go true n false hard o f is next = empty ∙ ap (λ b. b && has_superblock (header_pairs disk hs)) (sym seen.hard ∙ hard)
       where
         empty : has_superblock (header_pairs disk (x ∷ hs)) ≡ (is_hard_tail (pair_of disk x).content.tail && has_superblock (header_pairs disk hs))
-        empty = ap (λ z. superblock_or_later z (is_hard_tail (pair_of disk x).content.tail && has_superblock (header_pairs disk hs))) (no_slots (pair_of disk x).content.slots (sym seen.count ∙ eqb-true x.slot_count 0 n))
+        empty = ap (λ z. superblock_first_or_empty z (is_hard_tail (pair_of disk x).content.tail && has_superblock (header_pairs disk hs))) (no_slots (pair_of disk x).content.slots (sym seen.count ∙ eqb-true x.slot_count 0 n))
 
 with_true : (b : Bool) → (b && true) ≡ b
 with_true true = refl
@@ -307,11 +307,11 @@ module _ (disk : Disk) (history : List CallEvent) (hs : List PairHeader) (has : 
 
   -- ---- one step
 
-  leads_seen : (h : PairHeader) → IsSeen disk h → may_continue_after h ≡ ((length (pair_of disk h).content.slots == 0 || length (pair_of disk h).content.slots == 1) && is_hard_tail (pair_of disk h).content.tail)
+  leads_seen : (h : PairHeader) → IsSeen disk h → may_superblock_chain_continue h ≡ ((length (pair_of disk h).content.slots == 0 || length (pair_of disk h).content.slots == 1) && is_hard_tail (pair_of disk h).content.tail)
   leads_seen h seen = ap₂ (λ n b. (n == 0 || n == 1) && b) seen.count seen.hard
 
   -- the chain stops at a pair that doesn't lead on
-  pub halts : (bytes : List ℕ) (root index : ℕ) (h : PairHeader) → slice_get hs index ≡ Some h → IsWalked v bytes ps root index → may_continue_after h ≡ false → count_before_root ps ≡ root
+  pub halts : (bytes : List ℕ) (root index : ℕ) (h : PairHeader) → slice_get hs index ≡ Some h → IsWalked v bytes ps root index → may_superblock_chain_continue h ≡ false → count_before_root ps ≡ root
   halts bytes root index h here w e = w.ends (pair_of disk h) (pair_at disk hs index h here)
       (and_right (has_superblock (drop (suc index) ps)) (Thread.chain_may_continue (pair_of disk h)) (stops (pair_of disk h) (sym (leads_seen h (header_at disk history hs index h has.each here)) ∙ e)))
 
@@ -343,10 +343,10 @@ module _ (disk : Disk) (history : List CallEvent) (hs : List PairHeader) (has : 
     pub within : next.active < block_count disk
     within = seen_next.active
 
-    leads_is : may_continue_after h ≡ ((length p.content.slots == 0 || length p.content.slots == 1) && is_hard_tail p.content.tail)
+    leads_is : may_superblock_chain_continue h ≡ ((length p.content.slots == 0 || length p.content.slots == 1) && is_hard_tail p.content.tail)
     leads_is = leads_seen h seen
 
-    module _ (leads : may_continue_after h ≡ true) where
+    module _ (leads : may_superblock_chain_continue h ≡ true) where
       link : IsLink v bytes p
       link =
           let both = and_parts (length p.content.slots == 0 || length p.content.slots == 1) (is_hard_tail p.content.tail) (sym leads_is ∙ leads) in
@@ -358,7 +358,7 @@ module _ (disk : Disk) (history : List CallEvent) (hs : List PairHeader) (has : 
       goes : (has_superblock (drop (suc s.k) ps) && Thread.chain_may_continue p) ≡ has_superblock (drop (suc s.k) ps)
       goes = ap (λ b. has_superblock (drop (suc s.k) ps) && b) (link_leads v bytes p link) ∙ with_true (has_superblock (drop (suc s.k) ps))
 
-      meets : has_superblock (drop (suc s.k) ps) ≡ superblock_or_later q.content.slots (is_hard_tail q.content.tail && has_superblock (drop (suc (suc s.k)) ps))
+      meets : has_superblock (drop (suc s.k) ps) ≡ superblock_first_or_empty q.content.slots (is_hard_tail q.content.tail && has_superblock (drop (suc (suc s.k)) ps))
       meets = ap has_superblock (dropped ps (suc s.k) q q_at)
 
       -- no slot
@@ -368,7 +368,7 @@ module _ (disk : Disk) (history : List CallEvent) (hs : List PairHeader) (has : 
         linked = linked;
         below = (let b = w.below in omega arith);
         bare = λ x e. inl (subst (λ (z : Pair). z.content.slots ≡ []) (same_Some q x (sym q_at ∙ e)) empty);
-        ends = λ x e k. w.ends p p_at (goes ∙ meets ∙ ap (λ z. superblock_or_later z (is_hard_tail q.content.tail && has_superblock (drop (suc (suc s.k)) ps))) empty ∙ turned (is_hard_tail q.content.tail) (has_superblock (drop (suc (suc s.k)) ps))
+        ends = λ x e k. w.ends p p_at (goes ∙ meets ∙ ap (λ z. superblock_first_or_empty z (is_hard_tail q.content.tail && has_superblock (drop (suc (suc s.k)) ps))) empty ∙ turned (is_hard_tail q.content.tail) (has_superblock (drop (suc (suc s.k)) ps))
             ∙ ap (λ z. has_superblock (drop (suc (suc s.k)) ps) && (has_no_entry z && is_hard_tail q.content.tail)) (sym empty)
             ∙ ap (λ (z : Pair). has_superblock (drop (suc (suc s.k)) ps) && Thread.chain_may_continue z) (same_Some q x (sym q_at ∙ e)) ∙ k);
       })
@@ -413,9 +413,9 @@ module _ (disk : Disk) (history : List CallEvent) (hs : List PairHeader) (has : 
   -- ---- the first header of a pair that has a slot, as it is read
 
   pub no_superblock : first_filled hs ≡ None → PairsBreak disk ps violation.NoSuperblock
-  no_superblock none = go (superblock_first (first_pair_slots (pairs_from_root ps))) refl
+  no_superblock none = go (begins_with_superblock (first_pair_slots (pairs_from_root ps))) refl
     where
-      go : (b : Bool) → superblock_first (first_pair_slots (pairs_from_root ps)) ≡ b → b ≡ false
+      go : (b : Bool) → begins_with_superblock (first_pair_slots (pairs_from_root ps)) ≡ b → b ≡ false
       go true starts = absurd (let e = sym (meets_from ps starts) ∙ none_filled disk history hs has.each none in cc)
       go false starts = refl
 
@@ -448,13 +448,13 @@ module _ (disk : Disk) (history : List CallEvent) (hs : List PairHeader) (has : 
       linked_first : (bytes : List ℕ) → Linked v bytes k ps
       linked_first bytes = (f bytes).linked
 
-      from : pairs_from_filled ps ≡ pair_of disk h ∷ (f []).rest
+      from : pairs_from_nonempty ps ≡ pair_of disk h ∷ (f []).rest
       from = (f []).from ∙ ap (λ (x : PairHeader). pair_of disk x ∷ (f []).rest) (same_header [])
 
       some_slot : (pair_of disk h).content.slots ≡ [] → ⊥
       some_slot = subst (λ (x : PairHeader). (pair_of disk x).content.slots ≡ [] → ⊥) (same_header []) (f []).some
 
-      held_first : current_block disk (first_address (pairs_from_filled ps)) ≡ Some (disk_block disk h.active)
+      held_first : current_block disk (first_address (pairs_from_nonempty ps)) ≡ Some (disk_block disk h.active)
       held_first = ap (λ (qs : List Pair). current_block disk (first_address qs)) from ∙ first_seen.holds
 
       -- the superblock that its block has
@@ -466,7 +466,7 @@ module _ (disk : Disk) (history : List CallEvent) (hs : List PairHeader) (has : 
           first_found v disk.block_size (block_count disk) first_seen.held.slots (pair_of disk h).content.slots bytes first_seen.slots
           (sym (ap (option_and_then (λ c. first_slot_struct v disk.block_size (block_count disk) c.slots)) first_seen.log) ∙ s.struct)
 
-      struct_read : (bytes : List ℕ) → HasFound bytes → IsSuperblock disk bytes
+      struct_read : (bytes : List ℕ) → HasFound bytes → IsSuperblockStruct disk bytes
       struct_read bytes s = struct_described disk bytes (is_first bytes s).describes
 
       pub found_length : (bytes : List ℕ) → HasFound bytes → length bytes ≡ 24
@@ -478,12 +478,12 @@ module _ (disk : Disk) (history : List CallEvent) (hs : List PairHeader) (has : 
 
       -- ---- it has none
 
-      at_first : first_filled_address ps ≡ address_view h.blocks
+      at_first : first_nonempty_address ps ≡ address_of_array h.blocks
       at_first = ap first_address from
 
       -- the log begins with another entry
-      pub other_entry : (BeginsWith (Some (disk_block disk h.active)) superblock_entry → ⊥) → PairsBreak disk ps (violation.FirstEntry h.blocks)
-      other_entry not = (at_first, λ begins. not (subst (λ o. BeginsWith o superblock_entry) first_seen.holds begins))
+      pub other_entry : (HasFirstLogEntry (Some (disk_block disk h.active)) superblock_entry → ⊥) → PairsBreak disk ps (violation.FirstEntry h.blocks)
+      other_entry not = (at_first, λ begins. not (subst (λ o. HasFirstLogEntry o superblock_entry) first_seen.holds begins))
 
       -- slot 0 is no superblock of the disk
       pub no_struct : superblock_in_log v disk.block_size (block_count disk) (disk_block disk h.active) ≡ None → PairsBreak disk ps (violation.Superblock h.blocks)
@@ -513,7 +513,7 @@ module _ (disk : Disk) (history : List CallEvent) (hs : List PairHeader) (has : 
 
       -- ---- the head
 
-      pub head_is : (bytes : List ℕ) (root index : ℕ) → HasFound bytes → IsWalked v bytes ps root index → count_before_root ps ≡ root → HasChain disk ps root
+      pub head_is : (bytes : List ℕ) (root index : ℕ) → HasFound bytes → IsWalked v bytes ps root index → count_before_root ps ≡ root → HasSuperblockChainLength disk ps root
       head_is bytes root index s w before =
           let apart = split v bytes root ps w.led in
           let d = is_first bytes s in
@@ -526,9 +526,9 @@ module _ (disk : Disk) (history : List CallEvent) (hs : List PairHeader) (has : 
             before = before;
             bytes = bytes;
             head = record {
-              first = subst (λ (qs : List Pair). BeginsWith (current_block disk (first_address (pairs_from_filled qs))) superblock_entry) apart.parts
-                  (subst (λ o. BeginsWith o superblock_entry) (sym held_first) s.begins);
-              named = ap (λ (qs : List Pair). first_slot_name (pairs_from_filled qs)) (sym apart.parts) ∙ ap first_slot_name from ∙ d.named;
+              first = subst (λ (qs : List Pair). HasFirstLogEntry (current_block disk (first_address (pairs_from_nonempty qs))) superblock_entry) apart.parts
+                  (subst (λ o. HasFirstLogEntry o superblock_entry) (sym held_first) s.begins);
+              named = ap (λ (qs : List Pair). first_slot_name (pairs_from_nonempty qs)) (sym apart.parts) ∙ ap first_slot_name from ∙ d.named;
               struct = struct_read bytes s;
               bare = apart.bare;
               start = apart.start;
@@ -536,7 +536,7 @@ module _ (disk : Disk) (history : List CallEvent) (hs : List PairHeader) (has : 
           }
 
       -- behind the last pair there is none
-      pub last_is : (bytes : List ℕ) (root index : ℕ) → HasFound bytes → IsWalked v bytes ps root index → suc index ≡ length hs → HasChain disk ps root
+      pub last_is : (bytes : List ℕ) (root index : ℕ) → HasFound bytes → IsWalked v bytes ps root index → suc index ≡ length hs → HasSuperblockChainLength disk ps root
       last_is bytes root index s w last = head_is bytes root index s w (go (slice_get ps index) refl)
         where
           none_behind : (qs : List Pair) → length qs ≤ suc index → drop (suc index) qs ≡ []

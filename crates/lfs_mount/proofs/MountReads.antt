@@ -1,13 +1,13 @@
 -- The number of reads that the check of an image costs, by its thread.
 use Rattle.std.proofs.Common.{ℕ, ◌≡◌, ◌≤◌, ◌<◌, ◌+◌, not, Bool, true, false, cond, List, [], ◌∷◌, ◌++◌, length, drop, filter, Some, sym, ap, subst, ◌∙◌, arith, refl, length-append}
 use Rattle.std.specs.Prelude.{All, sum_by}
-use Rattle.lfs_mount.proofs.Common.{cons_option, flat_map, flat_map-append, same_Some, AreByteBlocks, BlockStates, Disk, disk_block, CallEvent, Name, Branch, Ctz, Gstate, Inline, Slot, Struct, is_superblock, AreLinked, Pair, anchor_address, pairs_gstate, slots_not_moved, unmoved_entries, moved_id, IsAccepted, IsTreeEntry, PairHeader, header_pairs, AreDescriptions, IsDescription, empty_scan, struct_reference, HasChain, list_of_entry, IsThreadRead, IsHeaderThread, header_descriptions, ScansPairs, scan_unless_soft, DirectoryGraph, Vertex, list_reads, described_lists, mount_reads, pair_reads, ScansPair, superblock_removed, unmoved_raw_slots}
+use Rattle.lfs_mount.proofs.Common.{cons_option, flat_map, flat_map-append, same_Some, AreByteBlocks, BlockStates, Disk, disk_block, CallEvent, Name, Branch, Ctz, Gstate, Inline, Slot, Struct, is_superblock, AreLinkedByTails, Pair, superblock_pair_address, pairs_gstate, slots_not_moved, unmoved_entries, moved_id, IsAccepted, IsFileOrDirectory, PairHeader, header_pairs, ArePairDescriptions, IsPairDescription, empty_scan, struct_reference, HasSuperblockChainLength, list_head_and_size, IsThreadRead, IsHeaderThread, header_descriptions, ScansPairs, scan_after_tail, DirectoryGraph, Vertex, list_reads, described_lists, mount_reads, pair_reads, ScansPair, slots_without_superblock, slots_without_moved}
 use Rattle.std.proofs.lemmas.List.Sums.{sum_by-append, sum_by-cons}
 use Rattle.lfs_model.specs.format.Content.{has_commit}
 use Rattle.lfs_pair.specs.Pair.{fetch_reads, later_block_first}
 use Rattle.lfs_thread.specs.HeaderReading.{thread_reads}
-use Rattle.lfs_mount.specs.MountReads.{check_reads, lists_reads, struct_reads}
-use Rattle.lfs_mount.specs.declared.pass.PairBeforeSlotsAreRead.{PairBeforeSlotsAreRead}
+use Rattle.lfs_mount.specs.MountReads.{check_reads, lists_reads, list_reads_of_struct}
+use Rattle.lfs_mount.specs.declared.pass.DirectoryPairHeader.{DirectoryPairHeader}
 use Rattle.lfs_mount.proofs.KnownThread.{known_thread}
 use Rattle.lfs_mount.proofs.ReadCounts.{takes_lists}
 use Rattle.lfs_mount.proofs.Refuses.{accepted_passes}
@@ -17,19 +17,19 @@ use Rattle.lfs_mount.proofs.Scans.{scan_some}
 -- ---- slots
 
 abbrev slot_reads : ℕ → Slot → ℕ
-slot_reads block_size s = struct_reads block_size s.struct
+slot_reads block_size s = list_reads_of_struct block_size s.struct
 
 one_read : (block_size : ℕ) (s : Slot) (t : Struct) (slots : List Slot) → s.struct ≡ t
-    → sum_by (list_reads block_size) (lists_of (s ∷ slots)) ≡ struct_reads block_size t + sum_by (list_reads block_size) (lists_of slots)
+    → sum_by (list_reads block_size) (lists_of (s ∷ slots)) ≡ list_reads_of_struct block_size t + sum_by (list_reads block_size) (lists_of slots)
 one_read block_size s (Inline bytes) slots e =
     let same : sum_by (list_reads block_size) (lists_of (s ∷ slots)) ≡ sum_by (list_reads block_size) (lists_of slots) =
-    ap (λ o. sum_by (list_reads block_size) (cons_option o (lists_of slots))) (ap (λ t. list_of_entry (s.name, struct_reference t)) e) in
+    ap (λ o. sum_by (list_reads block_size) (cons_option o (lists_of slots))) (ap (λ t. list_head_and_size (s.name, struct_reference t)) e) in
     omega (arith, same)
 one_read block_size s (Ctz head size) slots e =
-    ap (λ o. sum_by (list_reads block_size) (cons_option o (lists_of slots))) (ap (λ t. list_of_entry (s.name, struct_reference t)) e) ∙ sum_by-cons (list_reads block_size) (head, size) (lists_of slots)
+    ap (λ o. sum_by (list_reads block_size) (cons_option o (lists_of slots))) (ap (λ t. list_head_and_size (s.name, struct_reference t)) e) ∙ sum_by-cons (list_reads block_size) (head, size) (lists_of slots)
 one_read block_size s (Branch to) slots e =
     let same : sum_by (list_reads block_size) (lists_of (s ∷ slots)) ≡ sum_by (list_reads block_size) (lists_of slots) =
-    ap (λ o. sum_by (list_reads block_size) (cons_option o (lists_of slots))) (ap (λ t. list_of_entry (s.name, struct_reference t)) e) in
+    ap (λ o. sum_by (list_reads block_size) (cons_option o (lists_of slots))) (ap (λ t. list_head_and_size (s.name, struct_reference t)) e) in
     omega (arith, same)
 
 slots_read : (block_size : ℕ) (slots : List Slot) → sum_by (list_reads block_size) (lists_of slots) ≡ sum_by (slot_reads block_size) slots
@@ -51,22 +51,22 @@ fewer_read f q (s ∷ slots) = go (q s) (fewer_read f q slots)
 -- ---- pairs
 
 -- the lists of a pair that the pass accepts are those of its visible slots
-taken_lists : (disk : Disk) (firsts : List (ℕ × ℕ)) (g : Gstate) (first : Bool) (p : Pair) (m : PairBeforeSlotsAreRead) (known : Name × Vertex) (sets : BlockStates) (new : Name × Vertex) (marked : BlockStates)
-    → IsDescription disk g first p m → ScansPair disk firsts m known sets new marked → described_lists disk m ≡ lists_of (unmoved_entries g p)
+taken_lists : (disk : Disk) (firsts : List (ℕ × ℕ)) (g : Gstate) (first : Bool) (p : Pair) (m : DirectoryPairHeader) (known : Name × Vertex) (sets : BlockStates) (new : Name × Vertex) (marked : BlockStates)
+    → IsPairDescription disk g first p m → ScansPair disk firsts m known sets new marked → described_lists disk m ≡ lists_of (unmoved_entries g p)
 taken_lists disk firsts g first p m known sets new marked h t =
     let all = held_slots disk g first p m t.held h t.content in
     let parts = kept_parts m t.held.slots t.entries t.kept in
-    let w = without_moved (moved_id g p) t.held.slots parts.0 p.content.slots all (ap (λ o. unmoved_raw_slots o t.held.slots) (sym h.moved) ∙ parts.1.0) in
-    let are = without_superblock first parts.0 t.entries (without (moved_id g p) p.content.slots) w.are (ap (λ b. superblock_removed b parts.0) (sym h.first) ∙ parts.1.1) in
+    let w = without_moved (moved_id g p) t.held.slots parts.0 p.content.slots all (ap (λ o. slots_without_moved o t.held.slots) (sym h.moved) ∙ parts.1.0) in
+    let are = without_superblock first parts.0 t.entries (without (moved_id g p) p.content.slots) w.are (ap (λ b. slots_without_superblock b parts.0) (sym h.first) ∙ parts.1.1) in
     let s = scan_some disk.order firsts known t.entries new t.scan in
     let same : s.slots ≡ behind first (without (moved_id g p) p.content.slots) = same_Some s.slots (behind first (without (moved_id g p) p.content.slots)) (sym s.are ∙ are) in
     let seen : behind first (without (moved_id g p) p.content.slots) ≡ unmoved_entries g p =
-    sym (visible_behind first (without (moved_id g p) p.content.slots) (λ e. starts_without (moved_id g p) p.content.slots w.entry (h.starts e)) (subst (All IsTreeEntry) same s.entries))
+    sym (visible_behind first (without (moved_id g p) p.content.slots) (λ e. starts_without (moved_id g p) p.content.slots w.entry (h.starts e)) (subst (All IsFileOrDirectory) same s.entries))
     ∙ ap (filter (λ x. not (is_superblock x))) (sym (unmoved-without g p)) in
     takes_lists disk firsts m known new sets marked t ∙ same_lists disk.order firsts known new t.entries s.slots t.scan s.are ∙ ap lists_of (same ∙ seen)
 
-passed_reads : (disk : Disk) (firsts : List (ℕ × ℕ)) (g : Gstate) (first : Bool) (ps : List Pair) (ms : List PairBeforeSlotsAreRead) (known : Name × Vertex) (sets : BlockStates) (graph : DirectoryGraph) (end : BlockStates)
-    → AreDescriptions disk g first ps ms → ScansPairs disk firsts known sets ms graph end
+passed_reads : (disk : Disk) (firsts : List (ℕ × ℕ)) (g : Gstate) (first : Bool) (ps : List Pair) (ms : List DirectoryPairHeader) (known : Name × Vertex) (sets : BlockStates) (graph : DirectoryGraph) (end : BlockStates)
+    → ArePairDescriptions disk g first ps ms → ScansPairs disk firsts known sets ms graph end
     → sum_by (pair_reads disk) ms ≤ length ps + sum_by (slot_reads disk.block_size) (flat_map (slots_not_moved g) ps)
 passed_reads disk firsts g first [] [] known sets graph end h t = omega arith
 passed_reads disk firsts g first [] (x ∷ ms) known sets graph end h t = absurd h
@@ -77,17 +77,17 @@ passed_reads disk firsts g first (p ∷ ps) (x ∷ ms) known sets graph end h (n
     let fewer = fewer_read (slot_reads disk.block_size) (λ s. not (is_superblock s)) (slots_not_moved g p) in
     let one = sum_by-cons (pair_reads disk) x ms in
     let both = sum_by-append (slot_reads disk.block_size) (slots_not_moved g p) (flat_map (slots_not_moved g) ps) in
-    let others = passed_reads disk firsts g false ps ms (scan_unless_soft x.is_hard new) mid rest end h.1 more in
+    let others = passed_reads disk firsts g false ps ms (scan_after_tail x.is_hard new) mid rest end h.1 more in
     omega arith
 
 -- ---- the whole check
 
-module _ (disk : Disk) (history : List CallEvent) (hs : List PairHeader) (sets : BlockStates) (g : Gstate) (count : ℕ) (r : IsThreadRead disk history hs sets g) (head : HasChain disk (header_pairs disk hs) count) where
+module _ (disk : Disk) (history : List CallEvent) (hs : List PairHeader) (sets : BlockStates) (g : Gstate) (count : ℕ) (r : IsThreadRead disk history hs sets g) (head : HasSuperblockChainLength disk (header_pairs disk hs) count) where
   pub directories_read : AreByteBlocks disk.blocks → IsAccepted disk (header_pairs disk hs)
       → count + sum_by (pair_reads disk) (header_descriptions g true (drop count hs)) ≤ length (header_pairs disk hs) + lists_reads disk (header_pairs disk hs)
   directories_read bytes a =
       let ps : List Pair = head.chain ++ head.p ∷ head.rest in
-      let members : List PairBeforeSlotsAreRead = header_descriptions g true (drop count hs) in
+      let members : List DirectoryPairHeader = header_descriptions g true (drop count hs) in
       let known : IsHeaderThread disk sets g (drop count hs) head.chain head.p head.rest = known_thread disk history hs sets g count r head in
       let passes = accepted_passes disk head.chain head.p head.rest members [] sets known.chain_is bytes known.sets_len known.owns known.described (subst (IsAccepted disk) head.parts a) in
       let most = passed_reads disk [] (pairs_gstate ps) true (head.p ∷ head.rest) members empty_scan sets passes.0 passes.1 known.described passes.2 in
@@ -99,7 +99,7 @@ module _ (disk : Disk) (history : List CallEvent) (hs : List PairHeader) (sets :
       omega arith
 
 -- a thread has a pair
-pub some_pair : (ps : List Pair) → AreLinked (Some anchor_address) ps → 0 < length ps
+pub some_pair : (ps : List Pair) → AreLinkedByTails (Some superblock_pair_address) ps → 0 < length ps
 some_pair [] links = absurd (cc)
 some_pair (p ∷ ps) links = omega arith
 

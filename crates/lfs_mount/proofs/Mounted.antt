@@ -3,12 +3,12 @@ use Rattle.std.proofs.Common.{ℕ, ◌≡◌, ◌++◌, List, [], ◌∷◌, ap�
 use Rattle.std.specs.Prelude.{Contains}
 use Rattle.lfs_device.specs.declared.device.BlockDevice.{Ghosts}
 use Rattle.lfs_device.specs.declared.error.Error.TheVariants.{Io}
-use Rattle.lfs_mount.proofs.Common.{ReadsOnly, disk_of_blocks, AreInFlight, AreUsed, BlockStates, content_at, Disk, block_count, CallEvent, OnlyReadsSince, fault_count, Gstate, IsThread, Pair, pairs_blocks, pairs_gstate, IsAccepted, struct_blocks, all_unmoved_slots, used_blocks, Contains-number_occurrences, count_here, OnlyReadsSince-trans, GivesDeviceBack, PairHeader, IsKeptOnDisk, KeptThread, ThreadView, disk_of_device, header_pairs, ReadsReportingFaults, error_of_mount, MapUsesBlocks, IsThreadRead, flat_map}
+use Rattle.lfs_mount.proofs.Common.{ReadsOnly, disk_of_blocks, AreInFlight, AreUsed, BlockStates, content_at, Disk, block_count, CallEvent, OnlyReadsSince, fault_count, Gstate, IsThread, Pair, pairs_blocks, pairs_gstate, IsAccepted, struct_blocks, all_unmoved_slots, used_blocks, Contains-occurrence_count, count_here, OnlyReadsSince-trans, GivesDeviceBack, PairHeader, IsKeptOnDisk, KeptThread, ThreadView, disk_of_device, header_pairs, ReadsReportingFaults, error_of_mount, MapUsesBlocks, IsThreadRead, flat_map}
 use Rattle.lfs_model.proofs.BlockSets.{Contains-tail}
 use Rattle.lfs_thread.specs.Kept.{AllBlocksUsed, WasKeptOnDisk, kept_view}
 use Rattle.lfs_thread.specs.declared.mount_error.MountError.{MountError}
 use Rattle.lfs_thread.specs.declared.mount_error.MountError.TheVariants as mount
-use Rattle.lfs_mount.specs.Accepted.{IsMountedOn}
+use Rattle.lfs_mount.specs.Accepted.{IsMountedUnwritten}
 use Rattle.lfs_mount.proofs.Called.{err_same}
 
 -- ---- before the check
@@ -34,7 +34,7 @@ read_is old disk n history hs items sets g t same is from size kept thread used 
 all_used : (sets : BlockStates) (bs more : List ℕ) → ((b : ℕ) → Contains (bs ++ more) b → AllBlocksUsed sets (b ∷ [])) → AllBlocksUsed sets bs
 all_used sets [] more f = tt
 all_used sets (b ∷ bs) more f = (
-  (f b (Contains-number_occurrences (b ∷ (bs ++ more)) b (let h = count_here b (bs ++ more) in omega arith))).0,
+  (f b (Contains-occurrence_count (b ∷ (bs ++ more)) b (let h = count_here b (bs ++ more) in omega arith))).0,
   all_used sets bs more (λ x has. f x (Contains-tail b x (bs ++ more) has)),
 )
 
@@ -53,7 +53,7 @@ kept_again disk now history later items hs sets new same is reads kept marked =
     })
 
 pub is_mounted : (old disk now : Disk) (first history later : List CallEvent) (items hs : List PairHeader) (sets new : BlockStates) (t : ThreadView) → disk ≡ old → now ≡ disk → hs ≡ items
-    → OnlyReadsSince old.blocks first history → OnlyReadsSince disk.blocks history later → IsAccepted disk (header_pairs disk hs) → MapUsesBlocks sets new (used_blocks disk (header_pairs disk hs)) → length sets ≡ block_count disk → fault_count later ≡ fault_count first → t.failed ≡ false → t.kept ≡ kept_view now later items new → IsMountedOn old first t
+    → OnlyReadsSince old.blocks first history → OnlyReadsSince disk.blocks history later → IsAccepted disk (header_pairs disk hs) → MapUsesBlocks sets new (used_blocks disk (header_pairs disk hs)) → length sets ≡ block_count disk → fault_count later ≡ fault_count first → t.failed ≡ false → t.kept ≡ kept_view now later items new → IsMountedUnwritten old first t
 is_mounted old disk now first history later items hs sets new t from same is before after accepted marked size none works kept = record {
   works = works;
   disk_is = ap (λ (k : KeptThread). k.disk) kept ∙ same ∙ from;

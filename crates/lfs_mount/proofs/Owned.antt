@@ -2,13 +2,13 @@
 use Rattle.std.proofs.Common.{Bool, true, false, cond, eqb-true, ℕ, zero, suc, ◌≡◌, ◌≤◌, ◌+◌, ◌<◌, ⊎_elim, inl, inr, List, [], ◌∷◌, ◌++◌, length, set, Some, refl, sym, ap, subst, ◌∙◌, arith, slice_get, nat_eq, append_assoc, append-nil}
 use Rattle.std.specs.Prelude.{All, Contains}
 use Rattle.std.specs.List.{IsDistinct}
-use Rattle.lfs_mount.proofs.Common.{cases_eq, get_or-set_same, get_or-set_other, length-set, All-head, All-tail, same_Some, slice_get_within, slice_get-get_or, get_or_from_slice_get, AreInFlight, AreUsed, BlockState, BlockStates, IsFree, Free, InFlight, Used, Contains-number_occurrences, number_occurrences-Contains, number_occurrences, count_append, count_here, MapUsesBlocks, MarksUsed, MeetsTaken, HasUsedBlocks}
+use Rattle.lfs_mount.proofs.Common.{cases_eq, get_or-set_same, get_or-set_other, length-set, All-head, All-tail, same_Some, slice_get_within, slice_get-get_or, get_or_from_slice_get, AreInFlight, AreUsed, BlockState, BlockStates, IsFree, Free, InFlight, Used, Contains-occurrence_count, occurrence_count-Contains, occurrence_count, count_append, count_here, MapUsesBlocks, MarksFreeBlocksUsed, FirstNonFreeBlockIs, HasExactlyUsedBlocks}
 use Rattle.lfs_model.specs.layers.BlockSets.{IsUsedBlock}
 use Rattle.lfs_mount.proofs.ReadCounts.{marks_length}
 use Rattle.lfs_mount.proofs.Found.{get_left, get_right, Part, left, right, part}
 use Rattle.lfs_mount.proofs.Searches.{place_once, distinct_by_places}
 
-one_owned : (sets : BlockStates) (bs : List ℕ) (b : ℕ) → HasUsedBlocks sets bs → IsFree sets b → HasUsedBlocks (set sets b Used) (bs ++ b ∷ [])
+one_owned : (sets : BlockStates) (bs : List ℕ) (b : ℕ) → HasExactlyUsedBlocks sets bs → IsFree sets b → HasExactlyUsedBlocks (set sets b Used) (bs ++ b ∷ [])
 one_owned sets bs b h free = record {
   distinct = distinct_by_places (bs ++ b ∷ []) (λ i m x e f. once i m x (part bs (b ∷ []) i x e) (part bs (b ∷ []) m x f));
   used = λ i x e. each i x (part bs (b ∷ []) i x e);
@@ -46,9 +46,9 @@ one_owned sets bs b h free = record {
     each i x (right j p e) = subst (λ w. slice_get (set sets b Used) w ≡ Some Used) (sym (last j x e).1) here
 
 -- blocks that were marked are owned, and none of them twice
-pub owned_more : (sets : BlockStates) (bs more : List ℕ) (new : BlockStates) → HasUsedBlocks sets bs → MarksUsed sets more new → HasUsedBlocks new (bs ++ more)
-owned_more sets bs [] new h e = subst (λ xs. HasUsedBlocks new xs) (sym (append-nil bs)) (subst (λ (s : BlockStates). HasUsedBlocks s bs) e h)
-owned_more sets bs (b ∷ more) new h (free, marks) = subst (λ xs. HasUsedBlocks new xs) (append_assoc bs (b ∷ []) more) (owned_more (set sets b Used) (bs ++ b ∷ []) more new (one_owned sets bs b h free) marks)
+pub owned_more : (sets : BlockStates) (bs more : List ℕ) (new : BlockStates) → HasExactlyUsedBlocks sets bs → MarksFreeBlocksUsed sets more new → HasExactlyUsedBlocks new (bs ++ more)
+owned_more sets bs [] new h e = subst (λ xs. HasExactlyUsedBlocks new xs) (sym (append-nil bs)) (subst (λ (s : BlockStates). HasExactlyUsedBlocks s bs) e h)
+owned_more sets bs (b ∷ more) new h (free, marks) = subst (λ xs. HasExactlyUsedBlocks new xs) (append_assoc bs (b ∷ []) more) (owned_more (set sets b Used) (bs ++ b ∷ []) more new (one_owned sets bs b h free) marks)
 
 not_owned : (bs : List ℕ) (b : ℕ) (more : List ℕ) → IsDistinct nat_eq (bs ++ b ∷ more) → (i : ℕ) → slice_get bs i ≡ Some b → ⊥
 not_owned bs b more distinct i e =
@@ -57,7 +57,7 @@ not_owned bs b more distinct i e =
     absurd (omega arith)
 
 -- and blocks that no one owns can be marked
-pub can_mark : (sets : BlockStates) (bs more : List ℕ) → HasUsedBlocks sets bs → All (λ b. b < length sets) more → IsDistinct nat_eq (bs ++ more) → (new : BlockStates) × MarksUsed sets more new
+pub can_mark : (sets : BlockStates) (bs more : List ℕ) → HasExactlyUsedBlocks sets bs → All (λ b. b < length sets) more → IsDistinct nat_eq (bs ++ more) → (new : BlockStates) × MarksFreeBlocksUsed sets more new
 can_mark sets bs [] h within distinct = (sets, refl)
 can_mark sets bs (b ∷ more) h within distinct =
     let apart : (i : ℕ) → slice_get bs i ≡ Some b → ⊥ = not_owned bs b more distinct in
@@ -69,35 +69,35 @@ can_mark sets bs (b ∷ more) h within distinct =
 
 -- ---- which blocks a map has
 
-pub counted_place : (b : ℕ) (bs : List ℕ) → 1 ≤ number_occurrences b bs → (i : ℕ) × (slice_get bs i ≡ Some b)
+pub counted_place : (b : ℕ) (bs : List ℕ) → 1 ≤ occurrence_count b bs → (i : ℕ) × (slice_get bs i ≡ Some b)
 counted_place b [] some = absurd (omega arith)
 counted_place b (x ∷ bs) some = go (nat_eq b x) refl some (counted_place b bs)
   where
-    go : (t : Bool) → nat_eq b x ≡ t → 1 ≤ cond t 1 0 + number_occurrences b bs → (1 ≤ number_occurrences b bs → (i : ℕ) × (slice_get bs i ≡ Some b)) → (i : ℕ) × (slice_get (x ∷ bs) i ≡ Some b)
+    go : (t : Bool) → nat_eq b x ≡ t → 1 ≤ cond t 1 0 + occurrence_count b bs → (1 ≤ occurrence_count b bs → (i : ℕ) × (slice_get bs i ≡ Some b)) → (i : ℕ) × (slice_get (x ∷ bs) i ≡ Some b)
     go true e k next = (0, ap (λ (y : ℕ). Some y) (sym (eqb-true b x e)))
     go false e k next = let i = next (omega arith) in (suc i.0, i.1)
 
-pub placed_count : (b : ℕ) (bs : List ℕ) (i : ℕ) → slice_get bs i ≡ Some b → 1 ≤ number_occurrences b bs
+pub placed_count : (b : ℕ) (bs : List ℕ) (i : ℕ) → slice_get bs i ≡ Some b → 1 ≤ occurrence_count b bs
 placed_count b [] i e = absurd (cc)
-placed_count b (x ∷ bs) zero e = let h = count_here b bs in subst (λ (y : ℕ). 1 ≤ number_occurrences b (y ∷ bs)) (sym (same_Some x b e)) (omega arith)
+placed_count b (x ∷ bs) zero e = let h = count_here b bs in subst (λ (y : ℕ). 1 ≤ occurrence_count b (y ∷ bs)) (sym (same_Some x b e)) (omega arith)
 placed_count b (x ∷ bs) (suc i) e = let h = placed_count b bs i e in omega arith
 
-module _ (sets : BlockStates) (bs cs : List ℕ) (owns : HasUsedBlocks sets bs) (same : (b : ℕ) → number_occurrences b cs ≡ number_occurrences b bs) where
+module _ (sets : BlockStates) (bs cs : List ℕ) (owns : HasExactlyUsedBlocks sets bs) (same : (b : ℕ) → occurrence_count b cs ≡ occurrence_count b bs) where
   used_if : (b : ℕ) → Contains cs b → IsUsedBlock sets b
-  used_if b c = let i = counted_place b bs (let k = number_occurrences-Contains cs b c in let e = same b in omega arith) in owns.used i.0 b i.1
+  used_if b c = let i = counted_place b bs (let k = occurrence_count-Contains cs b c in let e = same b in omega arith) in owns.used i.0 b i.1
 
-  free_if : (b : ℕ) → b < length sets → number_occurrences b bs ≡ 0 → IsFree sets b
+  free_if : (b : ℕ) → b < length sets → occurrence_count b bs ≡ 0 → IsFree sets b
   free_if b within none = owns.free b within (λ i e. absurd (let h = placed_count b bs i e in omega arith))
 
-  in_list : (b : ℕ) (s : BlockState) → slice_get sets b ≡ Some s → (s ≡ Free → ⊥) → 1 ≤ number_occurrences b bs
-  in_list b s e taken = go (number_occurrences b bs) refl
+  in_list : (b : ℕ) (s : BlockState) → slice_get sets b ≡ Some s → (s ≡ Free → ⊥) → 1 ≤ occurrence_count b bs
+  in_list b s e taken = go (occurrence_count b bs) refl
     where
-      go : (n : ℕ) → number_occurrences b bs ≡ n → 1 ≤ n
+      go : (n : ℕ) → occurrence_count b bs ≡ n → 1 ≤ n
       go zero k = absurd (taken (same_Some s Free (sym e ∙ free_if b (slice_get_within sets b s e) k)))
       go (suc n) k = omega arith
 
   pub are_used : AreUsed sets cs
-  are_used b = (λ u. Contains-number_occurrences cs b (let k = in_list b Used u (λ e. absurd (cc)) in let e = same b in omega arith), used_if b)
+  are_used b = (λ u. Contains-occurrence_count cs b (let k = in_list b Used u (λ e. absurd (cc)) in let e = same b in omega arith), used_if b)
 
   pub none_flies : AreInFlight sets []
   none_flies b = (
@@ -108,32 +108,32 @@ module _ (sets : BlockStates) (bs cs : List ℕ) (owns : HasUsedBlocks sets bs) 
   )
 
 -- the blocks that were there and those that were marked, in any order
-pub has_only : (old new : BlockStates) (bs more cs : List ℕ) → HasUsedBlocks old bs → MarksUsed old more new → ((b : ℕ) → number_occurrences b cs ≡ number_occurrences b (bs ++ more)) → MapUsesBlocks old new cs
+pub has_only : (old new : BlockStates) (bs more cs : List ℕ) → HasExactlyUsedBlocks old bs → MarksFreeBlocksUsed old more new → ((b : ℕ) → occurrence_count b cs ≡ occurrence_count b (bs ++ more)) → MapUsesBlocks old new cs
 has_only old new bs more cs owns marks same =
     let all = owned_more old bs more new owns marks in
     record { len = marks_length more old new marks; used = are_used new (bs ++ more) cs all same; none_in_flight = none_flies new (bs ++ more) cs all same }
 
 -- ---- a block that was marked before
 
-pub meets_behind : (xs ys : List ℕ) (old mid : BlockStates) (block : ℕ) → MarksUsed old xs mid → MeetsTaken mid ys block → MeetsTaken old (xs ++ ys) block
-meets_behind [] ys old mid block e h = subst (λ (s : BlockStates). MeetsTaken s ys block) (sym e) h
+pub meets_behind : (xs ys : List ℕ) (old mid : BlockStates) (block : ℕ) → MarksFreeBlocksUsed old xs mid → FirstNonFreeBlockIs mid ys block → FirstNonFreeBlockIs old (xs ++ ys) block
+meets_behind [] ys old mid block e h = subst (λ (s : BlockStates). FirstNonFreeBlockIs s ys block) (sym e) h
 meets_behind (x ∷ xs) ys old mid block (free, m) h = inr (free, meets_behind xs ys _ mid block m h)
 
-pub meets_in : (old : BlockStates) (bs : List ℕ) (block : ℕ) → MeetsTaken old bs block → 1 ≤ number_occurrences block bs
+pub meets_in : (old : BlockStates) (bs : List ℕ) (block : ℕ) → FirstNonFreeBlockIs old bs block → 1 ≤ occurrence_count block bs
 meets_in old [] block h = absurd h
 meets_in old (b ∷ bs) block (inl h) = placed_count block (b ∷ bs) 0 (ap (λ (y : ℕ). Some y) h.0)
 meets_in old (b ∷ bs) block (inr h) = let k = meets_in _ bs block h.1 in omega arith
 
-is_owned : (sets : BlockStates) (bs : List ℕ) (b : ℕ) → HasUsedBlocks sets bs → b < length sets → ¬ IsFree sets b → 1 ≤ number_occurrences b bs
-is_owned sets bs b h within held = go (number_occurrences b bs) refl
+is_owned : (sets : BlockStates) (bs : List ℕ) (b : ℕ) → HasExactlyUsedBlocks sets bs → b < length sets → ¬ IsFree sets b → 1 ≤ occurrence_count b bs
+is_owned sets bs b h within held = go (occurrence_count b bs) refl
   where
-    go : (n : ℕ) → number_occurrences b bs ≡ n → 1 ≤ n
+    go : (n : ℕ) → occurrence_count b bs ≡ n → 1 ≤ n
     go zero none = absurd (held (h.free b within (λ i e. absurd (let k = placed_count b bs i e in omega arith))))
     go (suc n) some = omega arith
 
 -- It is owned, too: it is counted twice.
-pub meets_twice : (sets : BlockStates) (owned bs : List ℕ) (block : ℕ) → HasUsedBlocks sets owned → block < length sets → MeetsTaken sets bs block
-    → 2 ≤ number_occurrences block owned + number_occurrences block bs
+pub meets_twice : (sets : BlockStates) (owned bs : List ℕ) (block : ℕ) → HasExactlyUsedBlocks sets owned → block < length sets → FirstNonFreeBlockIs sets bs block
+    → 2 ≤ occurrence_count block owned + occurrence_count block bs
 meets_twice sets owned [] block h within m = absurd m
 meets_twice sets owned (b ∷ bs) block h within (inl m) =
     let k = is_owned sets owned block h within (λ free. m.1 (subst (IsFree sets) (sym m.0) free)) in
@@ -146,11 +146,11 @@ meets_twice sets owned (b ∷ bs) block h within (inr m) =
     omega arith
 
 -- a number that is counted twice occurs at two list indices
-pub two_places : (b : ℕ) (xs : List ℕ) → 2 ≤ number_occurrences b xs → (i j : ℕ) × ((i < j) × (slice_get xs i ≡ Some b) × (slice_get xs j ≡ Some b))
+pub two_places : (b : ℕ) (xs : List ℕ) → 2 ≤ occurrence_count b xs → (i j : ℕ) × ((i < j) × (slice_get xs i ≡ Some b) × (slice_get xs j ≡ Some b))
 two_places b [] twice = absurd (omega arith)
 two_places b (x ∷ xs) twice = go (nat_eq b x) refl twice (two_places b xs)
   where
-    go : (t : Bool) → nat_eq b x ≡ t → 2 ≤ cond t 1 0 + number_occurrences b xs → (2 ≤ number_occurrences b xs → (i j : ℕ) × ((i < j) × (slice_get xs i ≡ Some b) × (slice_get xs j ≡ Some b)))
+    go : (t : Bool) → nat_eq b x ≡ t → 2 ≤ cond t 1 0 + occurrence_count b xs → (2 ≤ occurrence_count b xs → (i j : ℕ) × ((i < j) × (slice_get xs i ≡ Some b) × (slice_get xs j ≡ Some b)))
         → (i j : ℕ) × ((i < j) × (slice_get (x ∷ xs) i ≡ Some b) × (slice_get (x ∷ xs) j ≡ Some b))
     go true e k next = let p = counted_place b xs (omega arith) in (0, suc p.0, (omega arith, ap (λ (y : ℕ). Some y) (sym (eqb-true b x e)), p.1))
     go false e k next = let p = next (omega arith) in (suc p.0, suc p.1, (omega (arith, p.2.0), p.2.1, p.2.2))

@@ -2,7 +2,7 @@
 -- follow.
 use Rattle.std.proofs.Common.{if◌then◌else◌, ℕ, zero, suc, ◌≡◌, Bool, true, false, cond, List, [], ◌∷◌, ◌++◌, length, map, Some, refl, ap, subst, ◌∙◌, slice_get, append_assoc}
 use Rattle.std.specs.Prelude.{All}
-use Rattle.lfs_mount.proofs.Common.{same_Some, length-map, Name, is_valid_name, Slot, Gstate, Pair, ThreadDirectory, is_hard_tail, unmoved_entries, directories_with_pair, pair_directories, Each, Ends, Vertex, DirectoryGraph, DescribesSlots, IsDirectoryGraph, NamedReference, named_reference, scan_with_entries, empty_scan, directory_addresses}
+use Rattle.lfs_mount.proofs.Common.{same_Some, length-map, Name, is_valid_name, Slot, Gstate, Pair, ThreadDirectory, is_hard_tail, unmoved_entries, directories_with_pair, pair_directories, Each, Ends, Vertex, DirectoryGraph, IsVertexOfSlots, IsDirectoryGraph, NamedReference, named_reference, scan_with_entries, empty_scan, directory_addresses}
 use Rattle.lfs_model.specs.declared.order.NameOrder.{NameOrder}
 use Rattle.lfs_mount.proofs.Drawn.{IsKnown, known_more, nothing_drawn}
 
@@ -34,7 +34,7 @@ abbrev pub AreDrawn : NameOrder → List ThreadDirectory → List (List Slot) �
 AreDrawn by ds [] [] = Unit {0}
 AreDrawn by ds [] (v ∷ vs) = ⊥
 AreDrawn by ds (s ∷ ss) [] = ⊥
-AreDrawn by ds (s ∷ ss) (v ∷ vs) = DescribesSlots by ds s v × AreDrawn by ds ss vs
+AreDrawn by ds (s ∷ ss) (v ∷ vs) = IsVertexOfSlots by ds s v × AreDrawn by ds ss vs
 
 -- ---- the same directories from either end
 
@@ -93,11 +93,11 @@ drawn_len by ds [] (v ∷ vs) h = absurd h
 drawn_len by ds (s ∷ ss) [] h = absurd h
 drawn_len by ds (s ∷ ss) (v ∷ vs) h = ap (λ n. suc n) (drawn_len by ds ss vs h.1)
 
-drawn_at : (by : NameOrder) (ds es : List ThreadDirectory) (graph : DirectoryGraph) → AreDrawn by ds (slots_in es) graph → (i : ℕ) (d : ThreadDirectory) (v : Vertex) → slice_get es i ≡ Some d → slice_get graph i ≡ Some v → DescribesSlots by ds d.slots v
+drawn_at : (by : NameOrder) (ds es : List ThreadDirectory) (graph : DirectoryGraph) → AreDrawn by ds (slots_in es) graph → (i : ℕ) (d : ThreadDirectory) (v : Vertex) → slice_get es i ≡ Some d → slice_get graph i ≡ Some v → IsVertexOfSlots by ds d.slots v
 drawn_at by ds [] graph h i d v e f = absurd (cc)
 drawn_at by ds (x ∷ es) [] h i d v e f = absurd h
 drawn_at by ds (x ∷ es) (w ∷ vs) h zero d v e f =
-    subst (DescribesSlots by ds d.slots) (same_Some w v f) (subst (λ (y : ThreadDirectory). DescribesSlots by ds y.slots w) (same_Some x d e) h.0)
+    subst (IsVertexOfSlots by ds d.slots) (same_Some w v f) (subst (λ (y : ThreadDirectory). IsVertexOfSlots by ds y.slots w) (same_Some x d e) h.0)
 drawn_at by ds (x ∷ es) (w ∷ vs) h (suc i) d v e f = drawn_at by ds es vs h.1 i d v e f
 
 pub draws_from : (by : NameOrder) (ds : List ThreadDirectory) (graph : DirectoryGraph) → AreDrawn by ds (map (λ d. d.slots) ds) graph → IsDirectoryGraph by ds graph

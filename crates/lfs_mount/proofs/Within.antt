@@ -1,10 +1,10 @@
 -- The list indices in a scan are those of directories.
 use Rattle.std.proofs.Common.{ℕ, suc, ◌≡◌, ◌<◌, ◌&&◌, Bool, true, false, cond, List, [], ◌∷◌, ◌++◌, length, Option, Some, None, refl, sym, ap, subst, ◌∙◌, arith, option_map, option_and_then}
 use Rattle.std.specs.Prelude.{All}
-use Rattle.lfs_mount.proofs.Common.{same_Some, length-map, All-from_recursion, BlockStates, RawSlot, Disk, block_count, Name, Slot, Gstate, same_pair, Pair, ThreadDirectory, directories_with_pair, is_hard_tail, unmoved_entries, pairs_gstate, pairs_from_root, pair_directories, all_directories, Each, each_append, pairs_behind, Vertex, DirectoryGraph, vertex_view, graph_view, address_index, comes_after_name, InSlot, InList, Below, NamedReference, raw_slot_entry, vertex_with_branch, scan_with_entry, empty_scan, scan_after_slots, scan_unless_soft, graph_with_directory, ScansPairs, AreDescriptions}
+use Rattle.lfs_mount.proofs.Common.{same_Some, length-map, All-from_recursion, BlockStates, RawSlot, Disk, block_count, Name, Slot, Gstate, same_pair, Pair, ThreadDirectory, directories_with_pair, is_hard_tail, unmoved_entries, pairs_gstate, pairs_from_root, pair_directories, all_directories, Each, each_append, pairs_behind, Vertex, DirectoryGraph, vertex_view, graph_view, address_index, comes_after_name, InSlot, InList, Below, NamedReference, raw_slot_entry, vertex_with_subdirectory, scan_with_entry, empty_scan, scan_after_slots, scan_after_tail, graph_after_tail, ScansPairs, ArePairDescriptions}
 use Rattle.lfs_model.specs.declared.order.NameOrder.{NameOrder}
 use Rattle.lfs_mount.specs.Checked.{DescribesThread}
-use Rattle.lfs_mount.specs.declared.pass.PairBeforeSlotsAreRead.{PairBeforeSlotsAreRead}
+use Rattle.lfs_mount.specs.declared.pass.DirectoryPairHeader.{DirectoryPairHeader}
 use Rattle.lfs_mount.specs.declared.reachability.Directory.{Directory}
 use Rattle.lfs_mount.proofs.Ending.{known_drawn}
 
@@ -20,10 +20,10 @@ place_within (a ∷ firsts) at i e = go (same_pair a at) (address_index firsts a
     go false None g next = absurd (cc)
     go false (Some j) g next = let h = same_Some (suc j) i g in let k = next j refl in omega arith
 
-branch_within : (firsts : List (ℕ × ℕ)) (v : Vertex) (to : ℕ × ℕ) → Below_all (length firsts) v → Below_all (length firsts) (vertex_with_branch v (address_index firsts to))
+branch_within : (firsts : List (ℕ × ℕ)) (v : Vertex) (to : ℕ × ℕ) → Below_all (length firsts) v → Below_all (length firsts) (vertex_with_subdirectory v (address_index firsts to))
 branch_within firsts v to h = go (address_index firsts to) refl
   where
-    go : (o : Option ℕ) → address_index firsts to ≡ o → Below_all (length firsts) (vertex_with_branch v o)
+    go : (o : Option ℕ) → address_index firsts to ≡ o → Below_all (length firsts) (vertex_with_subdirectory v o)
     go None e = h
     go (Some i) e = each_append (λ b. b < length firsts) v.branches (i ∷ []) h (place_within firsts to i e, tt)
 
@@ -42,21 +42,21 @@ scan_within by firsts known new (r ∷ raws) e h =
     let x = parts_of (λ y. scan_after_slots by firsts (scan_with_entry by firsts known y) raws) new (raw_slot_entry r) e in
     scan_within by firsts (scan_with_entry by firsts known x.0) new raws x.1 (entry_within by firsts known x.0 h)
 
-hand_within : (n : ℕ) (hard : Bool) (new : Name × Vertex) → Below_all n new.1 → Below_all n (scan_unless_soft hard new).1
+hand_within : (n : ℕ) (hard : Bool) (new : Name × Vertex) → Below_all n new.1 → Below_all n (scan_after_tail hard new).1
 hand_within n true new h = h
 hand_within n false new h = tt
 
-ended_within : (n : ℕ) (hard : Bool) (new : Name × Vertex) (rest : DirectoryGraph) → Below_all n new.1 → Each (Below_all n) rest → Each (Below_all n) (graph_with_directory hard new rest)
+ended_within : (n : ℕ) (hard : Bool) (new : Name × Vertex) (rest : DirectoryGraph) → Below_all n new.1 → Each (Below_all n) rest → Each (Below_all n) (graph_after_tail hard new rest)
 ended_within n true new rest h k = k
 ended_within n false new rest h k = (h, k)
 
-passes_within : (disk : Disk) (firsts : List (ℕ × ℕ)) (known : Name × Vertex) (sets : BlockStates) (ms : List PairBeforeSlotsAreRead) (graph : DirectoryGraph) (end : BlockStates) → ScansPairs disk firsts known sets ms graph end
+passes_within : (disk : Disk) (firsts : List (ℕ × ℕ)) (known : Name × Vertex) (sets : BlockStates) (ms : List DirectoryPairHeader) (graph : DirectoryGraph) (end : BlockStates) → ScansPairs disk firsts known sets ms graph end
     → Below_all (length firsts) known.1 → Each (Below_all (length firsts)) graph
 passes_within disk firsts known sets [] graph end (e, f) h = subst (Each (Below_all (length firsts))) (sym e) tt
 passes_within disk firsts known sets (m ∷ ms) graph end (new, mid, rest, (takes, (e, more))) h =
     let k = scan_within disk.order firsts known new takes.entries takes.scan h in
     subst (Each (Below_all (length firsts))) (sym e)
-    (ended_within (length firsts) m.is_hard new rest k (passes_within disk firsts (scan_unless_soft m.is_hard new) mid ms rest end more (hand_within (length firsts) m.is_hard new k)))
+    (ended_within (length firsts) m.is_hard new rest k (passes_within disk firsts (scan_after_tail m.is_hard new) mid ms rest end more (hand_within (length firsts) m.is_hard new k)))
 
 -- ---- the directories of the code
 
@@ -69,7 +69,7 @@ some_joined at hard slots [] = omega arith
 some_joined at true slots (d ∷ ds) = omega arith
 some_joined at false slots (d ∷ ds) = omega arith
 
-module _ (disk : Disk) (sets : BlockStates) (firsts : List (ℕ × ℕ)) (ms : List PairBeforeSlotsAreRead) (sync : Bool) (known : DescribesThread disk sets firsts ms sync) (by : NameOrder) (ds : List Directory) (end : BlockStates)
+module _ (disk : Disk) (sets : BlockStates) (firsts : List (ℕ × ℕ)) (ms : List DirectoryPairHeader) (sync : Bool) (known : DescribesThread disk sets firsts ms sync) (by : NameOrder) (ds : List Directory) (end : BlockStates)
     (passes : ScansPairs disk firsts empty_scan sets ms (graph_view by ds) end) where
   abbrev ps : List Pair
   ps = known.0 ++ known.1 ∷ known.2
@@ -99,11 +99,11 @@ module _ (disk : Disk) (sets : BlockStates) (firsts : List (ℕ × ℕ)) (ms : L
 
 -- ---- the blocks that hold are on the device
 
-each_member : (disk : Disk) (g : Gstate) (is_first : Bool) (qs : List Pair) (ms : List PairBeforeSlotsAreRead) → AreDescriptions disk g is_first qs ms → Each (λ (m : PairBeforeSlotsAreRead). m.active < block_count disk) ms
+each_member : (disk : Disk) (g : Gstate) (is_first : Bool) (qs : List Pair) (ms : List DirectoryPairHeader) → ArePairDescriptions disk g is_first qs ms → Each (λ (m : DirectoryPairHeader). m.active < block_count disk) ms
 each_member disk g is_first [] [] h = tt
 each_member disk g is_first [] (m ∷ ms) h = absurd h
 each_member disk g is_first (p ∷ qs) [] h = absurd h
 each_member disk g is_first (p ∷ qs) (m ∷ ms) h = (h.0.within, each_member disk g false qs ms h.1)
 
-pub members_within : (disk : Disk) (g : Gstate) (is_first : Bool) (qs : List Pair) (ms : List PairBeforeSlotsAreRead) → AreDescriptions disk g is_first qs ms → All (λ (m : PairBeforeSlotsAreRead). m.active < block_count disk) ms
-members_within disk g is_first qs ms h = All-from_recursion (λ (m : PairBeforeSlotsAreRead). m.active < block_count disk) ms (each_member disk g is_first qs ms h)
+pub members_within : (disk : Disk) (g : Gstate) (is_first : Bool) (qs : List Pair) (ms : List DirectoryPairHeader) → ArePairDescriptions disk g is_first qs ms → All (λ (m : DirectoryPairHeader). m.active < block_count disk) ms
+members_within disk g is_first qs ms h = All-from_recursion (λ (m : DirectoryPairHeader). m.active < block_count disk) ms (each_member disk g is_first qs ms h)

@@ -10,7 +10,7 @@ use Rattle.lfs_model.specs.declared.violations.Violation.{Violation}
 use Rattle.lfs_model.specs.session.History.{CallEvent, OnlyReadsSince, fault_count}
 use Rattle.lfs_thread.specs.Kept.{PairHeader, ThreadView, header_pairs}
 use Rattle.lfs_mount.specs.Checked.{HasSuperblockChain}
-use Rattle.lfs_mount.specs.MoveChecks.{NamesMovedEntry}
+use Rattle.lfs_mount.specs.MoveChecks.{MoveSourceIsEntry}
 
 -- a map of as many blocks as before, in which these blocks are used, and all others free
 pub record MapUsesBlocks (old new : BlockStates) (bs : List ℕ) : Type 0 where
@@ -21,22 +21,22 @@ pub record MapUsesBlocks (old new : BlockStates) (bs : List ℕ) : Type 0 where
 -- The slot that a set move names is an entry. If the superblock's pairs are right, the map has the image's blocks. If the move is
 -- right, too, the image is accepted unless its directories break a rule in the disk's order of names. If they break one, the
 -- pairs of the thread do.
-pub record IsThreadVerdict (disk : Disk) (broken_rule : Option Violation) (old new : BlockStates) (chain : List Pair) (p : Pair) (rest : List Pair) : Type 0 where
-  pub moved : NamesMovedEntry (pairs_gstate (chain ++ p ∷ rest)) (p ∷ rest)
+pub record IsThreadCheckResult (disk : Disk) (broken_rule : Option Violation) (old new : BlockStates) (chain : List Pair) (p : Pair) (rest : List Pair) : Type 0 where
+  pub moved : MoveSourceIsEntry (pairs_gstate (chain ++ p ∷ rest)) (p ∷ rest)
   pub marked : (bytes : List ℕ) → HasSuperblockChain disk chain p rest bytes → MapUsesBlocks old new (used_blocks disk (chain ++ p ∷ rest))
   pub accepted : broken_rule ≡ None → (bytes : List ℕ) → HasSuperblockChain disk chain p rest bytes → HasValidMove (chain ++ p ∷ rest) (pairs_gstate (chain ++ p ∷ rest)) → IsAccepted disk (chain ++ p ∷ rest)
   pub broken : (violation : Violation) → broken_rule ≡ Some violation → PairsBreak disk (chain ++ p ∷ rest) violation
 
 -- The map has the image's blocks. The image is accepted unless its directories break a rule in the disk's order of names. If they
 -- break one, the disk does.
-pub record IsHeadersVerdict (disk : Disk) (headers : List PairHeader) (broken_rule : Option Violation) (old new : BlockStates) : Type 0 where
+pub record IsHeaderCheckResult (disk : Disk) (headers : List PairHeader) (broken_rule : Option Violation) (old new : BlockStates) : Type 0 where
   pub marked : MapUsesBlocks old new (used_blocks disk (header_pairs disk headers))
   pub accepted : broken_rule ≡ None → IsAccepted disk (header_pairs disk headers)
   pub broken : (violation : Violation) → broken_rule ≡ Some violation → Breaks disk violation
 
 -- The thread of an accepted image, whose device was only read, without a fault. In its map exactly the image's blocks are used,
 -- and none is in flight.
-pub record IsMountedOn (disk : Disk) (history : List CallEvent) (t : ThreadView) : Type 0 where
+pub record IsMountedUnwritten (disk : Disk) (history : List CallEvent) (t : ThreadView) : Type 0 where
   pub works : t.failed ≡ false
   pub disk_is : t.kept.disk ≡ disk
   pub reads : OnlyReadsSince disk.blocks history t.kept.history

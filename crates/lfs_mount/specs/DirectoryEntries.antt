@@ -5,7 +5,7 @@ use Rattle.lfs_model.specs.declared.order.NameOrder.{NameOrder}
 use Rattle.lfs_model.specs.format.Names.{Name, name_cmp, is_less, is_valid_name}
 use Rattle.lfs_model.specs.format.Slots.{Slot, Struct, Inline, Ctz, Branch}
 use Rattle.lfs_model.specs.format.Content.{RawSlot}
-use Rattle.lfs_model.specs.format.EntryTypes.{file_name_type, directory_name_type, inline_type, ctz_type, directory_type, decoded_address}
+use Rattle.lfs_model.specs.format.EntryTypes.{file_name_type, directory_name_type, inline_struct_type, ctz_struct_type, directory_struct_type, decoded_address}
 use Rattle.lfs_thread.specs.PairPlaces.{address_index}
 use Rattle.lfs_mount.specs.Reaching.{Vertex}
 
@@ -30,9 +30,9 @@ named_reference s = (s.name, struct_reference s.struct)
 -- what an entry with this type of name and this struct names; None if the struct doesn't suit the type
 abbrev pub raw_reference : ℕ → ℕ × List ℕ → Option EntryReference
 raw_reference kind part =
-    if kind == file_name_type && part.0 == inline_type then Some InSlot
-    else (if kind == file_name_type && part.0 == ctz_type then (if length part.1 == 8 then Some (InList (decoded_address part.1).0 (decoded_address part.1).1) else None)
-    else (if kind == directory_name_type && part.0 == directory_type then (if length part.1 == 8 then Some (Below (decoded_address part.1)) else None)
+    if kind == file_name_type && part.0 == inline_struct_type then Some InSlot
+    else (if kind == file_name_type && part.0 == ctz_struct_type then (if length part.1 == 8 then Some (InList (decoded_address part.1).0 (decoded_address part.1).1) else None)
+    else (if kind == directory_name_type && part.0 == directory_struct_type then (if length part.1 == 8 then Some (Below (decoded_address part.1)) else None)
     else None))
 
 -- the entry in a slot of a log, if the slot may be in a directory
@@ -41,19 +41,19 @@ raw_slot_entry s = option_and_then (λ name. option_and_then (λ struct.
     if is_valid_name name.1 then option_map (λ stand. (name.1, stand)) (raw_reference name.0 struct) else None) s.struct) s.name
 
 -- the slot at an index holds no entry
-abbrev pub LacksEntryAt : List RawSlot → ℕ → Type 0
-LacksEntryAt slots index = (s : RawSlot) × ((slice_get slots index ≡ Some s) × (raw_slot_entry s ≡ None))
+abbrev pub IsNoEntryAt : List RawSlot → ℕ → Type 0
+IsNoEntryAt slots index = (s : RawSlot) × ((slice_get slots index ≡ Some s) × (raw_slot_entry s ≡ None))
 
 -- ---- one more entry
 
-abbrev pub vertex_with_branch : Vertex → Option ℕ → Vertex
-vertex_with_branch v None = record v { leads = false }
-vertex_with_branch v (Some i) = record v { branches = v.branches ++ i ∷ [] }
+abbrev pub vertex_with_subdirectory : Vertex → Option ℕ → Vertex
+vertex_with_subdirectory v None = record v { leads = false }
+vertex_with_subdirectory v (Some i) = record v { branches = v.branches ++ i ∷ [] }
 
 abbrev pub vertex_with_entry : List (ℕ × ℕ) → Vertex → EntryReference → Vertex
 vertex_with_entry firsts v InSlot = v
 vertex_with_entry firsts v (InList head size) = v
-vertex_with_entry firsts v (Below to) = vertex_with_branch v (address_index firsts to)
+vertex_with_entry firsts v (Below to) = vertex_with_subdirectory v (address_index firsts to)
 
 -- whether a name comes after the last one, which is empty if there is none
 abbrev pub comes_after_name : NameOrder → Name → Name → Bool

@@ -13,7 +13,7 @@ use Rattle.lfs_pair.specs.Pair.{header_address}
 use Rattle.lfs_thread.specs.Kept.{PairHeader, IsKeptOnDisk, header_pairs}
 use Rattle.lfs_thread.specs.PairPlaces.{blocks_of_addresses}
 use Rattle.lfs_mount.specs.Checked.{DescribesThread, IsDescribedThread}
-use Rattle.lfs_mount.specs.declared.pass.PairBeforeSlotsAreRead.{PairBeforeSlotsAreRead}
+use Rattle.lfs_mount.specs.declared.pass.DirectoryPairHeader.{DirectoryPairHeader}
 
 abbrev pub header_tail_hard : PairHeader → Bool
 header_tail_hard h = is_hard_tail (option_map tail_view h.tail)
@@ -22,8 +22,8 @@ header_tail_hard h = is_hard_tail (option_map tail_view h.tail)
 abbrev pub moved_id_at : Gstate → ℕ × ℕ → Option ℕ
 moved_id_at g at = if g.kind == 0x4ff && same_pair g.pair at then Some g.id else None
 
-abbrev pub header_description : Gstate → Bool → PairHeader → PairBeforeSlotsAreRead
-header_description g is_first h = record {
+abbrev pub description_of_header : Gstate → Bool → PairHeader → DirectoryPairHeader
+description_of_header g is_first h = record {
   at = h.blocks;
   active = h.active;
   is_hard = header_tail_hard h;
@@ -32,23 +32,23 @@ header_description g is_first h = record {
 }
 
 -- the descriptions of these pairs, of which the first has the superblock
-abbrev pub header_descriptions : Gstate → Bool → List PairHeader → List PairBeforeSlotsAreRead
+abbrev pub header_descriptions : Gstate → Bool → List PairHeader → List DirectoryPairHeader
 header_descriptions g is_first [] = []
-header_descriptions g is_first (h ∷ hs) = header_description g is_first h ∷ header_descriptions g false hs
+header_descriptions g is_first (h ∷ hs) = description_of_header g is_first h ∷ header_descriptions g false hs
 
 -- the addresses at which directories begin: those of pairs that no hard tail names
-abbrev pub directory_beginnings : Bool → List PairHeader → List (ℕ × ℕ)
-directory_beginnings begins [] = []
-directory_beginnings begins (h ∷ hs) = if begins then header_address h ∷ directory_beginnings (not (header_tail_hard h)) hs else directory_beginnings (not (header_tail_hard h)) hs
+abbrev pub directory_start_addresses_of : Bool → List PairHeader → List (ℕ × ℕ)
+directory_start_addresses_of begins [] = []
+directory_start_addresses_of begins (h ∷ hs) = if begins then header_address h ∷ directory_start_addresses_of (not (header_tail_hard h)) hs else directory_start_addresses_of (not (header_tail_hard h)) hs
 
 -- These are the headers of the directories' pairs in a described thread. No two directories begin in the same block.
 pub record AreThreadDirectories (disk : Disk) (sets : BlockStates) (g : Gstate) (headers : List PairHeader) : Type 0 where
-  pub apart : IsDistinct nat_eq (blocks_of_addresses (directory_beginnings true headers))
-  pub known : DescribesThread disk sets (directory_beginnings true headers) (header_descriptions g true headers) g.sync
+  pub apart : IsDistinct nat_eq (blocks_of_addresses (directory_start_addresses_of true headers))
+  pub known : DescribesThread disk sets (directory_start_addresses_of true headers) (header_descriptions g true headers) g.sync
 
 -- the thread with these headers
 abbrev pub IsHeaderThread : Disk → BlockStates → Gstate → List PairHeader → List Pair → Pair → List Pair → Type 0
-IsHeaderThread disk sets g headers chain p rest = IsDescribedThread disk sets (directory_beginnings true headers) (header_descriptions g true headers) g.sync chain p rest
+IsHeaderThread disk sets g headers chain p rest = IsDescribedThread disk sets (directory_start_addresses_of true headers) (header_descriptions g true headers) g.sync chain p rest
 
 -- A thread was read: its headers agree with the disk, and only its pairs' blocks are used in the map.
 pub record IsThreadRead (disk : Disk) (history : List CallEvent) (headers : List PairHeader) (sets : BlockStates) (g : Gstate) : Type 0 where

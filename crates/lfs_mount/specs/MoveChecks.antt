@@ -3,7 +3,7 @@ use Rattle.std.specs.Prelude.{ℕ, ◌≡◌, ◌==◌, ◌&&◌, ◌||◌, Bool
 use Rattle.std.specs.List.{AllByRecursion, fold}
 use Rattle.lfs_model.specs.format.Slots.{Gstate, Slot, gstate_xor, zero_gstate, same_pair}
 use Rattle.lfs_model.specs.format.Thread.{Pair, pairs_gstate, count_before_root, moved_id}
-use Rattle.lfs_model.specs.tree.View.{IsTreeEntry}
+use Rattle.lfs_model.specs.tree.View.{IsFileOrDirectory}
 use Rattle.lfs_tag.specs.FieldsView.{move_view}
 use Rattle.lfs_pair.specs.Pair.{header_address}
 use Rattle.lfs_thread.specs.Kept.{PairHeader}
@@ -18,19 +18,19 @@ is_among_addresses pair [] = false
 is_among_addresses pair (at ∷ ats) = same_pair pair at || is_among_addresses pair ats
 
 -- whether no move is set, or one of a slot in one of the pairs at these addresses
-abbrev pub is_move_inside : Gstate → List (ℕ × ℕ) → Bool
-is_move_inside g ats = (g.kind == 0 && g.id == 0 && (g.pair.0 == 0 && g.pair.1 == 0)) || (g.kind == 0x4ff && is_among_addresses g.pair ats)
+abbrev pub is_move_within_pairs : Gstate → List (ℕ × ℕ) → Bool
+is_move_within_pairs g ats = (g.kind == 0 && g.id == 0 && (g.pair.0 == 0 && g.pair.1 == 0)) || (g.kind == 0x4ff && is_among_addresses g.pair ats)
 
 -- these are the headers of the directories' pairs in a thread with that global state
-pub record HaveGstate (g : Gstate) (headers : List PairHeader) (chain : List Pair) (p : Pair) (rest : List Pair) : Type 0 where
+pub record HeadersHaveGstate (g : Gstate) (headers : List PairHeader) (chain : List Pair) (p : Pair) (rest : List Pair) : Type 0 where
   pub at : map (λ q. q.at) (p ∷ rest) ≡ map header_address headers
   pub global : pairs_gstate (chain ++ p ∷ rest) ≡ g
   pub chain_is : count_before_root (chain ++ p ∷ rest) ≡ length chain
 
-abbrev pub IsEntryOrNone : Option ℕ → List Slot → Type 0
-IsEntryOrNone None slots = Unit {0}
-IsEntryOrNone (Some id) slots = (t : Slot) × ((slice_get slots id ≡ Some t) × IsTreeEntry t)
+abbrev pub MovedSlotIsEntry : Option ℕ → List Slot → Type 0
+MovedSlotIsEntry None slots = Unit {0}
+MovedSlotIsEntry (Some id) slots = (t : Slot) × ((slice_get slots id ≡ Some t) × IsFileOrDirectory t)
 
 -- the slot that a set move names is an entry of its pair
-abbrev pub NamesMovedEntry : Gstate → List Pair → Type 0
-NamesMovedEntry g ps = AllByRecursion (λ p. IsEntryOrNone (moved_id g p) p.content.slots) ps
+abbrev pub MoveSourceIsEntry : Gstate → List Pair → Type 0
+MoveSourceIsEntry g ps = AllByRecursion (λ p. MovedSlotIsEntry (moved_id g p) p.content.slots) ps

@@ -5,6 +5,6 @@ use Rattle.lfs_thread.specs.declared.mount_error.MountError.{MountError}
 use Rattle.lfs_thread.specs.declared.mount_error.MountError.TheVariants as mount
 
 -- if the error names a broken rule, the disk breaks it
-abbrev pub IsTrueViolation : Disk → MountError → Type 0
-IsTrueViolation disk (mount.Corrupt violation) = Breaks disk violation
-IsTrueViolation disk _ = Unit {0}
+abbrev pub ReportsActualViolation : Disk → MountError → Type 0
+ReportsActualViolation disk (mount.Corrupt violation) = Breaks disk violation
+ReportsActualViolation disk _ = Unit {0}

@@ -2,7 +2,7 @@
 
 ghost use Rattle.std.specs.Prelude.{ℕ, Err, List, ◌≡◌, ◌≤◌, ◌<◌, ◌+◌, ◌%◌, ◌++◌, ◌∷◌, drop, length, sum_by, true, IfErr, IfNone, IfOk, IfSome, None, OnOk};
 ghost use Rattle.lfs_blocks.specs.Next.{IsNextFree};
-ghost use Rattle.lfs_model.specs.format.Disk.{ordered_disk};
+ghost use Rattle.lfs_model.specs.format.Disk.{disk_with_order};
 ghost use Rattle.lfs_model.specs.layers.BlockSets.{IsFree};
 ghost use Rattle.lfs_model.specs.session.History.{read_count};
 ghost use Rattle.lfs_model.specs.format.Thread.{Pair as ThreadPair, count_before_root};
@@ -15,11 +15,11 @@ ghost use Rattle.lfs_tag.specs.FieldsView.{move_view};
 ghost use Rattle.lfs_thread.specs.ThreadDevice.{GivesDeviceBack};
 ghost use Rattle.lfs_thread.specs.Kept.{disk_of_device, header_pairs};
 ghost use Rattle.lfs_thread.specs.MountErrors.{ReadsReportingFaults, error_of_mount};
-ghost use Rattle.lfs_mount.specs.Accepted.{IsHeadersVerdict, IsThreadVerdict};
-ghost use Rattle.lfs_mount.specs.TrueViolation.{IsTrueViolation};
+ghost use Rattle.lfs_mount.specs.Accepted.{IsHeaderCheckResult, IsThreadCheckResult};
+ghost use Rattle.lfs_mount.specs.TrueViolation.{ReportsActualViolation};
 ghost use Rattle.lfs_mount.specs.Members.{AreThreadDirectories, IsThreadRead, IsHeaderThread, header_descriptions};
 ghost use Rattle.lfs_mount.specs.Orders.{violation_in_order};
-ghost use Rattle.lfs_mount.specs.ReadImage.{ReadsLikeMount, IsAcceptedIn, IsMountedImage};
+ghost use Rattle.lfs_mount.specs.ReadImage.{ReadsAtMostMount, IsReadImage, IsMountedImage};
 ghost use Rattle.lfs_mount.specs.MountFaults.{MountMayReport};
 ghost use Rattle.lfs_mount.specs.MountReads.{check_reads, pair_reads};
 ghost use Rattle.lfs_mount.specs.Start.{allocation_seed, image_seed, mixed_seed};
@@ -55,16 +55,16 @@ use std::alloc::Global;
 /// returns the device.
 pub fn mount<D: BlockDevice>(alloc: Global, device: D) -> Result<CheckedImage<D>, (D, MountError)>
     ensures mounted { IfOk result (λ m. IsMountedImage (disk_of_device D.BlockDevice device) (D.history device) m.thread m.findings) }
-    ensures longer { IfOk result (λ m. m.thread.kept.disk.order ≡ ShorterFirst → (ps : List ThreadPair) → ¬ IsAccepted (ordered_disk LongerFirst (disk_of_device D.BlockDevice device)) ps) }
-    ensures broken { IfErr result (λ e. IsTrueViolation (ordered_disk LongerFirst (disk_of_device D.BlockDevice device)) e.1) }
-    ensures corrupt { IfErr result (λ e. error_of_mount e.1 ≡ Error.Corrupt → (order : NameOrder) (ps : List ThreadPair) → ¬ IsAccepted (ordered_disk order (disk_of_device D.BlockDevice device)) ps) }
+    ensures longer { IfOk result (λ m. m.thread.kept.disk.order ≡ ShorterFirst → (ps : List ThreadPair) → ¬ IsAccepted (disk_with_order LongerFirst (disk_of_device D.BlockDevice device)) ps) }
+    ensures broken { IfErr result (λ e. ReportsActualViolation (disk_with_order LongerFirst (disk_of_device D.BlockDevice device)) e.1) }
+    ensures corrupt { IfErr result (λ e. error_of_mount e.1 ≡ Error.Corrupt → (order : NameOrder) (ps : List ThreadPair) → ¬ IsAccepted (disk_with_order order (disk_of_device D.BlockDevice device)) ps) }
     ensures back { IfErr result (λ e. GivesDeviceBack D.BlockDevice device e.0 (error_of_mount e.1)) }
     // At most the reads of each pair's fetch, one more read for each pair, two further reads, and
     // one read for each block of a file's list.
-    ensures few { IfOk result (λ m. ReadsLikeMount (disk_of_device D.BlockDevice device) (D.history device) m.thread) }
+    ensures few { IfOk result (λ m. ReadsAtMostMount (disk_of_device D.BlockDevice device) (D.history device) m.thread) }
 {
     let mut image = read_and_check(alloc, device)?;
-    match image.findings.violations.preferred() {
+    match image.findings.violations.preferred_accepted_order() {
         Ok(order) => {
             image.thread.set_order(order);
             Ok(image)
@@ -79,11 +79,11 @@ pub fn mount<D: BlockDevice>(alloc: Global, device: D) -> Result<CheckedImage<D>
 /// Errors are those of [`mount`], except that `Corrupt` doesn't contain the broken rule.
 pub fn mount_image<D: BlockDevice>(alloc: Global, device: D) -> Result<CheckedImage<D>, (D, Error)>
     ensures mounted { IfOk result (λ m. IsMountedImage (disk_of_device D.BlockDevice device) (D.history device) m.thread m.findings) }
-    ensures longer { IfOk result (λ m. m.thread.kept.disk.order ≡ ShorterFirst → (ps : List ThreadPair) → ¬ IsAccepted (ordered_disk LongerFirst (disk_of_device D.BlockDevice device)) ps) }
-    ensures corrupt { IfErr result (λ e. e.1 ≡ Error.Corrupt → (order : NameOrder) (ps : List ThreadPair) → ¬ IsAccepted (ordered_disk order (disk_of_device D.BlockDevice device)) ps) }
+    ensures longer { IfOk result (λ m. m.thread.kept.disk.order ≡ ShorterFirst → (ps : List ThreadPair) → ¬ IsAccepted (disk_with_order LongerFirst (disk_of_device D.BlockDevice device)) ps) }
+    ensures corrupt { IfErr result (λ e. e.1 ≡ Error.Corrupt → (order : NameOrder) (ps : List ThreadPair) → ¬ IsAccepted (disk_with_order order (disk_of_device D.BlockDevice device)) ps) }
     ensures errors { IfErr result (λ e. MountMayReport e.1) }
     ensures back { IfErr result (λ e. GivesDeviceBack D.BlockDevice device e.0 e.1) }
-    ensures few { IfOk result (λ m. ReadsLikeMount (disk_of_device D.BlockDevice device) (D.history device) m.thread) }
+    ensures few { IfOk result (λ m. ReadsAtMostMount (disk_of_device D.BlockDevice device) (D.history device) m.thread) }
 {
     match mount(alloc, device) {
         Ok(image) => Ok(image),
@@ -101,8 +101,8 @@ pub fn read_and_check<D: BlockDevice>(
     alloc: Global,
     device: D,
 ) -> Result<CheckedImage<D>, (D, MountError)>
-    ensures read { IfOk result (λ m. IsAcceptedIn (disk_of_device D.BlockDevice device) (D.history device) m.thread m.findings) }
-    ensures broken { IfErr result (λ e. (order : NameOrder) → IsTrueViolation (ordered_disk order (disk_of_device D.BlockDevice device)) e.1) }
+    ensures read { IfOk result (λ m. IsReadImage (disk_of_device D.BlockDevice device) (D.history device) m.thread m.findings) }
+    ensures broken { IfErr result (λ e. (order : NameOrder) → ReportsActualViolation (disk_with_order order (disk_of_device D.BlockDevice device)) e.1) }
     ensures back { IfErr result (λ e. GivesDeviceBack D.BlockDevice device e.0 (error_of_mount e.1)) }
 {
     let thread = Thread::read(alloc, device)?;
@@ -135,8 +135,8 @@ fn check_image<D: BlockDevice>(
 ) -> Result<ImageFindings, MountError>
     requires { IsThreadRead (disk_of_device D.BlockDevice device.old) (D.history device.old) pairs.now map.old (move_view state.now) }
     ensures root { IfOk result (λ found. found.root ≡ count_before_root (header_pairs (disk_of_device D.BlockDevice device.old) pairs.now)) }
-    ensures image { IfOk result (λ found. (order : NameOrder) → IsHeadersVerdict (ordered_disk order (disk_of_device D.BlockDevice device.old)) pairs.now (violation_in_order order found.violations) map.old map.new) }
-    ensures broken { (v : Violation) → result ≡ Err (MountError.Corrupt v) → (order : NameOrder) → Breaks (ordered_disk order (disk_of_device D.BlockDevice device.old)) v }
+    ensures image { IfOk result (λ found. (order : NameOrder) → IsHeaderCheckResult (disk_with_order order (disk_of_device D.BlockDevice device.old)) pairs.now (violation_in_order order found.violations) map.old map.new) }
+    ensures broken { (v : Violation) → result ≡ Err (MountError.Corrupt v) → (order : NameOrder) → Breaks (disk_with_order order (disk_of_device D.BlockDevice device.old)) v }
     ensures device { ReadsReportingFaults D.BlockDevice device.old device.new result }
     ensures few { IfOk result (λ found. (order : NameOrder) → violation_in_order order found.violations ≡ None
         → read_count (D.history device.new) ≤ read_count (D.history device.old) + check_reads (disk_of_device D.BlockDevice device.old) (header_pairs (disk_of_device D.BlockDevice device.old) pairs.now)) }
@@ -145,7 +145,7 @@ fn check_image<D: BlockDevice>(
     let directories = pairs_from_index(pairs, root);
     check_move(state, directories)?;
     let violations = check_directories(alloc, device, map, directories, state)?;
-    start_allocation_elsewhere(map, pairs, device.geometry().profile.search_seed);
+    seed_allocation_start(map, pairs, device.geometry().profile.search_seed);
     Ok(ImageFindings { root, violations })
 }
 
@@ -173,7 +173,7 @@ fn mixed_seed(number: u32) -> u32
 
 // Makes the map's next allocation begin at another block after each mount, so that wear spreads.
 // Returns that block. The profile's seed `own` is mixed into the choice.
-fn start_allocation_elsewhere(map: &mut BlockMap, pairs: &[Pair], own: u32) -> Option<u32>
+fn seed_allocation_start(map: &mut BlockMap, pairs: &[Pair], own: u32) -> Option<u32>
     ensures next { IfSome result (IsNextFree map.old (allocation_seed own map.old pairs.now % length map.old)) }
     ensures none { IfNone result ((block : ℕ) → ¬ (IsFree map.old block)) }
     ensures same { map.new ≡ map.old }
@@ -201,11 +201,11 @@ fn check_directories<D: BlockDevice>(
 ) -> Result<OrderViolations, MountError>
     requires { AreThreadDirectories (disk_of_device D.BlockDevice device.old) map.old (move_view state.now) pairs.now }
     ensures ok { IfOk result (λ found. (order : NameOrder) (chain : List ThreadPair) (p : ThreadPair) (rest : List ThreadPair)
-        → IsHeaderThread (ordered_disk order (disk_of_device D.BlockDevice device.old)) map.old (move_view state.now) pairs.now chain p rest
-        → IsThreadVerdict (ordered_disk order (disk_of_device D.BlockDevice device.old)) (violation_in_order order found) map.old map.new chain p rest) }
+        → IsHeaderThread (disk_with_order order (disk_of_device D.BlockDevice device.old)) map.old (move_view state.now) pairs.now chain p rest
+        → IsThreadCheckResult (disk_with_order order (disk_of_device D.BlockDevice device.old)) (violation_in_order order found) map.old map.new chain p rest) }
     ensures broken { (v : Violation) → result ≡ Err (MountError.Corrupt v) → (order : NameOrder) (chain : List ThreadPair) (p : ThreadPair) (rest : List ThreadPair)
-        → IsHeaderThread (ordered_disk order (disk_of_device D.BlockDevice device.old)) map.old (move_view state.now) pairs.now chain p rest
-        → PairsBreak (ordered_disk order (disk_of_device D.BlockDevice device.old)) (chain ++ p ∷ rest) v }
+        → IsHeaderThread (disk_with_order order (disk_of_device D.BlockDevice device.old)) map.old (move_view state.now) pairs.now chain p rest
+        → PairsBreak (disk_with_order order (disk_of_device D.BlockDevice device.old)) (chain ++ p ∷ rest) v }
     ensures device { ReadsReportingFaults D.BlockDevice device.old device.new result }
     ensures few { OnOk result (read_count (D.history device.new) ≤ read_count (D.history device.old) + sum_by (pair_reads (disk_of_device D.BlockDevice device.old)) (header_descriptions (move_view state.now) true pairs.now)) }
 {

@@ -1,21 +1,21 @@
 // The check of a thread's slots and directories.
 
 ghost use Rattle.std.specs.Prelude.{Err, List, ◌≡◌, ◌≤◌, ◌+◌, ◌++◌, ◌∷◌, IfOk, OnOk, sum_by};
-ghost use Rattle.lfs_model.specs.format.Disk.{ordered_disk};
+ghost use Rattle.lfs_model.specs.format.Disk.{disk_with_order};
 ghost use Rattle.lfs_model.specs.session.History.{read_count};
 ghost use Rattle.lfs_model.specs.format.Thread.{Pair};
 ghost use Rattle.lfs_model.specs.layers.Violations.{PairsBreak};
 ghost use Rattle.lfs_model.specs.declared.order.NameOrder.{NameOrder};
 ghost use Rattle.lfs_model.specs.declared.violations.Violation.{Violation};
 ghost use Rattle.lfs_mount.specs.Checked.{DescribesThread, IsDescribedThread};
-ghost use Rattle.lfs_mount.specs.Accepted.{IsThreadVerdict};
+ghost use Rattle.lfs_mount.specs.Accepted.{IsThreadCheckResult};
 ghost use Rattle.lfs_thread.specs.Kept.{disk_of_device};
 ghost use Rattle.lfs_thread.specs.MountErrors.{ReadsReportingFaults};
 ghost use Rattle.lfs_mount.specs.Orders.{violation_in_order};
 ghost use Rattle.lfs_mount.specs.MountReads.{pair_reads};
 
 use crate::orders::OrderViolations;
-use crate::pass::{PairBeforeSlotsAreRead, scan_pairs};
+use crate::pass::{DirectoryPairHeader, scan_pairs};
 use crate::reachability::find_directory_violations;
 use lfs_blocks::BlockMap;
 use lfs_device::BlockDevice;
@@ -43,16 +43,16 @@ pub(crate) fn check_thread<D: BlockDevice>(
     device: &mut D,
     map: &mut BlockMap,
     places: &PairAddressList,
-    members: &[PairBeforeSlotsAreRead],
+    members: &[DirectoryPairHeader],
     sync: bool,
 ) -> Result<OrderViolations, MountError>
     requires { DescribesThread (disk_of_device D.BlockDevice device.old) map.old places.now members.now sync }
     ensures ok { IfOk result (λ found. (order : NameOrder) (chain : List Pair) (p : Pair) (rest : List Pair)
-        → IsDescribedThread (ordered_disk order (disk_of_device D.BlockDevice device.old)) map.old places.now members.now sync chain p rest
-        → IsThreadVerdict (ordered_disk order (disk_of_device D.BlockDevice device.old)) (violation_in_order order found) map.old map.new chain p rest) }
+        → IsDescribedThread (disk_with_order order (disk_of_device D.BlockDevice device.old)) map.old places.now members.now sync chain p rest
+        → IsThreadCheckResult (disk_with_order order (disk_of_device D.BlockDevice device.old)) (violation_in_order order found) map.old map.new chain p rest) }
     ensures broken { (v : Violation) → result ≡ Err (MountError.Corrupt v) → (order : NameOrder) (chain : List Pair) (p : Pair) (rest : List Pair)
-        → IsDescribedThread (ordered_disk order (disk_of_device D.BlockDevice device.old)) map.old places.now members.now sync chain p rest
-        → PairsBreak (ordered_disk order (disk_of_device D.BlockDevice device.old)) (chain ++ p ∷ rest) v }
+        → IsDescribedThread (disk_with_order order (disk_of_device D.BlockDevice device.old)) map.old places.now members.now sync chain p rest
+        → PairsBreak (disk_with_order order (disk_of_device D.BlockDevice device.old)) (chain ++ p ∷ rest) v }
     ensures device { ReadsReportingFaults D.BlockDevice device.old device.new result }
     // One read for each pair, and the reads of the files' lists.
     ensures few { OnOk result (read_count (D.history device.new) ≤ read_count (D.history device.old) + sum_by (pair_reads (disk_of_device D.BlockDevice device.old)) members.now) }

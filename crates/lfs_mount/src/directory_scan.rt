@@ -8,7 +8,7 @@ ghost use Rattle.lfs_mount.specs.EntryView.{entry_view};
 ghost use Rattle.lfs_mount.specs.Orders.{includes_order};
 ghost use Rattle.lfs_mount.specs.Scanned.{scan_after_slots};
 
-use crate::entry::{NamedStruct, tree_entry_in};
+use crate::entry::{NamedStruct, slot_named_struct};
 use crate::orders::NameOrderSet;
 use crate::reachability::Directory;
 use lfs_device::Error;
@@ -26,7 +26,7 @@ fn comes_after_name(order: NameOrder, last: &[u8], name: &[u8]) -> bool
 }
 
 // Returns the orders of names in which `name` comes after the name `last`.
-fn orders_after(last: &[u8], name: &[u8]) -> NameOrderSet
+fn ascending_name_orders(last: &[u8], name: &[u8]) -> NameOrderSet
     ensures { (order : NameOrder) → includes_order order result ≡ comes_after_name order last.now name.now }
 {
     NameOrderSet {
@@ -80,7 +80,7 @@ impl ScannedDirectory {
         ensures ok { OnOk result ((order : NameOrder) → scan_view order self.new ≡ scan_with_entry order places.now (scan_view order self.old) (entry_view entry.now)) }
         ensures error { IfErr result (λ e. e ≡ Error.NoMemory) }
     {
-        let rises = orders_after(&self.last, entry.name);
+        let rises = ascending_name_orders(&self.last, entry.name);
         self.directory.rises_in = self.directory.rises_in.intersect(rises);
         self.set_last_name(entry.name)?;
         if let Struct::Branch(pair) = entry.target {
@@ -114,7 +114,7 @@ impl ScannedDirectory {
         ensures errors { IfErr result (λ e. (e ≡ Error.Corrupt) ⊎ (e ≡ Error.NoMemory)) }
     {
         for slot in slots {
-            let Some(entry) = tree_entry_in(slot) else {
+            let Some(entry) = slot_named_struct(slot) else {
                 return Err(Error::Corrupt);
             };
             self.add_directory_entry(places, &entry)?;

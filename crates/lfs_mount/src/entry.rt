@@ -4,7 +4,7 @@ ghost use Rattle.std.specs.Prelude.{ℕ, ◌≡◌, ◌≤◌, is_some, length, 
 ghost use Rattle.std.specs.Option.{option_map};
 ghost use Rattle.lfs_tag.specs.ContentView.{part_view, slot_view};
 ghost use Rattle.lfs_tag.specs.StructView.{struct_view};
-ghost use Rattle.lfs_mount.specs.DirectoryEntries.{LacksEntryAt, raw_slot_entry, raw_reference, struct_reference};
+ghost use Rattle.lfs_mount.specs.DirectoryEntries.{IsNoEntryAt, raw_slot_entry, raw_reference, struct_reference};
 ghost use Rattle.lfs_mount.specs.EntryView.{entry_view};
 
 use lfs_tag::{NameOrStruct, Slot, SlotNameKind, Struct, is_name};
@@ -17,7 +17,10 @@ pub(crate) struct NamedStruct<'a> {
 }
 
 // Returns the decoded struct if its type fits the type of the name.
-fn suited_struct<'a>(name: &NameOrStruct<'_>, structure: &NameOrStruct<'a>) -> Option<Struct<'a>>
+fn struct_matching_name<'a>(
+    name: &NameOrStruct<'_>,
+    structure: &NameOrStruct<'a>,
+) -> Option<Struct<'a>>
     ensures { option_map (λ s. struct_reference (struct_view s)) result ≡ raw_reference name.now.kind (part_view structure.now) }
 {
     let Some(target) = Struct::of(structure) else {
@@ -34,7 +37,7 @@ fn suited_struct<'a>(name: &NameOrStruct<'_>, structure: &NameOrStruct<'a>) -> O
 // Returns the entry in a slot of a directory (SPEC.md of littlefs, "Metadata types"). Returns None
 // if and only if the slot lacks a name that a directory may have, or a struct that fits the type of
 // the name.
-pub(crate) fn tree_entry_in<'a>(slot: &Slot<'a>) -> Option<NamedStruct<'a>>
+pub(crate) fn slot_named_struct<'a>(slot: &Slot<'a>) -> Option<NamedStruct<'a>>
     ensures { option_map entry_view result ≡ raw_slot_entry (slot_view slot.now) }
 {
     let (Some(name), Some(structure)) = (slot.name, slot.structure) else {
@@ -43,7 +46,7 @@ pub(crate) fn tree_entry_in<'a>(slot: &Slot<'a>) -> Option<NamedStruct<'a>>
     if !is_name(name.bytes) {
         return None;
     }
-    match suited_struct(&name, &structure) {
+    match struct_matching_name(&name, &structure) {
         Some(target) => Some(NamedStruct {
             name: name.bytes,
             target,
@@ -52,20 +55,20 @@ pub(crate) fn tree_entry_in<'a>(slot: &Slot<'a>) -> Option<NamedStruct<'a>>
     }
 }
 
-pub(crate) fn is_tree_entry(slot: &Slot<'_>) -> bool
+pub(crate) fn is_file_or_directory(slot: &Slot<'_>) -> bool
     ensures { result ≡ is_some (raw_slot_entry (slot_view slot.now)) }
 {
-    tree_entry_in(slot).is_some()
+    slot_named_struct(slot).is_some()
 }
 
 // Returns the index of the first slot that has no valid entry. Returns the number of slots if all
 // of them have valid entries.
-pub(crate) fn first_non_entry(slots: &[Slot<'_>]) -> usize
-    ensures holds { (other : ℕ) → LacksEntryAt (map slot_view slots.now) other → LacksEntryAt (map slot_view slots.now) result }
+pub(crate) fn first_invalid_slot(slots: &[Slot<'_>]) -> usize
+    ensures holds { (other : ℕ) → IsNoEntryAt (map slot_view slots.now) other → IsNoEntryAt (map slot_view slots.now) result }
     ensures within { result ≤ length slots.now }
 {
     for index in 0..slots.len() {
-        if !is_tree_entry(&slots[index]) {
+        if !is_file_or_directory(&slots[index]) {
             return index;
         }
     }

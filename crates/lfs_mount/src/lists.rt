@@ -10,15 +10,15 @@ ghost use Rattle.lfs_model.specs.declared.violations.Violation.{Violation};
 ghost use Rattle.lfs_thread.specs.Kept.{disk_of_device};
 ghost use Rattle.lfs_thread.specs.MountErrors.{ReadsReportingFaults};
 ghost use Rattle.lfs_thread.specs.declared.mount_error.MountError.TheVariants.{Corrupt};
-ghost use Rattle.lfs_mount.specs.Broken.{BreaksEntryList, BreaksList};
+ghost use Rattle.lfs_mount.specs.Broken.{HasInvalidOrSharedList, IsInvalidOrSharedList};
 ghost use Rattle.lfs_mount.specs.DirectoryEntries.{raw_slot_entry};
 ghost use Rattle.lfs_mount.specs.ListsView.{lists_view, raw_slots_view};
-ghost use Rattle.lfs_mount.specs.Marking.{MarksList, MarksLists, MarksIfFree, list_of_entry};
+ghost use Rattle.lfs_mount.specs.Marking.{MarksListBlocksUsed, MarksAllListsUsed, MarksBlockIfFree, list_head_and_size};
 ghost use Rattle.lfs_mount.specs.MountReads.{list_reads};
 ghost use Rattle.lfs_tag.specs.ContentView.{slot_view};
 
-use crate::entry::tree_entry_in;
-use crate::pass::PairBeforeSlotsAreRead;
+use crate::entry::slot_named_struct;
+use crate::pass::DirectoryPairHeader;
 use lfs_blocks::BlockMap;
 use lfs_device::BlockDevice;
 use lfs_file::walk;
@@ -49,8 +49,8 @@ fn mark_slot_list<D: BlockDevice>(
     slot: u32,
     list: (u32, u32),
 ) -> Result<(), MountError>
-    ensures marked { OnOk result (MarksList (disk_of_device D.BlockDevice device.old) map.old list map.new) }
-    ensures broken { (v : Violation) → result ≡ Err (Corrupt v) → BreaksList (disk_of_device D.BlockDevice device.old) map.old list pair slot v }
+    ensures marked { OnOk result (MarksListBlocksUsed (disk_of_device D.BlockDevice device.old) map.old list map.new) }
+    ensures broken { (v : Violation) → result ≡ Err (Corrupt v) → IsInvalidOrSharedList (disk_of_device D.BlockDevice device.old) map.old list pair slot v }
     ensures reading { ReadsReportingFaults D.BlockDevice device.old device.new result }
     ensures few { OnOk result (read_count (D.history device.new) ≤ read_count (D.history device.old) + list_reads (D.geometry device.old).block_size list) }
 {
@@ -60,7 +60,7 @@ fn mark_slot_list<D: BlockDevice>(
         list.0,
         list.1,
         &mut |block: u32|
-            ensures { MarksIfFree map.entry.now taken.entry block map.exit.now taken.exit }
+            ensures { MarksBlockIfFree map.entry.now taken.entry block map.exit.now taken.exit }
         {
             if !mark_if_free(map, block) && taken.is_none() {
                 taken = Some(block);
@@ -79,9 +79,9 @@ fn mark_slot_list<D: BlockDevice>(
 // Returns the last block and the size in bytes of the list in a slot's entry. Returns None if the
 // entry has no list.
 fn list_of_slot(slot: &Slot<'_>) -> Option<(u32, u32)>
-    ensures { result ≡ option_and_then list_of_entry (raw_slot_entry (slot_view slot.now)) }
+    ensures { result ≡ option_and_then list_head_and_size (raw_slot_entry (slot_view slot.now)) }
 {
-    let Some(entry) = tree_entry_in(slot) else {
+    let Some(entry) = slot_named_struct(slot) else {
         return None;
     };
     match entry.target {
@@ -98,18 +98,18 @@ fn list_of_slot(slot: &Slot<'_>) -> Option<(u32, u32)>
 pub(crate) fn mark_slot_lists<D: BlockDevice>(
     device: &mut D,
     map: &mut BlockMap,
-    member: &PairBeforeSlotsAreRead,
+    member: &DirectoryPairHeader,
     slots: &[Slot<'_>],
 ) -> Result<(), MountError>
     requires { length slots.now < 2 ^ 31 }
-    ensures marked { OnOk result (MarksLists (disk_of_device D.BlockDevice device.old) map.old (lists_view slots.now) map.new) }
-    ensures broken { (v : Violation) → result ≡ Err (Corrupt v) → BreaksEntryList (disk_of_device D.BlockDevice device.old) member.now map.old (raw_slots_view slots.now) v }
+    ensures marked { OnOk result (MarksAllListsUsed (disk_of_device D.BlockDevice device.old) map.old (lists_view slots.now) map.new) }
+    ensures broken { (v : Violation) → result ≡ Err (Corrupt v) → HasInvalidOrSharedList (disk_of_device D.BlockDevice device.old) member.now map.old (raw_slots_view slots.now) v }
     ensures reading { ReadsReportingFaults D.BlockDevice device.old device.new result }
     ensures few { OnOk result (read_count (D.history device.new) ≤ read_count (D.history device.old) + sum_by (list_reads (D.geometry device.old).block_size) (lists_view slots.now)) }
 {
     for index in 0..slots.len() {
         if let Some(list) = list_of_slot(&slots[index]) {
-            let number = member.entry_slot_number(index);
+            let number = member.entry_slot_id(index);
             mark_slot_list(device, map, member.at, number, list)?;
         }
     }

@@ -2,12 +2,12 @@
 
 ghost use Rattle.std.specs.Prelude.{◌≡◌, IfErr, IfOk, nat_eq, true};
 ghost use Rattle.std.specs.List.{IsDistinct};
-ghost use Rattle.lfs_model.specs.format.Slots.{address_view};
+ghost use Rattle.lfs_model.specs.format.Slots.{address_of_array};
 ghost use Rattle.lfs_tag.specs.FieldsView.{move_view};
 ghost use Rattle.lfs_thread.specs.PairPlaces.{blocks_of_addresses};
-ghost use Rattle.lfs_mount.specs.Members.{directory_beginnings, header_description, header_descriptions, moved_id_at};
+ghost use Rattle.lfs_mount.specs.Members.{directory_start_addresses_of, description_of_header, header_descriptions, moved_id_at};
 
-use crate::pass::PairBeforeSlotsAreRead;
+use crate::pass::DirectoryPairHeader;
 use lfs_device::Error;
 use lfs_pair::{Pair, is_same_pair};
 use lfs_tag::kinds::DELETE;
@@ -18,7 +18,7 @@ use std::alloc::Global;
 // Returns the id of the slot to which a pending move refers, if that slot is in the pair at address
 // `at`.
 fn moved_slot_at(state: &MoveState, at: [u32; 2]) -> Option<u32>
-    ensures { result ≡ moved_id_at (move_view state.now) (address_view at) }
+    ensures { result ≡ moved_id_at (move_view state.now) (address_of_array at) }
 {
     if state.kind == DELETE && is_same_pair(state.pair, at) {
         Some(u32::from(state.id))
@@ -27,10 +27,10 @@ fn moved_slot_at(state: &MoveState, at: [u32; 2]) -> Option<u32>
     }
 }
 
-fn describe_header(state: &MoveState, is_first: bool, pair: &Pair) -> PairBeforeSlotsAreRead
-    ensures { result ≡ header_description (move_view state.now) is_first pair.now }
+fn to_pair_description(state: &MoveState, is_first: bool, pair: &Pair) -> DirectoryPairHeader
+    ensures { result ≡ description_of_header (move_view state.now) is_first pair.now }
 {
-    PairBeforeSlotsAreRead {
+    DirectoryPairHeader {
         at: pair.blocks,
         active: pair.active,
         is_hard: has_hard_tail(pair.tail),
@@ -44,14 +44,14 @@ pub(crate) fn describe_headers(
     alloc: Global,
     state: &MoveState,
     pairs: &[Pair],
-) -> Result<Vec<PairBeforeSlotsAreRead>, Error>
+) -> Result<Vec<DirectoryPairHeader>, Error>
     ensures members { IfOk result (λ members. members.items ≡ header_descriptions (move_view state.now) true pairs.now) }
     ensures error { IfErr result (λ e. e ≡ Error.NoMemory) }
 {
     let mut members = Vec::new(alloc);
     for pair in pairs {
         let is_first = members.is_empty();
-        members.push(describe_header(state, is_first, pair))?;
+        members.push(to_pair_description(state, is_first, pair))?;
     }
     Ok(members)
 }
@@ -62,8 +62,8 @@ pub(crate) fn directory_start_addresses(
     alloc: Global,
     pairs: &[Pair],
 ) -> Result<PairAddressList, Error>
-    requires { IsDistinct nat_eq (blocks_of_addresses (directory_beginnings true pairs.now)) }
-    ensures places { IfOk result (λ places. places ≡ directory_beginnings true pairs.now) }
+    requires { IsDistinct nat_eq (blocks_of_addresses (directory_start_addresses_of true pairs.now)) }
+    ensures places { IfOk result (λ places. places ≡ directory_start_addresses_of true pairs.now) }
     ensures error { IfErr result (λ e. e ≡ Error.NoMemory) }
 {
     let mut places = PairAddressList::new(alloc);

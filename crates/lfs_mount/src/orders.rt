@@ -59,7 +59,7 @@ impl OrderViolations {
     ///
     /// Errors: the rule that the image breaks in the order with the longer name first, if the image
     /// is accepted in neither order.
-    pub fn preferred(self) -> Result<NameOrder, Violation>
+    pub fn preferred_accepted_order(self) -> Result<NameOrder, Violation>
         ensures kept { IfOk result (λ order. violation_in_order order self ≡ None) }
         ensures longer { result ≡ Ok ShorterFirst → is_some (violation_in_order LongerFirst self) ≡ true }
         ensures broken { IfErr result (λ violation. violation_in_order LongerFirst self ≡ Some violation) }

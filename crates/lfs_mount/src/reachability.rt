@@ -1,13 +1,13 @@
 // The search for the directories to which a path from the root leads.
 
 ghost use Rattle.std.specs.Prelude.{◌≡◌, ◌++◌, ◌<◌, All, Bool, Err, IfErr, IfOk, IfSome, IsErrOf, None, Ok, Some, false, length, map, slice_get, true};
-ghost use Rattle.lfs_model.specs.format.Slots.{address_view};
+ghost use Rattle.lfs_model.specs.format.Slots.{address_of_array};
 ghost use Rattle.lfs_model.specs.declared.order.NameOrder.{NameOrder};
 ghost use Rattle.lfs_model.specs.declared.violations.Violation.{Violation};
-ghost use Rattle.lfs_mount.specs.Directories.{IsTreeOrViolation, BreaksGraphRule};
+ghost use Rattle.lfs_mount.specs.Directories.{IsDirectoryTreeOrViolation, BreaksGraphRule};
 ghost use Rattle.lfs_mount.specs.DirectoryView.{graph_view};
 ghost use Rattle.lfs_mount.specs.Orders.{violation_in_order};
-ghost use Rattle.lfs_mount.specs.Reaching.{AreFoundMarks, AreReachedMarks, FindsDirectories, IsRepeated};
+ghost use Rattle.lfs_mount.specs.Reaching.{AreVisitedMarks, AreReachedMarks, VisitsNewDirectories, OccursTwice};
 
 use crate::orders::{NameOrderSet, OrderViolations};
 use lfs_model::{NameOrder, Violation};
@@ -26,15 +26,15 @@ pub(crate) struct Directory {
 }
 
 // Marks the given directories as found. Returns the first one that was already marked, if any.
-fn mark_branches_found(
+fn mark_subdirectories_visited(
     is_found: &mut Vec<bool>,
     found: &mut Vec<u32>,
     branches: &[u32],
 ) -> Result<Option<u32>, MountError>
-    requires marked { AreFoundMarks is_found.old.items found.old.items }
+    requires marked { AreVisitedMarks is_found.old.items found.old.items }
     requires within { All (λ b. b < length is_found.old.items) branches.now }
-    ensures found { result ≡ Ok None → FindsDirectories is_found.old.items found.old.items branches.now is_found.new.items found.new.items }
-    ensures twice { IfOk result (λ branch. IfSome branch (IsRepeated (found.old.items ++ branches.now))) }
+    ensures found { result ≡ Ok None → VisitsNewDirectories is_found.old.items found.old.items branches.now is_found.new.items found.new.items }
+    ensures twice { IfOk result (λ branch. IfSome branch (OccursTwice (found.old.items ++ branches.now))) }
     ensures within { IfOk result (λ branch. IfSome branch (λ b. b < length is_found.old.items)) }
     ensures error { IfErr result (λ e. e ≡ MountError.NoMemory) }
 {
@@ -66,7 +66,7 @@ fn reached_directories(
     requires within { All (λ d. All (λ b. b < length directories.now) d.branches.items) directories.now }
     requires places { length addresses.now ≡ length directories.now }
     ensures reached { IfOk result (λ marks. AreReachedMarks (graph_view order directories.now) marks.items) }
-    ensures broken { (v : Violation) (sync : Bool) → result ≡ Err (MountError.Corrupt v) → BreaksGraphRule order (graph_view order directories.now) (map address_view addresses.now) sync v }
+    ensures broken { (v : Violation) (sync : Bool) → result ≡ Err (MountError.Corrupt v) → BreaksGraphRule order (graph_view order directories.now) (map address_of_array addresses.now) sync v }
     ensures errors { ¬ IsErrOf result MountError.Io }
 {
     let mut is_found = Vec::from_elem(alloc, false, directories.len())?;
@@ -84,7 +84,11 @@ fn reached_directories(
         if !directory.leads {
             return Err(MountError::Corrupt(Violation::Branch { pair }));
         }
-        if let Some(branch) = mark_branches_found(&mut is_found, &mut found, &directory.branches)? {
+        if let Some(branch) = mark_subdirectories_visited(
+            &mut is_found,
+            &mut found,
+            &directory.branches,
+        )? {
             let pair = addresses[branch as usize];
             return Err(MountError::Corrupt(Violation::TwoPaths { pair }));
         }
@@ -94,7 +98,7 @@ fn reached_directories(
 }
 
 // Returns the index of the first directory that isn't reached, or None if all are reached.
-fn unreached_directory(is_reached: &[bool]) -> Option<usize>
+fn first_unreached_directory(is_reached: &[bool]) -> Option<usize>
     ensures unreached { IfSome result (λ place. slice_get is_reached.now place ≡ Some false) }
     ensures none { result ≡ None → All (λ reached. reached ≡ true) is_reached.now }
 {
@@ -120,7 +124,7 @@ fn find_directory_violation(
     requires some { 0 < length directories.now }
     requires within { All (λ d. All (λ b. b < length directories.now) d.branches.items) directories.now }
     requires places { length addresses.now ≡ length directories.now }
-    ensures found { IfOk result (IsTreeOrViolation order (graph_view order directories.now) (map address_view addresses.now) sync) }
+    ensures found { IfOk result (IsDirectoryTreeOrViolation order (graph_view order directories.now) (map address_of_array addresses.now) sync) }
     ensures error { IfErr result (λ e. e ≡ MountError.NoMemory) }
 {
     let is_reached = match reached_directories(alloc, directories, addresses, order) {
@@ -131,7 +135,7 @@ fn find_directory_violation(
     if sync {
         return Ok(None);
     }
-    match unreached_directory(&is_reached) {
+    match first_unreached_directory(&is_reached) {
         Some(place) => Ok(Some(Violation::NoPath {
             pair: addresses[place],
         })),
@@ -150,7 +154,7 @@ pub(crate) fn find_directory_violations(
     requires some { 0 < length directories.now }
     requires within { All (λ d. All (λ b. b < length directories.now) d.branches.items) directories.now }
     requires places { length addresses.now ≡ length directories.now }
-    ensures found { IfOk result (λ found. (order : NameOrder) → IsTreeOrViolation order (graph_view order directories.now) (map address_view addresses.now) sync (violation_in_order order found)) }
+    ensures found { IfOk result (λ found. (order : NameOrder) → IsDirectoryTreeOrViolation order (graph_view order directories.now) (map address_of_array addresses.now) sync (violation_in_order order found)) }
     ensures error { IfErr result (λ e. e ≡ MountError.NoMemory) }
 {
     let longer_first = find_directory_violation(

@@ -2,17 +2,17 @@
 
 ghost use Rattle.std.specs.Prelude.{Err, ◌≡◌, ◌↔◌, ◌⊎◌, ◌<◌, ◌≤◌, ◌+◌, length, IsTrue, IfOk, IfErr, IfSome, IsErrOf, None, Some, map};
 ghost use Rattle.std.specs.Option.{option_map};
-ghost use Rattle.lfs_model.specs.format.Disk.{ordered_disk};
+ghost use Rattle.lfs_model.specs.format.Disk.{disk_with_order};
 ghost use Rattle.lfs_model.specs.format.Blocks.{block_bytes};
 ghost use Rattle.lfs_model.specs.session.History.{read_count};
-ghost use Rattle.lfs_model.specs.tree.View.{BeginsWith, superblock_entry};
+ghost use Rattle.lfs_model.specs.tree.View.{HasFirstLogEntry, superblock_entry};
 ghost use Rattle.lfs_model.specs.layers.Violations.{PairsBreak};
 ghost use Rattle.lfs_model.specs.declared.order.NameOrder.{NameOrder};
 ghost use Rattle.lfs_model.specs.declared.violations.Violation.{Violation};
 ghost use Rattle.lfs_tag.specs.ContentView.{slot_view};
 ghost use Rattle.lfs_thread.specs.Kept.{disk_of_device, header_pairs};
 ghost use Rattle.lfs_thread.specs.MountErrors.{ReadsReportingFaults};
-ghost use Rattle.lfs_mount.specs.SuperblockChain.{AreThreadHeaders, BreaksFirstSuperblock, HasChain, BlockHasSuperblock, is_geometry_struct, first_filled, inline_bytes, has_name, may_continue_after, repeats_superblock_struct, first_repeats_superblock, repeats_superblock, first_slot_struct, superblock_in_log};
+ghost use Rattle.lfs_mount.specs.SuperblockChain.{AreThreadHeaders, BreaksFirstSuperblock, HasSuperblockChainLength, BlockHasSuperblock, is_geometry_struct, first_filled, inline_bytes, has_name, may_superblock_chain_continue, repeats_superblock_struct, first_repeats_superblock, repeats_superblock, first_slot_struct, superblock_in_log};
 
 use lfs_device::{AcceptedVersions, BlockDevice, Error, Geometry, read_block};
 use lfs_model::Violation;
@@ -26,7 +26,7 @@ const MAGIC: &[u8] = b"littlefs";
 
 // Returns whether the first entry of the log is the superblock's name.
 fn log_begins_superblock(log: &Log<'_>) -> bool
-    ensures { IsTrue result ↔ BeginsWith (Some log.now) superblock_entry }
+    ensures { IsTrue result ↔ HasFirstLogEntry (Some log.now) superblock_entry }
 {
     match log.entries().next() {
         Some(entry) => entry.tag == Tag::new(SUPERBLOCK_NAME, 0, 8) && entry.bytes == MAGIC,
@@ -157,7 +157,7 @@ fn block_repeats_superblock(
 
 // Reads the first pair that has a slot, and returns the struct of its superblock. Returns `Corrupt`
 // if the pair's log doesn't begin with the superblock's entry, or if slot 0 isn't the superblock's.
-fn read_first_struct<D: BlockDevice>(
+fn read_superblock_struct<D: BlockDevice>(
     alloc: Global,
     dev: &mut D,
     pair: &Pair,
@@ -214,14 +214,14 @@ fn pair_repeats_superblock<D: BlockDevice>(
 
 // Returns whether a pair has at most one slot, and a hard tail.
 fn can_chain_continue(pair: &Pair) -> bool
-    ensures { result ≡ may_continue_after pair.now }
+    ensures { result ≡ may_superblock_chain_continue pair.now }
 {
     (pair.slot_count == 0 || pair.slot_count == 1) && has_hard_tail(pair.tail)
 }
 
 // Returns the index of the first pair that has a slot. Returns None if no pair has a slot, or if an
 // earlier pair has no hard tail.
-fn first_filled_number(pairs: &[Pair]) -> Option<usize>
+fn first_nonempty_pair(pairs: &[Pair]) -> Option<usize>
     ensures first { result ≡ first_filled pairs.now }
     ensures below { IfSome result (λ index. index < length pairs.now) }
 {
@@ -257,15 +257,15 @@ pub(crate) fn superblock_chain_length<D: BlockDevice>(
     pairs: &[Pair],
 ) -> Result<usize, MountError>
     requires { AreThreadHeaders (disk_of_device D.BlockDevice dev.old) (D.history dev.old) pairs.now }
-    ensures head { IfOk result (HasChain (disk_of_device D.BlockDevice dev.old) (header_pairs (disk_of_device D.BlockDevice dev.old) pairs.now)) }
-    ensures broken { (v : Violation) → result ≡ Err (MountError.Corrupt v) → (order : NameOrder) → PairsBreak (ordered_disk order (disk_of_device D.BlockDevice dev.old)) (header_pairs (disk_of_device D.BlockDevice dev.old) pairs.now) v }
+    ensures head { IfOk result (HasSuperblockChainLength (disk_of_device D.BlockDevice dev.old) (header_pairs (disk_of_device D.BlockDevice dev.old) pairs.now)) }
+    ensures broken { (v : Violation) → result ≡ Err (MountError.Corrupt v) → (order : NameOrder) → PairsBreak (disk_with_order order (disk_of_device D.BlockDevice dev.old)) (header_pairs (disk_of_device D.BlockDevice dev.old) pairs.now) v }
     ensures device { ReadsReportingFaults D.BlockDevice dev.old dev.new result }
     ensures reads { IfOk result (λ count. read_count (D.history dev.new) ≤ read_count (D.history dev.old) + count + 2) }
 {
-    let Some(first) = first_filled_number(pairs) else {
+    let Some(first) = first_nonempty_pair(pairs) else {
         return Err(MountError::Corrupt(Violation::NoSuperblock));
     };
-    let bytes = read_first_struct(alloc, dev, &pairs[first])?;
+    let bytes = read_superblock_struct(alloc, dev, &pairs[first])?;
     let mut root = first;
     for index in first + 1..pairs.len() {
         if !can_chain_continue(&pairs[index - 1]) {

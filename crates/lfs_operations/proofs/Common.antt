@@ -6,12 +6,12 @@ pub use Rattle.lfs_model.proofs.AfterStops.{survives_then}
 pub use Rattle.lfs_model.proofs.Alike.{SameSlots, alike_append, alike_itself}
 pub use Rattle.lfs_model.proofs.Became.{Became, became_front, became_shape, fits_same}
 pub use Rattle.lfs_model.proofs.Beside.{IsStepBeside, last_site, threaded}
-pub use Rattle.lfs_model.proofs.BlockSets.{Contains-number_occurrences, number_occurrences-Contains, slice_get-set_other, slice_get-set_same}
+pub use Rattle.lfs_model.proofs.BlockSets.{Contains-occurrence_count, occurrence_count-Contains, slice_get-set_other, slice_get-set_same}
 pub use Rattle.lfs_model.proofs.Chained.{InTwo, mkdir_in_two}
 pub use Rattle.lfs_model.proofs.Changes.{IsChangedImage, SameFiles, chain_now, rearranged_chain, slots_files}
 pub use Rattle.lfs_model.proofs.Committed.{CompletesOperation, IsCommit, commit_step, no_move_from, recovered_from}
 pub use Rattle.lfs_model.proofs.Completed.{IsCompleted, complete_insert, complete_length, complete_parts, complete_remove, completed_from, completed_parts}
-pub use Rattle.lfs_model.proofs.Counts.{Each, count_append, count_here, distinct_from_once, each_always, each_append, each_counted, each_from_counted, each_joined, each_left, each_pieces, each_right, each_weaker, number_occurrences, once_from_distinct}
+pub use Rattle.lfs_model.proofs.Counts.{Each, count_append, count_here, distinct_from_once, each_always, each_append, each_counted, each_from_counted, each_joined, each_left, each_pieces, each_right, each_weaker, occurrence_count, once_from_distinct}
 pub use Rattle.lfs_model.proofs.Devices.{content_same, device_from}
 pub use Rattle.lfs_model.proofs.Drops.{softened}
 pub use Rattle.lfs_model.proofs.Effects.{Does, IsNamed, changed_inserted, creates_with_struct, deletes, does_first, does_nothing, ends_tail, puts_attribute, puts_move, puts_struct, puts_tail, removes_attribute, slot_with, with_attribute_put, with_struct}
@@ -19,7 +19,7 @@ pub use Rattle.lfs_model.proofs.Files.{SameFileBlocks, file_blocks_same, is_list
 pub use Rattle.lfs_model.proofs.Found.{HasDirectory, chain_of_thread, led_directory}
 pub use Rattle.lfs_model.proofs.Global.{HasNoMove, gstate_append, gstate_assoc, gstate_comm, gstate_cons, gstate_kept, gstate_left, gstate_moved, gstate_right, gstate_self, sync_bit_delta, turned_is, unmoved_all, with_sync_inverted}
 pub use Rattle.lfs_model.proofs.Halves.{content_cut, entry_small, insert_cut}
-pub use Rattle.lfs_model.proofs.Histories.{AllCallsSince-behind, AllCallsSince-until, HoldsAtLosses-read_count, HoldsAtLosses-trans, HoldsAtLosses-weaker, LeftByLoss-read, LossLeavesAtWorst-read, OnlyReadsSince-trans, StayUnprogrammed-read_count, StayUnprogrammed-refl, StayUnprogrammed-trans, StayUnprogrammed-wider}
+pub use Rattle.lfs_model.proofs.Histories.{AllCallsSince-behind, AllCallsSince-until, HoldsAtLosses-read_count, HoldsAtLosses-trans, HoldsAtLosses-weaker, LeftByLoss-read, LossLeavesAtWorst-read, OnlyReadsSince-trans, OthersStayUnprogrammed-read_count, OthersStayUnprogrammed-refl, OthersStayUnprogrammed-trans, OthersStayUnprogrammed-wider}
 pub use Rattle.lfs_model.proofs.Indexes.{HasSite, nothing_there, site_of_number, site_shows}
 pub use Rattle.lfs_model.proofs.Layouts.{NoneGoes, joined_parts, joined_singles, none_where, onward_all, onward_some, rest_all, singles}
 pub use Rattle.lfs_model.proofs.Listings.{Ends, IsRun, SameVisible, flip_false}
@@ -44,7 +44,7 @@ pub use Rattle.lfs_model.proofs.RmdirSteps.{IsGone, rmdir_named, rmdir_taken, st
 pub use Rattle.lfs_model.proofs.RootSteps.{IsSameWritable}
 pub use Rattle.lfs_model.proofs.Searches.{avoids_behind, avoids_front, is_site, number_is, place_of_belongs, same, same_number, site, slot_of_stands, thread_is}
 pub use Rattle.lfs_model.proofs.Segments.{drafts_of, parts_of}
-pub use Rattle.lfs_model.proofs.Sites.{AnyByRecursion, IsSite, Site, among_from, among_left, among_parts, among_right, any_from, begin_of, dirs_at, run_changed, shown_at, thread_at}
+pub use Rattle.lfs_model.proofs.Sites.{HoldsForSome, IsSite, Site, among_from, among_left, among_parts, among_right, any_from, begin_of, dirs_at, run_changed, shown_at, thread_at}
 pub use Rattle.lfs_model.proofs.Splices.{AreFree, IsDevice, IsSplice, all_slots, count_files, drop_shape, entry_slots, file_blocks, stays_shape, unmoved_in, visible_in}
 pub use Rattle.lfs_model.proofs.StepsTaken.{IsPut, IsPutBeside, IsWritableChange, beside_taken, commit_taken, drop_taken, end_drop_taken, end_taken, put_filled, put_within, set_used, taken_before, taken_then, within_at, within_same}
 pub use Rattle.lfs_model.proofs.StoredChanges.{logged_changed}
@@ -52,60 +52,60 @@ pub use Rattle.lfs_model.proofs.Superblocks.{IsChain, pairs_behind}
 pub use Rattle.lfs_model.proofs.TwoPlaces.{OldStays, from_old, two}
 pub use Rattle.lfs_model.proofs.Unchanged.{HasFirst}
 pub use Rattle.lfs_model.proofs.Unthreaded.{IsReady, IsUnthreaded, Unthreads, same_parts}
-pub use Rattle.lfs_model.proofs.Writable.{ends_joined}
+pub use Rattle.lfs_model.proofs.Writable.{last_tail_is_hard}
 pub use Rattle.lfs_model.proofs.WrittenAnew.{tag_length-make_tag, tag_type-make_tag}
 pub use Rattle.lfs_model.specs.crash.PowerLoss.{HasEitherTree, SurvivesLossSince, with_blocks}
 pub use Rattle.lfs_model.specs.format.Blocks.{Blocks, SameExceptBlocks}
-pub use Rattle.lfs_model.specs.format.Content.{RawContent, RawSlot, attributes_with, attributes_without, slot_changed_at, complete_content, complete_slot, complete_slots, content_after, content_at, current_block, current_of_two, empty_raw_content, empty_slot, has_commit, is_later, kind_of_type, raw_content, decoded_struct, slot_of_id}
-pub use Rattle.lfs_model.specs.format.Disk.{Disk, SameGeometry, block_count, charge_limit, disk_block}
-pub use Rattle.lfs_model.specs.format.EntryTypes.{directory_name_type, directory_type, file_name_type}
+pub use Rattle.lfs_model.specs.format.Content.{RawContent, RawSlot, attributes_with, attributes_without, slot_changed_at, decoded_content, decoded_slot, decoded_slots, content_after, content_at, current_block, later_committed_block, empty_raw_content, empty_slot, has_commit, is_later, kind_of_type, raw_content, decoded_struct, slot_of_id}
+pub use Rattle.lfs_model.specs.format.Disk.{Disk, SameGeometry, block_count, half_pair_capacity, disk_block}
+pub use Rattle.lfs_model.specs.format.EntryTypes.{directory_name_type, directory_struct_type, file_name_type}
 pub use Rattle.lfs_model.specs.format.Log.{block_entries, block_revision}
 pub use Rattle.lfs_model.specs.format.Names.{Name, is_valid_name}
-pub use Rattle.lfs_model.specs.format.Slots.{Attributes, Branch, Ctz, Directory, File, FitsInPair, Gstate, Inline, PairContent, Slot, SlotKind, Struct, Superblock, Tail, address_view, attributes_size, entry_charge, gstate_xor, is_superblock, is_superblock_kind, no_move_kind, null_address, same_pair, set_move_kind, slot_size, struct_len, zero_gstate}
-pub use Rattle.lfs_model.specs.format.Thread.{AreLinked, BeginsDirectory, Pair, ThreadDirectory, address_blocks, addresses_blocks, anchor_address, count_before_root, directories_with_pair, directory_slots, first_address, pairs_from_filled, has_no_entry, has_slots, has_superblock, is_hard_tail, chain_may_continue, pair_directories, pairs_blocks, pairs_from_root, pairs_gstate, root_address, slots_not_moved, superblock_first, tail_target, unmoved_entries}
+pub use Rattle.lfs_model.specs.format.Slots.{Attributes, Branch, Ctz, Directory, File, FitsInPair, Gstate, Inline, PairContent, Slot, SlotKind, Struct, Superblock, Tail, address_of_array, attributes_size, reserved_entry_size, gstate_xor, is_superblock, is_superblock_kind, no_move_kind, null_address, same_pair, set_move_kind, slot_size, struct_len, zero_gstate}
+pub use Rattle.lfs_model.specs.format.Thread.{AreLinkedByTails, BeginsDirectory, Pair, ThreadDirectory, address_blocks, addresses_blocks, superblock_pair_address, count_before_root, directories_with_pair, directory_slots, first_address, pairs_from_nonempty, has_no_entry, has_slots, has_superblock, is_hard_tail, chain_may_continue, pair_directories, pairs_blocks, pairs_from_root, pairs_gstate, root_address, slots_not_moved, begins_with_superblock, tail_target, unmoved_entries}
 pub use Rattle.lfs_model.specs.layers.BlockSets.{AreUsed, BlockState, BlockStates, IsFree, IsInFlight, IsUsedBlock}
 pub use Rattle.lfs_model.specs.layers.BlockSets.BlockState.{Free, InFlight, Used}
 pub use Rattle.lfs_model.specs.layers.Changes.{Delete, ContentChange, PutAttribute, PutMove, PutStruct, PutTail, content_with_changes}
 pub use Rattle.lfs_model.specs.layers.Cut.{AreSplittable}
-pub use Rattle.lfs_model.specs.layers.LoggedContent.{AllowedIfAny, AreWellFormed, AreWords, AttributesInOrder, IsAllowedPart, IsAllowedTail, IsFormedSlot, IsWellFormed, MoveStateFits}
+pub use Rattle.lfs_model.specs.layers.LoggedContent.{IsNameOrStructIfAny, AreWellFormed, AreU32Addresses, AttributesInOrder, IsNameOrStruct, IsAllowedTail, IsWellFormedSlot, IsWellFormed, MoveStateFits}
 pub use Rattle.lfs_model.specs.layers.Steps.{KeepsStruct, PathAddresses}
 pub use Rattle.lfs_model.specs.layers.WrittenContent.{address_bytes}
 pub use Rattle.lfs_model.specs.session.History.{AllCallsSince, CallEvent, OnlyReadsSince, fault_count}
-pub use Rattle.lfs_model.specs.session.InDirectory.{BelongsAt, HasName, IsDirectoryPair, IsPairAt, IsPlaceOf, joined_count}
-pub use Rattle.lfs_model.specs.session.Layout.{FitsPair, IsUnreachedOrRemoved, continued_address, directory_address}
+pub use Rattle.lfs_model.specs.session.InDirectory.{IsInsertionPosition, HasName, IsDirectoryPair, IsPairAt, IsPositionOfName, joined_pair_count}
+pub use Rattle.lfs_model.specs.session.Layout.{IsFittingPair, IsUnreachedOrRemoved, continued_directory_address, directory_address}
 pub use Rattle.lfs_model.specs.session.Moved.{is_worn, pair_joined_to}
 pub use Rattle.lfs_model.specs.session.Operations.{Operation}
 pub use Rattle.lfs_model.specs.session.Refusals.{path_or_root}
 pub use Rattle.lfs_model.specs.session.Session.{Session}
-pub use Rattle.lfs_model.specs.session.SlotEdits.{directory_slot, pair_with_slots, pairs_without_moved, slot_of}
+pub use Rattle.lfs_model.specs.session.SlotEdits.{directory_slot, pair_with_slots, pairs_without_moved, slot_of_path}
 pub use Rattle.lfs_model.specs.session.TreeEdits.{last_name, tree_creating, tree_removing, tree_renaming, tree_with_change, tree_with_subtree, without_prefix}
-pub use Rattle.lfs_model.specs.tree.Profile.{HasNoEmpties, IsWritable, IsWritableEntry, IsWritableSlot}
-pub use Rattle.lfs_model.specs.tree.Shown.{IsReachedBySome, LeadsTo, all_directories, all_entries, all_unmoved_slots, disk_tree, struct_blocks, used_blocks}
-pub use Rattle.lfs_model.specs.tree.Tree.{DirectoryNode, EntryMap, FileNode, Path, Tree, address_at_path, branch_address}
-pub use Rattle.lfs_model.specs.tree.View.{BeginsWith, BeginsWithSuperblock, HasKind, HasValidMove, IsAccepted, IsEntry, IsFormedList, IsThreadEntry, IsTreeEntry, first_pair_slots, first_slot_name, superblock_entry}
+pub use Rattle.lfs_model.specs.tree.Profile.{HasNoEmptyPairs, IsWritable, IsWritableEntry, IsWritableSlot}
+pub use Rattle.lfs_model.specs.tree.Shown.{IsReachedDirectory, IsDirectoryAtPath, all_directories, all_entries, all_unmoved_slots, disk_tree, struct_blocks, used_blocks}
+pub use Rattle.lfs_model.specs.tree.Tree.{DirectoryNode, DirectoryEntryMap, FileNode, Path, Tree, address_at_path, struct_directory_address}
+pub use Rattle.lfs_model.specs.tree.View.{HasFirstLogEntry, BeginsWithSuperblock, IsKindOfStruct, HasValidMove, IsAccepted, IsEntry, IsWellFormedList, IsThreadEntry, IsFileOrDirectory, first_pair_slots, first_slot_name, superblock_entry}
 pub use Rattle.lfs_operations.specs.declared.moves.Route.{Route}
-pub use Rattle.lfs_operations.specs.Altering.{IsTouchedBlock, WritesTouchedFree}
-pub use Rattle.lfs_operations.specs.Changing.{ArePut, AreTwoFree, CanCommit, CanPut, HasTwoFree, IsPairSplit, IsPairTouched, IsSplitInto, LeftByPut, LeftBySplit, OverfillsPair, ReportsPut, ReportsSpaceErrors, ReportsTakingCommit, TakesAtMostTwo, WritesPairTwo, WritesThreadTwo, has_failed_after, map_taking_two}
+pub use Rattle.lfs_operations.specs.Altering.{IsBlockOfChangedPair, WritesChangedPairsOrFree}
+pub use Rattle.lfs_operations.specs.Changing.{AreCommittedOrSplit, AreTwoFreeBlocks, CanCommit, CanCommitOrSplit, HasTwoFreeBlocks, IsPairSplit, IsPairChangedOrDropped, IsSplitInto, LeftByCommitOrSplit, LeftBySplit, OverfillsPair, ReportsCommitOrSplit, ReportsSpaceErrors, ReportsAllocatingCommit, AllocatesAtMostTwoBlocks, WritesPairAndTwoFree, WritesThreadAndTwoFree, has_failed_after, map_allocating_two}
 pub use Rattle.lfs_operations.specs.Creating.{CanCreateIn, IsFileCreated, creation_changes, tree_with_file}
 pub use Rattle.lfs_operations.specs.Deltas.{CanSetGstate, content_reaching_gstate, delta_reaching_gstate, gstate_changes, tail_is_hard}
-pub use Rattle.lfs_operations.specs.Dropping.{CanDropAt, IsPairDropped, LeftByDrop, SameInFlight, ShowsDroppedTree, content_after_drop, delta_after_drop, dropping_changes, tail_after_drop}
-pub use Rattle.lfs_model.specs.layers.StepResults.{tail_past_drop, gstate_without_move, gstate_naming, gstate_without_sync, number_after_drop, AreUnreachedFrom, AreUnreachedNumbers, IsDirectoryEnd}
+pub use Rattle.lfs_operations.specs.Dropping.{CanDropAt, IsPairDropped, LeftByDrop, HasSameBlocksInFlight, HasTreeAfterDrops, content_after_drop, delta_after_drop, dropping_changes, tail_after_drop}
+pub use Rattle.lfs_model.specs.layers.StepResults.{predecessor_tail_after_drop, gstate_without_move, gstate_with_move, gstate_without_sync, pair_index_after_drop, AreUnreachedFrom, AreUnreachedNumbers, IsDirectoryEnd}
 pub use Rattle.lfs_operations.specs.Editing.{CanEditIn, CanSetAttribute, HasRemovedAttribute, HasSetAttribute, editable_slot, tree_setting_attributes}
-pub use Rattle.lfs_operations.specs.EndingMove.{CanEndMove, HasEndedMove, HasMovedSlot, KeepsRecoveryLayouts, drops_when_emptied}
-pub use Rattle.lfs_operations.specs.Making.{AreBothTouched, CanLinkPairAfter, CanMakeAt, FitsNewTail, HasFreeBlocks, IsDirectoryMade, ReportsMaking, WritesPairsFour, directory_entry_changes, entry_changes, threading_changes, tree_with_directory}
-pub use Rattle.lfs_operations.specs.MoveEnds.{CanEndMoveAt, HasEndedMoveAt, content_move_ended, continues_directory, delta_without_move, ending_dropped_blocks, ending_changes, map_move_ended, pairs_move_ended, ending_written_pair}
-pub use Rattle.lfs_operations.specs.MovingAcross.{CanMoveAcross, CanReplaceDirectoryAcross, IsMovedAcross, IsRenamedAcross, moving_changes, removal_changes, route_blocks, tree_moved}
-pub use Rattle.lfs_operations.specs.MovingSteps.{CanEndAfterPut, CanPutAndEnd, ArePutAndEnded, ReportsTakingCommits, SurvivesCommits, WritesPairsTwo, WritesThreadFree, number_after_insertion, second_step_pair}
-pub use Rattle.lfs_operations.specs.Ready.{AreUsedUnsettled, AddsNoneInFlight, IsRawFormed, IsReadyImage, KeepsRootNumber, KeepsTakenStates, ShowsReadyTree, ShowsUnsettledTree}
-pub use Rattle.lfs_operations.specs.Recovering.{CanClearSync, CanDropPairs, HasDroppedRecovered, IsSyncCleared, ReportsRecovery, gstate_while_dropping, numbered_list_blocks, numbered_slots}
-pub use Rattle.lfs_operations.specs.Removing.{CanRemoveIn, IsFileRemoved, ReportsCommit, drops_emptied_pair, tree_without_entry, removal_written_address}
-pub use Rattle.lfs_operations.specs.Renaming.{CanRenameInPair, IsRenamedInPair, CompletesRename, ReportsReadPut, id_after_removal, tree_renamed, renaming_changes}
-pub use Rattle.lfs_operations.specs.RenamingOver.{CanRenameOver, CanReplaceDirectory, IsDirectoryReplaced, IsRenamedOver, ReportsReadCommit, ReportsReadCommits, replace_directory_changes}
-pub use Rattle.lfs_operations.specs.RenamingSlots.{HasSlot, nameless_at}
-pub use Rattle.lfs_model.specs.layers.SlotChanges.{NamelessSlot, attribute_changes, nameless_of, slot_changes}
+pub use Rattle.lfs_operations.specs.EndingMove.{CanEndMove, HasEndedMove, HasMovedSlot, KeepsRecoveryLayouts, drops_pair_after_move}
+pub use Rattle.lfs_operations.specs.Making.{AreBothChangedOrDropped, CanLinkPairAfter, CanMakeDirectoryAt, FitsWithNewTail, HasFreeBlocks, IsDirectoryMade, ReportsDirectoryCreation, WritesPairsAndFourFree, directory_entry_changes, entry_changes, threading_changes, tree_with_directory}
+pub use Rattle.lfs_operations.specs.MoveEnds.{CanEndMoveAt, HasEndedMoveAt, content_after_move_ended, continues_directory, delta_without_move, move_ending_dropped_blocks, move_ending_changes, map_after_move_ended, pairs_after_move_ended, move_ending_written_pair}
+pub use Rattle.lfs_operations.specs.MovingAcross.{CanMoveBetweenPairs, CanReplaceDirectoryBetweenPairs, IsMovedBetweenPairs, IsRenamedBetweenPairs, move_start_changes, removal_changes, route_blocks, tree_with_entry_moved}
+pub use Rattle.lfs_operations.specs.MovingSteps.{CanEndMoveAfterCopy, CanCopyAndEndMove, IsMoveCopiedAndEnded, ReportsAllocatingCommits, PowerLossKeepsEitherTree, WritesPairsAndTwoFree, WritesThreadAndFree, pair_index_after_insertion, move_ending_pair}
+pub use Rattle.lfs_operations.specs.Ready.{AreUsedBeforeMapUpdate, AddsNoneInFlight, IsLogContentDecodable, IsRecoveredWritableImage, KeepsRootPairIndex, KeepsNonFreeStates, IsRecoveredWithTree, HasTreeBeforeMapUpdate}
+pub use Rattle.lfs_operations.specs.Recovering.{CanClearSync, CanDropPairs, HasCompletedRecovery, IsSyncCleared, ReportsRecovery, gstate_while_dropping, list_blocks_of_pairs, slots_of_pairs_at}
+pub use Rattle.lfs_operations.specs.Removing.{CanRemoveIn, IsFileRemoved, ReportsCommit, drops_pair_after_removal, tree_without_entry, removal_written_address}
+pub use Rattle.lfs_operations.specs.Renaming.{CanRenameInPair, IsRenamedInPair, CompletesRename, ReportsReadCommitOrSplit, id_after_removal, tree_with_entry_renamed, renaming_changes}
+pub use Rattle.lfs_operations.specs.RenamingOver.{CanRenameOverDirectory, CanReplaceDirectory, IsDirectoryReplaced, IsRenamedOverDirectory, ReportsReadCommit, ReportsReadCommits, replace_directory_changes}
+pub use Rattle.lfs_operations.specs.RenamingSlots.{PairHasSlotId, slot_without_name_at}
+pub use Rattle.lfs_model.specs.layers.SlotChanges.{NamelessSlot, attribute_changes, slot_without_name, slot_creation_changes}
 pub use Rattle.lfs_operations.specs.RenamingView.{attribute_copy_view}
 pub use Rattle.lfs_operations.specs.Storing.{CanSetStruct, HasStoredContents, tree_with_contents}
-pub use Rattle.lfs_operations.specs.Unlinking.{ArePairsBeforeTouched, CanRemoveDirectory, IsDirectoryRemoved, ReportsCommits, unlink_changes}
+pub use Rattle.lfs_operations.specs.Unlinking.{ArePredecessorsChangedOrDropped, CanRemoveDirectory, IsDirectoryRemoved, ReportsCommits, unlink_changes}
 pub use Rattle.lfs_pair.specs.ChangeView.{changes_view}
 pub use Rattle.lfs_pair.specs.Commits.{changed_pair_content}
 pub use Rattle.lfs_pair.specs.Split.{KeepsOutsideBoth}

@@ -1,6 +1,6 @@
 -- The creation of a file, as a step of the thread.
-use Rattle.lfs_operations.proofs.Common.{ℕ, ◌≡◌, ◌≤◌, List, [], ◌∷◌, ◌++◌, length, refl, sym, ap, ap₂, subst, ◌∙◌, arith, length-append, insert, ne_eqb, tree_creating, file_name_type, Disk, CallEvent, BelongsAt, IsAllowedPart, Name, SurvivesLossSince, Slot, path_or_root, Pair, pairs_blocks, Session, Tree, FileNode, IsAccepted, all_entries, disk_tree, IsChangedImage, CompletesOperation, no_move_from, recovered_from, commit_step, does_nothing, nothing_there, place_at, insert_here, IsPlace, some_filled, site, place_of_belongs, Site, thread_at, tag_type-make_tag, tag_length-make_tag, CleanLossLeaves, KeptThread, Contains, file_comes, create_completed, IsPairTouched, CanPut, LeftByPut, ArePut, CanCreateIn, IsFileCreated, creation_changes, tree_with_file}
-use Rattle.lfs_model.specs.format.EntryTypes.{inline_type}
+use Rattle.lfs_operations.proofs.Common.{ℕ, ◌≡◌, ◌≤◌, List, [], ◌∷◌, ◌++◌, length, refl, sym, ap, ap₂, subst, ◌∙◌, arith, length-append, insert, ne_eqb, tree_creating, file_name_type, Disk, CallEvent, IsInsertionPosition, IsNameOrStruct, Name, SurvivesLossSince, Slot, path_or_root, Pair, pairs_blocks, Session, Tree, FileNode, IsAccepted, all_entries, disk_tree, IsChangedImage, CompletesOperation, no_move_from, recovered_from, commit_step, does_nothing, nothing_there, place_at, insert_here, IsPlace, some_filled, site, place_of_belongs, Site, thread_at, tag_type-make_tag, tag_length-make_tag, CleanLossLeaves, KeptThread, Contains, file_comes, create_completed, IsPairChangedOrDropped, CanCommitOrSplit, LeftByCommitOrSplit, AreCommittedOrSplit, CanCreateIn, IsFileCreated, creation_changes, tree_with_file}
+use Rattle.lfs_model.specs.format.EntryTypes.{inline_struct_type}
 use Rattle.lfs_model.specs.session.Operations as ops
 use Rattle.lfs_model.specs.session.Operations.{FlagsOfOpen}
 use Rattle.lfs_model.specs.session.SlotEdits.{file_slot}
@@ -15,7 +15,7 @@ use Rattle.lfs_operations.proofs.MakingContents.{IsNewEntry, can_put_entry, entr
 
 -- ---- the parts of a file's slot
 
-file_name : (name : Name) → length name ≤ 255 → IsAllowedPart 0 (file_name_type, name)
+file_name : (name : Name) → length name ≤ 255 → IsNameOrStruct 0 (file_name_type, name)
 file_name name short = record {
   of_class = refl;
   short = omega arith;
@@ -25,11 +25,11 @@ file_name name short = record {
       rw len (rw kind (rw (ne_eqb (length name) 0x3ff (λ e. omega arith)) refl));
 }
 
-no_bytes : IsAllowedPart 2 (inline_type, [])
+no_bytes : IsNameOrStruct 2 (inline_struct_type, [])
 no_bytes = record { of_class = refl; short = omega arith; in_table = refl }
 
 module _ (t : KeptThread) (index id : ℕ) (name : Name) (can : CanCreateIn t index id name) where
-  abbrev b : BelongsAt t.disk.order t.pairs can.first name index id
+  abbrev b : IsInsertionPosition t.disk.order t.pairs can.first name index id
   b = can.belongs
 
   abbrev p : Pair
@@ -49,7 +49,7 @@ module _ (t : KeptThread) (index id : ℕ) (name : Name) (can : CanCreateIn t in
   within : id ≤ length p.content.slots
   within = let h = ap length b.held in let l = length-append b.left b.right in let n = b.number in omega arith
 
-  new_entry : IsNewEntry t p id file_name_type name inline_type [] u [] p.content.move
+  new_entry : IsNewEntry t p id file_name_type name inline_struct_type [] u [] p.content.move
   new_entry = record {
     named = file_name name (name_length name can.is_name);
     part = no_bytes;
@@ -62,7 +62,7 @@ module _ (t : KeptThread) (index id : ℕ) (name : Name) (can : CanCreateIn t in
     state = refl;
   }
 
-  pub can_put : CanPut t index (creation_changes id name)
+  pub can_put : CanCommitOrSplit t index (creation_changes id name)
   can_put = can_put_entry t index p (here t can.ready can.first index p (b.later ++ b.rest) b.place) (holds t can.ready can.first index p (b.later ++ b.rest) b.place) can.logged new_entry
       (below t can.ready can.first index p (b.later ++ b.rest) b.place)
 
@@ -103,7 +103,7 @@ module _ (t : KeptThread) (index id : ℕ) (name : Name) (can : CanCreateIn t in
   follows disk q more commit = file_comes t.disk disk w p [] q more (pairs_blocks more) [] b.left b.right u (commit_step t.disk disk w p q more [] b.left [] (u ∷ []) b.right commit.commit) can.path can.at
       stand.leads stand.begin place_there [] refl (λ e. (recovered_from t.disk (thread_at w (p ∷ [])) commit.commit.accepted commit.commit.settled).reached)
 
-  pub created : (new : KeptThread) → ArePut t index (creation_changes id name) new → IsFileCreated t new can.path name
+  pub created : (new : KeptThread) → AreCommittedOrSplit t index (creation_changes id name) new → IsFileCreated t new can.path name
   created new is = go (put_step t index (creation_changes id name) w p b.left [] (u ∷ []) b.right [] [] splicing new is)
     where
       go : HasStep t w p b.left [] (u ∷ []) b.right [] [] new → IsFileCreated t new can.path name
@@ -119,7 +119,7 @@ module _ (t : KeptThread) (index id : ℕ) (name : Name) (can : CanCreateIn t in
           }
 
   -- the pair has one slot more, or is split
-  pub alters : (new : KeptThread) → ArePut t index (creation_changes id name) new → IsPairTouched t index new
+  pub alters : (new : KeptThread) → AreCommittedOrSplit t index (creation_changes id name) new → IsPairChangedOrDropped t index new
   alters new is has = go (put_step t index (creation_changes id name) w p b.left [] (u ∷ []) b.right [] [] splicing new is)
     where
       go : HasStep t w p b.left [] (u ∷ []) b.right [] [] new → ⊥
@@ -127,6 +127,6 @@ module _ (t : KeptThread) (index id : ℕ) (name : Name) (can : CanCreateIn t in
           (subst (IsAccepted new.disk) s.pairs (created new is).now.ready.accepted) s.commit.commit
           (subst (λ z. Contains z p) s.pairs (subst (Contains new.pairs) (pair_is t index w p splicing.there splicing.place) has))
 
-  pub create_survives : (new : List CallEvent) → CleanLossLeaves t.history new (LeftByPut t index (creation_changes id name)) → SurvivesLossSince t.disk t.history new (disk_tree t.disk t.pairs) (tree_with_file t can.path name)
+  pub create_survives : (new : List CallEvent) → CleanLossLeaves t.history new (LeftByCommitOrSplit t index (creation_changes id name)) → SurvivesLossSince t.disk t.history new (disk_tree t.disk t.pairs) (tree_with_file t can.path name)
   create_survives new stops = survives t index (creation_changes id name) w p b.left [] (u ∷ []) b.right [] [] splicing (tree_creating (can.path ++ name ∷ []) (FileNode [] []))
       (λ disk q more commit. ((λ d. d), follows disk q more commit)) (λ e. some_filled b.left b.right u) new stops

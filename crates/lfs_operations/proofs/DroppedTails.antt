@@ -1,5 +1,5 @@
 -- The tail and the delta that a dropped pair leaves to the one before it, as changes of that one.
-use Rattle.lfs_operations.proofs.Common.{ℕ, zero, suc, ◌≡◌, ◌+◌, ◌<◌, false, cond, inl, inr, ◌⊎◌, List, [], ◌∷◌, ◌++◌, length, Option, Some, None, refl, sym, ap, ap₂, subst, ◌∙◌, arith, get_or, set, remove, xor_lt, same_Some, Blocks, PutMove, PutTail, content_with_changes, RawContent, complete_content, content_at, raw_content, Disk, MoveStateFits, PairContent, FitsInPair, Gstate, Tail, gstate_xor, zero_gstate, Pair, pairs_gstate, tail_target, completed_from, completed_parts, Each, each_right, each_weaker, Does, does_first, does_nothing, puts_move, puts_tail, gstate_assoc, gstate_comm, gstate_cons, gstate_moved, gstate_right, gstate_self, KeptThread, CanDropNext, IsNextDropped, LossLeavesPair, RefusesChanges, IsPairWritten, complete_after, empty_anchor, thread_pair, tail_change, pairs_with_content, option_and_then, AreByteBlocks, IsAllowedTail, ends_tail, IsPairDropped, LeftByDrop, delta_after_drop, tail_after_drop, tail_past_drop, dropping_changes, content_after_drop, append_assoc, length-append, recursion_from_All, ◌-◌, CanDropAt, ContentChange}
+use Rattle.lfs_operations.proofs.Common.{ℕ, zero, suc, ◌≡◌, ◌+◌, ◌<◌, false, cond, inl, inr, ◌⊎◌, List, [], ◌∷◌, ◌++◌, length, Option, Some, None, refl, sym, ap, ap₂, subst, ◌∙◌, arith, get_or, set, remove, xor_lt, same_Some, Blocks, PutMove, PutTail, content_with_changes, RawContent, decoded_content, content_at, raw_content, Disk, MoveStateFits, PairContent, FitsInPair, Gstate, Tail, gstate_xor, zero_gstate, Pair, pairs_gstate, tail_target, completed_from, completed_parts, Each, each_right, each_weaker, Does, does_first, does_nothing, puts_move, puts_tail, gstate_assoc, gstate_comm, gstate_cons, gstate_moved, gstate_right, gstate_self, KeptThread, CanDropNext, IsNextDropped, LossLeavesPair, RefusesChanges, IsPairWritten, complete_after, empty_anchor, thread_pair, tail_change, pairs_with_content, option_and_then, AreByteBlocks, IsAllowedTail, ends_tail, IsPairDropped, LeftByDrop, delta_after_drop, tail_after_drop, predecessor_tail_after_drop, dropping_changes, content_after_drop, append_assoc, length-append, recursion_from_All, ◌-◌, CanDropAt, ContentChange}
 use Rattle.lfs_operations.proofs.Held.{completes_to}
 use Rattle.lfs_model.proofs.PairLists.{get_at, set_at}
 use Rattle.lfs_operations.proofs.MakingContents.{logged_there}
@@ -96,11 +96,11 @@ module _ (t : KeptThread) (front : ℕ) (ahead : List Pair) (p o : Pair) (back :
 
 -- ---- the changes
 
-over_again : (f g : Option Tail) → IsAllowedTail g → IsAllowedTail (tail_past_drop f g)
+over_again : (f g : Option Tail) → IsAllowedTail g → IsAllowedTail (predecessor_tail_after_drop f g)
 over_again f None h = tt
 over_again f (Some t) h = h
 
-pub over_next : (f g : Option Tail) → tail_target (tail_past_drop f g) ≡ tail_target g
+pub over_next : (f g : Option Tail) → tail_target (predecessor_tail_after_drop f g) ≡ tail_target g
 over_next f None = refl
 over_next f (Some t) = refl
 
@@ -117,10 +117,10 @@ takes raw (Some t) m h k =
     (subst (λ z. Does (PutTail t.hard (Some t.to)) raw (record raw { tail = z })) (ap (λ b. cond b None (Some (record { hard = t.hard; to = t.to }))) h.1) (puts_tail raw t.hard t.to h.0))
     (does_first (PutMove m) [] now end end (puts_move now m k) (does_nothing end))
 
-pub takes_tail : (c : PairContent) (raw : RawContent) (tail : Option Tail) (m : Gstate) → complete_content raw ≡ Some c → IsAllowedTail tail → MoveStateFits m
-    → option_and_then complete_content (content_with_changes raw (tail_change tail ∷ PutMove m ∷ [])) ≡ Some (record { slots = c.slots; tail = tail; move = m })
+pub takes_tail : (c : PairContent) (raw : RawContent) (tail : Option Tail) (m : Gstate) → decoded_content raw ≡ Some c → IsAllowedTail tail → MoveStateFits m
+    → option_and_then decoded_content (content_with_changes raw (tail_change tail ∷ PutMove m ∷ [])) ≡ Some (record { slots = c.slots; tail = tail; move = m })
 takes_tail c raw tail m complete h k =
-    ap (option_and_then complete_content) (takes raw tail m h k)
+    ap (option_and_then decoded_content) (takes raw tail m h k)
     ∙ completed_from (record { slots = raw.slots; tail = tail; move = m }) c.slots (completed_parts raw c complete).slots
 
 module _ (t : KeptThread) (index : ℕ) (state : Gstate) (can : CanDropAt t index state) where
@@ -152,7 +152,7 @@ module _ (t : KeptThread) (index : ℕ) (state : Gstate) (can : CanDropAt t inde
       let small = move_xor (gstate_xor (thread_pair t front).content.move (thread_pair t (front + 1)).content.move) (gstate_xor (pairs_gstate t.pairs) state)
       (move_xor (thread_pair t front).content.move (thread_pair t (front + 1)).content.move k.0.move k.1.move) (move_xor (pairs_gstate t.pairs) state all can.storable) in
       let held = completes_to (raw_content t.disk (thread_pair t front).at) (thread_pair t front).content (there (λ p. content_at t.disk p.at ≡ Some p.content) contents).0 in
-      ap (λ o. option_and_then complete_content (option_and_then (λ (x : RawContent). content_with_changes x (dropping_changes t front state)) o)) held.is
+      ap (λ o. option_and_then decoded_content (option_and_then (λ (x : RawContent). content_with_changes x (dropping_changes t front state)) o)) held.is
       ∙ takes_tail (thread_pair t front).content held.raw (tail_after_drop t front) (delta_after_drop t front state) held.complete
       (over_again (thread_pair t front).content.tail (thread_pair t (front + 1)).content.tail k.1.tail) small
 

@@ -1,5 +1,5 @@
 -- An entry whose attributes change, as a step of the thread.
-use Rattle.lfs_operations.proofs.Common.{ℕ, ◌≡◌, ◌^◌, ◌<◌, List, [], ◌∷◌, ◌++◌, Some, refl, sym, ap, ◌∙◌, arith, inl, recursion_from_All, tree_with_change, ContentChange, PutAttribute, attributes_with, attributes_without, Disk, CallEvent, Operation, SurvivesLossSince, Session, path_or_root, Attributes, Slot, Pair, pairs_blocks, IsFormedList, IsWritableEntry, all_unmoved_slots, disk_tree, IsChangedImage, CompletesOperation, number_occurrences, puts_attribute, file_blocks_same, is_list_same, HoldsAtLosses-weaker, thread_at, CleanLossLeaves, KeptThread, IsPairCommitted, LossLeavesPair, removes_attribute, attributes_change, remove_attr_completed, set_attr_completed, CanPut, LeftByPut, ArePut, CanEditIn, CanSetAttribute, HasRemovedAttribute, HasSetAttribute, editable_slot, tree_setting_attributes, CanCommit}
+use Rattle.lfs_operations.proofs.Common.{ℕ, ◌≡◌, ◌^◌, ◌<◌, List, [], ◌∷◌, ◌++◌, Some, refl, sym, ap, ◌∙◌, arith, inl, recursion_from_All, tree_with_change, ContentChange, PutAttribute, attributes_with, attributes_without, Disk, CallEvent, Operation, SurvivesLossSince, Session, path_or_root, Attributes, Slot, Pair, pairs_blocks, IsWellFormedList, IsWritableEntry, all_unmoved_slots, disk_tree, IsChangedImage, CompletesOperation, occurrence_count, puts_attribute, file_blocks_same, is_list_same, HoldsAtLosses-weaker, thread_at, CleanLossLeaves, KeptThread, IsPairCommitted, LossLeavesPair, removes_attribute, attributes_change, remove_attr_completed, set_attr_completed, CanCommitOrSplit, LeftByCommitOrSplit, AreCommittedOrSplit, CanEditIn, CanSetAttribute, HasRemovedAttribute, HasSetAttribute, editable_slot, tree_setting_attributes, CanCommit}
 use Rattle.lfs_model.specs.session.TreeEdits.{node_attributes_of, with_attributes}
 use Rattle.lfs_model.specs.layers.Changes.{RemoveAttribute}
 use Rattle.lfs_model.specs.session.Operations as ops
@@ -28,8 +28,8 @@ module _ {t : KeptThread} {index id : ℕ} (can : CanEditIn t index id) (f : Att
     flying = tt;
     apart = can.ready.accepted.owned_once;
     lists = λ disk geometry file come. is_list_same t.disk disk (editable_slot can).struct geometry file
-        (of_slot can (λ x. IsFormedList t.disk x.struct) (recursion_from_All (λ (x : Slot). IsFormedList t.disk x.struct) (all_unmoved_slots t.pairs) can.ready.accepted.lists));
-    blocks = λ disk geometry file come b. let e = ap (number_occurrences b) (file_blocks_same t.disk disk (editable_slot can).struct geometry file) in omega arith;
+        (of_slot can (λ x. IsWellFormedList t.disk x.struct) (recursion_from_All (λ (x : Slot). IsWellFormedList t.disk x.struct) (all_unmoved_slots t.pairs) can.ready.accepted.lists));
+    blocks = λ disk geometry file come b. let e = ap (occurrence_count b) (file_blocks_same t.disk disk (editable_slot can).struct geometry file) in omega arith;
   }
 
   abbrev turn : Node → Node
@@ -40,13 +40,13 @@ module _ {t : KeptThread} {index id : ℕ} (can : CanEditIn t index id) (f : Att
   follows disk q more c = attributes_change t.disk disk (w can) can.stands.pair [] q more (pairs_blocks more) [] (l can) (r can) (editable_slot can) v (step_of editing names disk q more c) (other can) can.path can.at
       (stand can).leads (stand can).begin f refl (λ e. reached_before editing names disk q more c)
 
-  edit_survives : (new : List CallEvent) → CleanLossLeaves t.history new (LeftByPut t index (change ∷ [])) → SurvivesLossSince t.disk t.history new (disk_tree t.disk t.pairs) (tree_setting_attributes t can.path can.name f)
+  edit_survives : (new : List CallEvent) → CleanLossLeaves t.history new (LeftByCommitOrSplit t index (change ∷ [])) → SurvivesLossSince t.disk t.history new (disk_tree t.disk t.pairs) (tree_setting_attributes t can.path can.name f)
   edit_survives new stops = survives_turn editing names turn follows new stops
 
   -- as an operation, whose law speaks of the commit
   edited : (op : List ℕ → Operation) → ((new : KeptThread) (x : HasReplaced editing names new) (z : Session) (given : List ℕ) → z.tree ≡ disk_tree t.disk (thread_at (w can) (can.stands.pair ∷ []))
       → path_or_root given ≡ can.path ++ (editable_slot can).name ∷ [] → CompletesOperation t.disk (thread_at (w can) (can.stands.pair ∷ [])) z (op given) new.disk (thread_at (w can) (x.q ∷ x.more)))
-      → (new : KeptThread) → ArePut t index (change ∷ []) new → HasAttributesChanged t new can.path can.name f op
+      → (new : KeptThread) → AreCommittedOrSplit t index (change ∷ []) new → HasAttributesChanged t new can.path can.name f op
   edited op law new is =
       let x = replaced editing names new is in
       record {
@@ -64,16 +64,16 @@ module _ (t : KeptThread) (index id kind : ℕ) (bytes : List ℕ) (low : kind <
   set_does : ChangesAttributes (PutAttribute id kind bytes) id (attributes_with kind bytes)
   set_does c small named = let short = set.short in puts_attribute c id kind bytes small (omega arith) (omega arith) named
 
-  pub can_set : CanPut t index (PutAttribute id kind bytes ∷ [])
+  pub can_set : CanCommitOrSplit t index (PutAttribute id kind bytes ∷ [])
   can_set = can_put (editing set.can (attributes_with kind bytes) change set_does set.fits)
 
-  pub has_set : (new : KeptThread) → ArePut t index (PutAttribute id kind bytes ∷ []) new → HasSetAttribute t new set.can.path set.can.name kind bytes
+  pub has_set : (new : KeptThread) → AreCommittedOrSplit t index (PutAttribute id kind bytes ∷ []) new → HasSetAttribute t new set.can.path set.can.name kind bytes
   has_set new is = edited set.can (attributes_with kind bytes) change set_does set.fits (λ given. ops.SetAttr given kind bytes)
       (λ new x z given tree is_path. set_attr_completed t.disk new.disk (w set.can) set.can.stands.pair x.q x.more [] (l set.can) (r set.can) (u set.can)
       (record (editable_slot set.can) { attributes = attributes_with kind bytes (editable_slot set.can).attributes }) x.commit.commit (other set.can) set.can.path set.can.at (stand set.can).leads (stand set.can).begin z tree given kind bytes is_path refl)
       new is
 
-  pub set_survives : (new : List CallEvent) → CleanLossLeaves t.history new (LeftByPut t index (PutAttribute id kind bytes ∷ []))
+  pub set_survives : (new : List CallEvent) → CleanLossLeaves t.history new (LeftByCommitOrSplit t index (PutAttribute id kind bytes ∷ []))
       → SurvivesLossSince t.disk t.history new (disk_tree t.disk t.pairs) (tree_setting_attributes t set.can.path set.can.name (attributes_with kind bytes))
   set_survives new stops = edit_survives set.can (attributes_with kind bytes) change set_does set.fits new stops
 

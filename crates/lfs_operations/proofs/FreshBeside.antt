@@ -1,7 +1,7 @@
 -- A step that writes one pair and two free blocks: the device afterwards, and that the image stays if the pair does.
 use Rattle.std.proofs.Common.{ℕ, ◌≡◌, ◌+◌, List, [], ◌∷◌, ◌++◌, length, Some, inl, refl, sym, ap, subst, ◌∙◌, arith, ◌<◌, ◌≤◌, subst₂}
 use Rattle.std.specs.Prelude.{Contains, All}
-use Rattle.lfs_operations.proofs.Common.{All-from_recursion, Each, recursion_from_All, number_occurrences-Contains, Blocks, IsFree, IsInFlight, content_at, current_block, Disk, HasEitherTree, with_blocks, PairContent, FitsInPair, Pair, pairs_gstate, zero_gstate, BeginsWith, superblock_entry, IsAccepted, IsWritable, disk_tree, used_blocks, HasNoMove, no_move_from, Site, HasFirst, KeepsOutsideBoth, KeptThread, SameGeometryAs, HasOldPair, BeginWithSuperblock, map_using, thread_pair, KeepsSuperblockFirst, AreTwoFree, map_taking_two, SameInFlight, IsReadyImage, AreUsed, block_count, addresses_blocks, all_unmoved_slots, thread_at, AreFree, IsDevice, Tree, IsSameWritable, KeepsStruct, slot_of, ChangesThreadBlocks}
+use Rattle.lfs_operations.proofs.Common.{All-from_recursion, Each, recursion_from_All, occurrence_count-Contains, Blocks, IsFree, IsInFlight, content_at, current_block, Disk, HasEitherTree, with_blocks, PairContent, FitsInPair, Pair, pairs_gstate, zero_gstate, HasFirstLogEntry, superblock_entry, IsAccepted, IsWritable, disk_tree, used_blocks, HasNoMove, no_move_from, Site, HasFirst, KeepsOutsideBoth, KeptThread, SameGeometryAs, HasOldPair, BeginWithSuperblock, map_using, thread_pair, KeepsSuperblockFirst, AreTwoFreeBlocks, map_allocating_two, HasSameBlocksInFlight, IsRecoveredWritableImage, AreUsed, block_count, addresses_blocks, all_unmoved_slots, thread_at, AreFree, IsDevice, Tree, IsSameWritable, KeepsStruct, slot_of_path, ChangesThreadBlocks}
 use Rattle.lfs_model.specs.session.Moved.{AreUnused}
 use Rattle.lfs_operations.proofs.Owning.{none_comes_now, stay_taken}
 use Rattle.lfs_model.proofs.UsedCounts.{not_used}
@@ -9,7 +9,7 @@ use Rattle.lfs_model.proofs.Placing.{IsPlaced, device, left_still}
 use Rattle.lfs_operations.proofs.Putting.{with_map}
 use Rattle.lfs_operations.proofs.Threads as threads
 use Rattle.lfs_model.specs.layers.Steps.{SameFileBlocks}
-use Rattle.lfs_operations.specs.Wear.{ShowsSameFiles}
+use Rattle.lfs_operations.specs.Wear.{KeepsTreeAndFiles}
 use Rattle.lfs_operations.proofs.AtSite.{each_from}
 
 -- what is left is a disk of the same sizes
@@ -24,7 +24,7 @@ pub record IsWrittenBeside (t : KeptThread) (index : ℕ) (fresh : ℕ × ℕ) (
   pub behind : content_at disk fresh ≡ Some d
   pub first : KeepsSuperblockFirst t.disk (thread_pair t index).at c disk
 
-module _ (t : KeptThread) (ready : IsReadyImage t) (index : ℕ) (w : Site) (p : Pair) (there : t.pairs ≡ thread_at w (p ∷ [])) (place : index ≡ length w.chain + length (w.before ++ w.left)) (fresh : ℕ × ℕ) (two : AreTwoFree t.map fresh) where
+module _ (t : KeptThread) (ready : IsRecoveredWritableImage t) (index : ℕ) (w : Site) (p : Pair) (there : t.pairs ≡ thread_at w (p ∷ [])) (place : index ≡ length w.chain + length (w.before ++ w.left)) (fresh : ℕ × ℕ) (two : AreTwoFreeBlocks t.map fresh) where
   abbrev ps : List Pair
   ps = thread_at w (p ∷ [])
 
@@ -59,9 +59,9 @@ module _ (t : KeptThread) (ready : IsReadyImage t) (index : ℕ) (w : Site) (p :
   unused = All-from_recursion (λ b. Contains (used_blocks t.disk t.pairs) b → ⊥) own (none fresh.0 two.first, (none fresh.1 two.second, tt))
     where
       none : (b : ℕ) → IsFree t.map b → Contains (used_blocks t.disk t.pairs) b → ⊥
-      none b free h = let n = not_used t.map (used_blocks t.disk t.pairs) ready.used b free in let k = number_occurrences-Contains (used_blocks t.disk t.pairs) b h in absurd (omega arith)
+      none b free h = let n = not_used t.map (used_blocks t.disk t.pairs) ready.used b free in let k = occurrence_count-Contains (used_blocks t.disk t.pairs) b h in absurd (omega arith)
 
-  pub flying : SameInFlight t.map (map_using (map_taking_two t.map fresh) fresh)
+  pub flying : HasSameBlocksInFlight t.map (map_using (map_allocating_two t.map fresh) fresh)
   flying b = (none_comes_now t.map fresh two b, λ h. stay_taken t.map fresh two b (λ free. absurd (not_free free h)) ∙ h)
     where
       not_free : IsFree t.map b → IsInFlight t.map b → ⊥
@@ -75,8 +75,8 @@ module _ (t : KeptThread) (ready : IsReadyImage t) (index : ℕ) (w : Site) (p :
     geometry = threads.shape_same t index w p there place h.shape;
     same = threads.same_four t index w p there place disk fresh h.others;
     contents = (ap (content_at disk) (sym (threads.at_is t index w p there place)) ∙ h.here, (h.behind, tt));
-    first = λ f b. subst (λ a. BeginsWith (current_block disk a) superblock_entry) (threads.at_is t index w p there place)
-        (h.first (subst (λ a. BeginsWith (current_block t.disk a) superblock_entry) (sym (threads.at_is t index w p there place)) b) (marked f));
+    first = λ f b. subst (λ a. HasFirstLogEntry (current_block disk a) superblock_entry) (threads.at_is t index w p there place)
+        (h.first (subst (λ a. HasFirstLogEntry (current_block t.disk a) superblock_entry) (sym (threads.at_is t index w p there place)) b) (marked f));
   }
 
   pub device_beside : (disk : Disk) (c d : PairContent) → (HasFirst p.content.slots → BeginWithSuperblock c.slots) → IsWrittenBeside t index fresh c d disk
@@ -86,7 +86,7 @@ module _ (t : KeptThread) (ready : IsReadyImage t) (index : ℕ) (w : Site) (p :
   -- the thread says where they are
   pub written_now : (new : KeptThread) (v : Site) (c d : PairContent) → new.pairs ≡ thread_at v (record { at = p.at; content = c } ∷ record { at = fresh; content = d } ∷ [])
       → All (λ (z : Pair). content_at new.disk z.at ≡ Some z.content) new.pairs → KeepsSuperblockFirst t.disk (thread_pair t index).at c new.disk
-      → ChangesThreadBlocks (addresses_blocks (thread_pair t index).at fresh) (with_map t (map_taking_two t.map fresh)) new → IsWrittenBeside t index fresh c d new.disk
+      → ChangesThreadBlocks (addresses_blocks (thread_pair t index).at fresh) (with_map t (map_allocating_two t.map fresh)) new → IsWrittenBeside t index fresh c d new.disk
   written_now new v c d pairs held first writes =
       let both : List Pair = record { at = p.at; content = c } ∷ record { at = fresh; content = d } ∷ [] in
       let on = each_from (λ (z : Pair). content_at new.disk z.at ≡ Some z.content) v both
@@ -95,7 +95,7 @@ module _ (t : KeptThread) (ready : IsReadyImage t) (index : ℕ) (w : Site) (p :
 
   -- ---- the pair stays
 
-  pub left_old : (left : Blocks) {after : Tree} → KeepsOutsideBoth (thread_pair t index).at fresh t.disk.blocks left → HasOldPair (with_map t (map_taking_two t.map fresh)) index (with_blocks left t.disk)
+  pub left_old : (left : Blocks) {after : Tree} → KeepsOutsideBoth (thread_pair t index).at fresh t.disk.blocks left → HasOldPair (with_map t (map_allocating_two t.map fresh)) index (with_blocks left t.disk)
       → HasEitherTree (with_blocks left t.disk) (disk_tree t.disk t.pairs) after
   left_old left others b = left_still t.disk left ps accepted writable (device t.disk (with_blocks left t.disk) w p p [] own accepted free.distinct still) (inl (ap (disk_tree t.disk) (sym there)))
     where
@@ -108,7 +108,7 @@ module _ (t : KeptThread) (ready : IsReadyImage t) (index : ℕ) (w : Site) (p :
   shows_tree disk qs s = record { pairs = qs; accepted = s.same.accepted; writable = s.writable; tree = inl (s.same.shows ∙ ap (disk_tree t.disk) (sym there)) }
 
   pub shows_files : (new : KeptThread) (qs : List Pair) → new.pairs ≡ qs → IsSameWritable t.disk (thread_at w (p ∷ [])) new.disk qs → IsDevice t.disk new.disk (thread_at w (p ∷ [])) qs
-      → AreUsed new.map (used_blocks new.disk qs) → length new.map ≡ length t.map → SameInFlight t.map new.map → ShowsSameFiles t new
+      → AreUsed new.map (used_blocks new.disk qs) → length new.map ≡ length t.map → HasSameBlocksInFlight t.map new.map → KeepsTreeAndFiles t new
   shows_files new qs pairs s on used size flying = record {
     ready = record {
       accepted = subst (IsAccepted new.disk) (sym pairs) s.same.accepted;
@@ -119,7 +119,7 @@ module _ (t : KeptThread) (ready : IsReadyImage t) (index : ℕ) (w : Site) (p :
       large = subst (λ n. 1024 ≤ n) (sym on.geometry.block_size) ready.large;
     };
     shows = ap (disk_tree new.disk) pairs ∙ s.same.shows ∙ ap (disk_tree t.disk) (sym there);
-    structs = λ path. subst₂ (λ a b. KeepsStruct (slot_of a path) (slot_of b path)) (sym there) (sym pairs) (s.same.stays path);
+    structs = λ path. subst₂ (λ a b. KeepsStruct (slot_of_path a path) (slot_of_path b path)) (sym there) (sym pairs) (s.same.stays path);
     lists = subst (λ z. All (λ s. SameFileBlocks t.disk new.disk s.struct) (all_unmoved_slots z)) (sym there) on.files;
     flying = flying;
   }

@@ -1,5 +1,5 @@
 -- The last step of an operation drops a pair that no path leads to any more.
-use Rattle.lfs_operations.proofs.Common.{ℕ, ◌≡◌, inr, ◌+◌, ◌-◌, ◌≤◌, false, List, [], ◌∷◌, ◌++◌, length, refl, sym, ap, subst, ◌∙◌, arith, Blocks, AreUsed, Disk, block_count, HasEitherTree as IsLeftOf, with_blocks, PairContent, zero_gstate, Pair, pairs_blocks, pairs_gstate, is_hard_tail, address_blocks, Tree, PathAddresses, all_unmoved_slots, disk_tree, used_blocks, SameSlots, alike_append, alike_itself, number_occurrences, count_append, count_here, once_from_distinct, HasNoMove, IsGone, file_blocks, IsWritableChange, IsChain, KeptThread, SameGeometryAs, IsPairWritten, thread_pair, CanDropAt, IsPairDropped, ShowsDroppedTree, LeftByDrop, SameInFlight, content_after_drop, IsReadyImage, KeepsRootNumber}
+use Rattle.lfs_operations.proofs.Common.{ℕ, ◌≡◌, inr, ◌+◌, ◌-◌, ◌≤◌, false, List, [], ◌∷◌, ◌++◌, length, refl, sym, ap, subst, ◌∙◌, arith, Blocks, AreUsed, Disk, block_count, HasEitherTree as IsLeftOf, with_blocks, PairContent, zero_gstate, Pair, pairs_blocks, pairs_gstate, is_hard_tail, address_blocks, Tree, PathAddresses, all_unmoved_slots, disk_tree, used_blocks, SameSlots, alike_append, alike_itself, occurrence_count, count_append, count_here, once_from_distinct, HasNoMove, IsGone, file_blocks, IsWritableChange, IsChain, KeptThread, SameGeometryAs, IsPairWritten, thread_pair, CanDropAt, IsPairDropped, HasTreeAfterDrops, LeftByDrop, HasSameBlocksInFlight, content_after_drop, IsRecoveredWritableImage, KeepsRootPairIndex}
 use Rattle.lfs_operations.proofs.Dropped.{IsToBeDropped, can_drop_pair, device_left, front_there, gone_there, left_dropped, pairs_left, slots_left, state_left, tail_left, used_left, shows_after}
 use Rattle.lfs_operations.proofs.DroppedTails.{no_move_state}
 use Rattle.lfs_model.proofs.Placing.{left_after}
@@ -7,7 +7,7 @@ use Rattle.lfs_model.proofs.DirectoryGone.{over_soft}
 
 -- The image shows the changed tree, and still does once the pair o of number n, which stands behind x, is dropped.
 pub record IsAllButDropped (t m : KeptThread) (o : Pair) (n : ℕ) (change : Tree → Tree) (walk : PathAddresses → PathAddresses) : Type 0 where
-  pub ready : IsReadyImage t
+  pub ready : IsRecoveredWritableImage t
   pub taken : IsWritableChange t.disk t.pairs m.disk m.pairs change walk
   pub no_move : HasNoMove (pairs_gstate m.pairs)
   pub chain : List Pair
@@ -22,8 +22,8 @@ pub record IsAllButDropped (t m : KeptThread) (o : Pair) (n : ℕ) (change : Tre
   pub empty : o.content.slots ≡ []
   pub used : AreUsed m.map (used_blocks m.disk m.pairs)
   pub size : length m.map ≡ block_count m.disk
-  pub flying : SameInFlight t.map m.map
-  pub root : KeepsRootNumber t m
+  pub flying : HasSameBlocksInFlight t.map m.map
+  pub root : KeepsRootPairIndex t m
   pub shape : SameGeometryAs t.disk m.disk
 
 module _ {t m : KeptThread} {o : Pair} {n : ℕ} {change : Tree → Tree} {walk : PathAddresses → PathAddresses} (k : IsAllButDropped t m o n change walk) where
@@ -70,20 +70,20 @@ module _ {t m : KeptThread} {o : Pair} {n : ℕ} {change : Tree → Tree} {walk 
     pub taken_end : IsWritableChange t.disk t.pairs new.disk new.pairs change walk
     taken_end = subst (λ z. IsWritableChange t.disk t.pairs new.disk z change walk) (sym pairs_end) (k.drops new.disk y (is_gone new.disk g.written))
 
-    end_used : (b : ℕ) → number_occurrences b (used_blocks new.disk new.pairs) + number_occurrences b (address_blocks o.at) ≡ number_occurrences b (used_blocks m.disk m.pairs)
+    end_used : (b : ℕ) → occurrence_count b (used_blocks new.disk new.pairs) + occurrence_count b (address_blocks o.at) ≡ occurrence_count b (used_blocks m.disk m.pairs)
     end_used b =
         let e = used_left dropping new g k.no_move (record { kind = refl; id = refl; pair = refl }) b in
-        let f = ap (λ z. number_occurrences b (file_blocks m.disk z)) k.empty in
+        let f = ap (λ z. occurrence_count b (file_blocks m.disk z)) k.empty in
         omega arith
 
-    once : (b : ℕ) → number_occurrences b (used_blocks m.disk m.pairs) ≤ 1
+    once : (b : ℕ) → occurrence_count b (used_blocks m.disk m.pairs) ≤ 1
     once b = once_from_distinct (used_blocks m.disk m.pairs) k.taken.follows.accepted.owned_once b
 
     -- the pair is gone, and no block came
-    pub end_fewer : (b : ℕ) → number_occurrences b (used_blocks new.disk new.pairs) ≤ number_occurrences b (used_blocks m.disk m.pairs)
+    pub end_fewer : (b : ℕ) → occurrence_count b (used_blocks new.disk new.pairs) ≤ occurrence_count b (used_blocks m.disk m.pairs)
     end_fewer b = let e = end_used b in omega arith
 
-    pub end_gone : number_occurrences o.at.0 (pairs_blocks new.pairs) ≡ 0
+    pub end_gone : occurrence_count o.at.0 (pairs_blocks new.pairs) ≡ 0
     end_gone =
         let e = end_used o.at.0 in
         let f = once o.at.0 in
@@ -91,10 +91,10 @@ module _ {t m : KeptThread} {o : Pair} {n : ℕ} {change : Tree → Tree} {walk 
         let l = count_append o.at.0 (pairs_blocks new.pairs) (file_blocks new.disk (all_unmoved_slots new.pairs)) in
         omega arith
 
-    pub shows_dropped : ShowsDroppedTree t new (change (disk_tree t.disk t.pairs)) []
+    pub shows_dropped : HasTreeAfterDrops t new (change (disk_tree t.disk t.pairs)) []
     shows_dropped =
         let large = subst (λ n. 1024 ≤ n) (sym k.shape.block_size) k.ready.large in
-        let h = shows_after dropping new g k.no_move k.used [] (λ b. let f = ap (λ z. number_occurrences b (file_blocks m.disk z)) k.empty in omega arith) k.size large k.is_chain taken_end (sym k.taken.follows.root) in
+        let h = shows_after dropping new g k.no_move k.used [] (λ b. let f = ap (λ z. occurrence_count b (file_blocks m.disk z)) k.empty in omega arith) k.size large k.is_chain taken_end (sym k.taken.follows.root) in
         record {
           ready = h.ready;
           shows = h.shows;

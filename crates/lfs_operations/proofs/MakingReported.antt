@@ -1,5 +1,5 @@
 -- The errors of a mkdir, from those of its steps.
-use Rattle.lfs_operations.proofs.Common.{ℕ, ◌≡◌, ◌⊎◌, inl, inr, List, Result, Ok, Err, arith, refl, sym, ap, subst, ◌∙◌, BlockStates, fault_count, KeptThread, ThreadView, ThreadReportsKeepingOthers, IfErr, is_err, Error, Io, NoMemory, NoSpace, ReportsTakingCommit, has_failed_after, ReportsMaking, err_from_is_err_and}
+use Rattle.lfs_operations.proofs.Common.{ℕ, ◌≡◌, ◌⊎◌, inl, inr, List, Result, Ok, Err, arith, refl, sym, ap, subst, ◌∙◌, BlockStates, fault_count, KeptThread, ThreadView, ThreadReportsKeepingOthers, IfErr, is_err, Error, Io, NoMemory, NoSpace, ReportsAllocatingCommit, has_failed_after, ReportsDirectoryCreation, err_from_is_err_and}
 use Rattle.lfs_operations.proofs.Putting.{not_both, with_map, same_err}
 use Rattle.std.proofs.Common.{IsErrAnd}
 
@@ -22,13 +22,13 @@ reported_again {e = e} {result = result} given is passed reported = record {
 
 -- the first step failed, for which blocks were taken
 pub reports_first : {X Y : Type 0} {old new : ThreadView} {s : KeptThread} {sets : BlockStates} {bs : List ℕ} {e : Error} {result : Result X Error} (given : Result Y Error) → s ≡ with_map old.kept sets → result ≡ Err e → IsErrAnd given (λ x. x ≡ e)
-    → new.failed ≡ is_err result → ThreadReportsKeepingOthers bs s new.kept result → ReportsMaking old new given
+    → new.failed ≡ is_err result → ThreadReportsKeepingOthers bs s new.kept result → ReportsDirectoryCreation old new given
 reports_first {old = old} {new = new} {bs = bs} given taken is passed failed reported =
     let r = subst (λ (s : KeptThread). ThreadReportsKeepingOthers bs s new.kept given) taken (reported_again given is passed reported) in
     record { failed = failed ∙ ap is_err is ∙ sym (ap is_err (given_error given passed)); errors = r.errors; fault = r.fault; no_fault = r.no_fault }
 
 -- a step's answer, passed on with another value
-pub makes_again : {X Y : Type 0} {old new : ThreadView} {e : Error} {result : Result X Error} (given : Result Y Error) → result ≡ Err e → IsErrAnd given (λ x. x ≡ e) → ReportsMaking old new result → ReportsMaking old new given
+pub makes_again : {X Y : Type 0} {old new : ThreadView} {e : Error} {result : Result X Error} (given : Result Y Error) → result ≡ Err e → IsErrAnd given (λ x. x ≡ e) → ReportsDirectoryCreation old new result → ReportsDirectoryCreation old new given
 makes_again {e = e} {result = result} given is passed reported = record {
   failed = reported.failed ∙ ap is_err is ∙ sym (ap is_err same);
   errors = subst (λ r. IfErr r (λ x. (x ≡ Io) ⊎ (x ≡ NoMemory))) (sym same) (subst (λ r. IfErr r (λ x. (x ≡ Io) ⊎ (x ≡ NoMemory))) is reported.errors);
@@ -39,7 +39,7 @@ makes_again {e = e} {result = result} given is passed reported = record {
     same : given ≡ Err e
     same = given_error given passed
 
-pub makes_done : {X Y : Type 0} (old new : ThreadView) (x : X) (y : Y) (result : Result X Error) → result ≡ Ok x → ReportsMaking old new result → ReportsMaking old new (Ok y)
+pub makes_done : {X Y : Type 0} (old new : ThreadView) (x : X) (y : Y) (result : Result X Error) → result ≡ Ok x → ReportsDirectoryCreation old new result → ReportsDirectoryCreation old new (Ok y)
 makes_done old new x y result is reported = record {
   failed = reported.failed ∙ ap is_err is;
   errors = tt;
@@ -48,7 +48,7 @@ makes_done old new x y result is reported = record {
 }
 
 -- the errors of the second step, never `NoSpace`
-pub reports_second : {X : Type 0} (old mid new : ThreadView) (result : Result X Error) → fault_count mid.kept.history ≡ fault_count old.kept.history → (result ≡ Err NoSpace → ⊥) → ReportsTakingCommit mid new result → ReportsMaking old new result
+pub reports_second : {X : Type 0} (old mid new : ThreadView) (result : Result X Error) → fault_count mid.kept.history ≡ fault_count old.kept.history → (result ≡ Err NoSpace → ⊥) → ReportsAllocatingCommit mid new result → ReportsDirectoryCreation old new result
 reports_second {X = X} old mid new result same room reported = record {
   failed = reported.failed ∙ failing result room reported.reports.errors;
   errors = narrow result room reported.reports.errors;

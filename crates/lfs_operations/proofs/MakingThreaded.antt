@@ -1,6 +1,6 @@
 -- A fresh pair is inserted behind the last one of a directory, and the sync bit is set: the result, and what a power loss in it
 -- leaves.
-use Rattle.lfs_operations.proofs.Common.{ℕ, ◌≡◌, ◌≢◌, ◌⊎◌, inl, inr, Bool, true, false, nat_eq, List, [], ◌∷◌, ◌++◌, length, Some, refl, sym, ap, ap₂, subst, ◌∙◌, ◌≤◌, arith, append-nil, flat_map, IsDistinct, same_Some, recursion_from_All, Blocks, SameExceptBlocks, AreUsed, content_at, current_of_two, Disk, disk_block, block_count, HasEitherTree, with_blocks, PairContent, FitsInPair, Gstate, zero_gstate, gstate_xor, same_pair, Pair, pairs_blocks, pairs_gstate, is_hard_tail, address_blocks, addresses_blocks, Path, Tree, BeginsWith, superblock_entry, IsAccepted, HasNoEmpties, IsWritable, LeadsTo, all_unmoved_slots, all_entries, struct_blocks, disk_tree, used_blocks, fits_same, last_site, threaded, number_occurrences, count_append, count_here, once_from_distinct, HasNoMove, gstate_assoc, gstate_cons, gstate_left, gstate_right, sync_bit_delta, with_sync_inverted, turned_is, shown_before, shown_behind, pair_itself, Site, begin_of, dirs_at, thread_at, IsWritableChange, beside_taken, taken_before, within_at, pairs_behind, ends_joined, KeptThread, HasOldPair, IsThreadedIn, LossLeavesThreaded, ChangesThreadBlocks, complete_after, thread_pair, map_using, ThreadedInOnDisk, KeepsSuperblockFirst, fresh_with_tail, AreTwoFree, map_taking_two, threading_changes, IsReadyImage, content_same, ◌+◌, site_gstate_moved}
+use Rattle.lfs_operations.proofs.Common.{ℕ, ◌≡◌, ◌≢◌, ◌⊎◌, inl, inr, Bool, true, false, nat_eq, List, [], ◌∷◌, ◌++◌, length, Some, refl, sym, ap, ap₂, subst, ◌∙◌, ◌≤◌, arith, append-nil, flat_map, IsDistinct, same_Some, recursion_from_All, Blocks, SameExceptBlocks, AreUsed, content_at, later_committed_block, Disk, disk_block, block_count, HasEitherTree, with_blocks, PairContent, FitsInPair, Gstate, zero_gstate, gstate_xor, same_pair, Pair, pairs_blocks, pairs_gstate, is_hard_tail, address_blocks, addresses_blocks, Path, Tree, HasFirstLogEntry, superblock_entry, IsAccepted, HasNoEmptyPairs, IsWritable, IsDirectoryAtPath, all_unmoved_slots, all_entries, struct_blocks, disk_tree, used_blocks, fits_same, last_site, threaded, occurrence_count, count_append, count_here, once_from_distinct, HasNoMove, gstate_assoc, gstate_cons, gstate_left, gstate_right, sync_bit_delta, with_sync_inverted, turned_is, shown_before, shown_behind, pair_itself, Site, begin_of, dirs_at, thread_at, IsWritableChange, beside_taken, taken_before, within_at, pairs_behind, last_tail_is_hard, KeptThread, HasOldPair, IsThreadedIn, LossLeavesThreaded, ChangesThreadBlocks, complete_after, thread_pair, map_using, ThreadedInOnDisk, KeepsSuperblockFirst, fresh_with_tail, AreTwoFreeBlocks, map_allocating_two, threading_changes, IsRecoveredWritableImage, content_same, ◌+◌, site_gstate_moved}
 use Rattle.lfs_model.proofs.Beside.{beside_shape, other_entries, own_entries}
 use Rattle.lfs_model.proofs.Pairs.{put_at}
 use Rattle.lfs_operations.proofs.MakingCounts.{used_count_now}
@@ -19,20 +19,20 @@ pub record HasThreaded (t : KeptThread) (chain before left after : List Pair) (x
   pub step : IsThreading t.disk new.disk chain before left after x fresh
   pub pairs : new.pairs ≡ thread_at (last_site chain before left after) (naming_pair x fresh ∷ fresh_pair x fresh ∷ [])
   pub used : AreUsed new.map (used_blocks new.disk new.pairs)
-  pub map : new.map ≡ map_using (map_taking_two t.map fresh) fresh
+  pub map : new.map ≡ map_using (map_allocating_two t.map fresh) fresh
   pub size : length new.map ≡ block_count new.disk
 
-have_at : (b : Bool) (xs : List Pair) (x : Pair) (ys : List Pair) → HasNoEmpties b (xs ++ x ∷ ys) → ends_joined b xs ≡ true → x.content.slots ≢ []
+have_at : (b : Bool) (xs : List Pair) (x : Pair) (ys : List Pair) → HasNoEmptyPairs b (xs ++ x ∷ ys) → last_tail_is_hard b xs ≡ true → x.content.slots ≢ []
 have_at b [] x ys h f = h.0 f
 have_at b (z ∷ xs) x ys h f = have_at (is_hard_tail z.content.tail) xs x ys h.1 f
 
-module _ (t : KeptThread) (ready : IsReadyImage t) (last : ℕ) (chain before left after : List Pair) (x : Pair) (e : IsEnd t.pairs last chain before left after x) (fresh : ℕ × ℕ) (two : AreTwoFree t.map fresh)
+module _ (t : KeptThread) (ready : IsRecoveredWritableImage t) (last : ℕ) (chain before left after : List Pair) (x : Pair) (e : IsEnd t.pairs last chain before left after x) (fresh : ℕ × ℕ) (two : AreTwoFreeBlocks t.map fresh)
     (made : complete_after t last (threading_changes t last fresh) ≡ Some (naming_pair x fresh).content) where
   abbrev w : Site
   w = last_site chain before left after
 
   abbrev held : KeptThread
-  held = with_map t (map_taking_two t.map fresh)
+  held = with_map t (map_allocating_two t.map fresh)
 
   abbrev y : Pair
   y = naming_pair x fresh
@@ -69,7 +69,7 @@ module _ (t : KeptThread) (ready : IsReadyImage t) (last : ℕ) (chain before le
     cut = fits_same t.disk x (record { at = x.at; content = record { slots = x.content.slots ++ []; tail = x.content.tail; move = x.content.move } }) (append-nil x.content.slots) (within_at t.disk w x [] writable_there).pair;
     fit = tt;
     filled = λ hard none. have_at false (before ++ left) x after
-        (subst (HasNoEmpties false) (pairs_behind chain (dirs_at w (x ∷ [])) e.site.chain) writable_there.no_empty_pair) hard (sym (append-nil x.content.slots) ∙ none);
+        (subst (HasNoEmptyPairs false) (pairs_behind chain (dirs_at w (x ∷ [])) e.site.chain) writable_there.no_empty_pair) hard (sym (append-nil x.content.slots) ∙ none);
     run = refl;
     empty = refl;
     tail = refl;
@@ -108,7 +108,7 @@ module _ (t : KeptThread) (ready : IsReadyImage t) (last : ℕ) (chain before le
       distinct = (beside.free t ready last w x e.there e.place fresh two).distinct
 
       -- a block that is used is the same
-      same_used : (b : ℕ) → 1 ≤ number_occurrences b (pairs_blocks (x ∷ [])) → disk_block (with_blocks blocks t.disk) b ≡ disk_block t.disk b
+      same_used : (b : ℕ) → 1 ≤ occurrence_count b (pairs_blocks (x ∷ [])) → disk_block (with_blocks blocks t.disk) b ≡ disk_block t.disk b
       same_used b some = others.others b (all_apart (fresh.0 ∷ fresh.1 ∷ []) b (
           let n = once_from_distinct (fresh.0 ∷ fresh.1 ∷ used_blocks t.disk (thread_at w (x ∷ []))) distinct b in
           let k = count_append b (pairs_blocks (thread_at w (x ∷ []))) (flat_map (λ s. struct_blocks t.disk s.struct) (all_unmoved_slots (thread_at w (x ∷ [])))) in
@@ -126,12 +126,12 @@ module _ (t : KeptThread) (ready : IsReadyImage t) (last : ℕ) (chain before le
         geometry = record { block_size = refl; page = refl; order = refl; profile = refl; count = others.count };
         same = λ b none. others.others b (all_apart (fresh.0 ∷ fresh.1 ∷ []) b (omega arith));
         contents = (content_same t.disk (with_blocks blocks t.disk) x.at first_same second_same ∙ (each_from (λ (z : Pair). content_at t.disk z.at ≡ Some z.content) w (x ∷ []) (recursion_from_All (λ (z : Pair). content_at t.disk z.at ≡ Some z.content) (thread_at w (x ∷ [])) accepted.thread.contents)).0, tt);
-        first = λ h b. subst (λ o. BeginsWith o superblock_entry) (sym (ap₂ current_of_two first_same second_same)) b;
+        first = λ h b. subst (λ o. HasFirstLogEntry o superblock_entry) (sym (ap₂ later_committed_block first_same second_same)) b;
       }
 
   -- ---- it was done
 
-  pub has_threaded : (new : KeptThread) → IsThreadedIn (with_map t (map_taking_two t.map fresh)) last fresh (threading_changes t last fresh) new → ChangesThreadBlocks (addresses_blocks (thread_pair t last).at fresh) (with_map t (map_taking_two t.map fresh)) new
+  pub has_threaded : (new : KeptThread) → IsThreadedIn (with_map t (map_allocating_two t.map fresh)) last fresh (threading_changes t last fresh) new → ChangesThreadBlocks (addresses_blocks (thread_pair t last).at fresh) (with_map t (map_allocating_two t.map fresh)) new
       → HasThreaded t chain before left after x fresh new
   has_threaded new is writes =
       let same = made_same is.content is.made in
@@ -156,7 +156,7 @@ module _ (t : KeptThread) (ready : IsReadyImage t) (last : ℕ) (chain before le
 
   -- ---- what it shows
 
-  module _ (P : Path) (a : ℕ × ℕ) (leads : LeadsTo (thread_at (last_site chain before left after) (x ∷ [])) P a) (same : same_pair (begin_of (last_site chain before left after) (x ∷ [])) a ≡ true) where
+  module _ (P : Path) (a : ℕ × ℕ) (leads : IsDirectoryAtPath (thread_at (last_site chain before left after) (x ∷ [])) P a) (same : same_pair (begin_of (last_site chain before left after) (x ∷ [])) a ≡ true) where
     pub sync_now : (pairs_gstate (thread_at (last_site chain before left after) (naming_pair x fresh ∷ ([] ++ fresh_pair x fresh ∷ [])))).sync ≡ true
     sync_now = ap (λ (z : Gstate). z.sync) state_now
 
@@ -174,7 +174,7 @@ module _ (t : KeptThread) (ready : IsReadyImage t) (last : ℕ) (chain before le
         ∙ sym (own_entries t.disk disk chain before left after x [] y [] f (fresh.0 ∷ fresh.1 ∷ []) [] x.content.slots [] [] [] step P a leads same)
 
     -- a power loss leaves the tree from before it
-    pub left_threading : (left_blocks : Blocks) (tree : Tree) → LossLeavesThreaded (with_map t (map_taking_two t.map fresh)) last fresh (threading_changes t last fresh) left_blocks
+    pub left_threading : (left_blocks : Blocks) (tree : Tree) → LossLeavesThreaded (with_map t (map_allocating_two t.map fresh)) last fresh (threading_changes t last fresh) left_blocks
         → HasEitherTree (with_blocks left_blocks t.disk) (disk_tree t.disk t.pairs) tree
     left_threading blocks tree is = go is.content
       where

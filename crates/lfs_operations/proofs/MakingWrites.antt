@@ -1,5 +1,5 @@
 -- The blocks that the two steps of a mkdir write.
-use Rattle.lfs_operations.proofs.Common.{ℕ, ◌≡◌, ◌≢◌, List, [], ◌∷◌, subst, arith, All-from_recursion, recursion_from_All, IsFree, SurvivesLossSince, Tree, survives_then, each_weaker, KeptThread, ChangesThreadBlocks, thread_pair, addresses_blocks, All, WritesPairTwo, map_taking_two, WritesPairsFour, Name}
+use Rattle.lfs_operations.proofs.Common.{ℕ, ◌≡◌, ◌≢◌, List, [], ◌∷◌, subst, arith, All-from_recursion, recursion_from_All, IsFree, SurvivesLossSince, Tree, survives_then, each_weaker, KeptThread, ChangesThreadBlocks, thread_pair, addresses_blocks, All, WritesPairAndTwoFree, map_allocating_two, WritesPairsAndFourFree, Name}
 use Rattle.lfs_operations.proofs.MakingCounts.{freed}
 use Rattle.lfs_operations.proofs.Putting.{with_map, writes_trans, writes_wider}
 use Rattle.lfs_operations.proofs.Mkdir.{HasLinked, IsMaking, at_still}
@@ -22,12 +22,12 @@ module _ {t : KeptThread} {index id : ℕ} {name : Name} (mk : IsMaking t index 
       let each = recursion_from_All (λ (c : ℕ). c ≢ b) (own more) apart in
       All-from_recursion (λ c. c ≢ b) ((thread_pair t index).at.0 ∷ (thread_pair t index).at.1 ∷ more) (each.0, (each.1.0, each.1.1.1.1.1.1))
 
-  first_wider : (new : KeptThread) (more : List ℕ) → ChangesThreadBlocks (addresses_blocks (thread_pair t mk.last).at mk.fresh) (with_map t (map_taking_two t.map mk.fresh)) new → ChangesThreadBlocks (own more) t new
+  first_wider : (new : KeptThread) (more : List ℕ) → ChangesThreadBlocks (addresses_blocks (thread_pair t mk.last).at mk.fresh) (with_map t (map_allocating_two t.map mk.fresh)) new → ChangesThreadBlocks (own more) t new
   first_wider new more w =
       let k = writes_wider (own more) (covers_first more) w in
       record { others = k.others; elsewhere = k.elsewhere; shape = record { block_size = k.shape.block_size; page = k.shape.page; order = k.shape.order; profile = k.shape.profile; count = k.shape.count }; at_worst = k.at_worst }
 
-  pub writes_first : {s : KeptThread} (new : KeptThread) → s ≡ with_map t (map_taking_two t.map mk.fresh) → ChangesThreadBlocks (addresses_blocks (thread_pair s mk.last).at mk.fresh) s new → WritesPairsFour t index new
+  pub writes_first : {s : KeptThread} (new : KeptThread) → s ≡ with_map t (map_allocating_two t.map mk.fresh) → ChangesThreadBlocks (addresses_blocks (thread_pair s mk.last).at mk.fresh) s new → WritesPairsAndFourFree t index new
   writes_first new taken w = record {
     last = mk.last;
     is_last = mk.is_last;
@@ -37,8 +37,8 @@ module _ {t : KeptThread} {index id : ℕ} {name : Name} (mk : IsMaking t index 
     writes = first_wider new [] (subst (λ (s : KeptThread). ChangesThreadBlocks (addresses_blocks (thread_pair s mk.last).at mk.fresh) s new) taken w);
   }
 
-  module _ {mid : KeptThread} (h : HasLinked mk mid) (new : KeptThread) (second : WritesPairTwo mid index new) where
-    pub writes_both : WritesPairsFour t index new
+  module _ {mid : KeptThread} (h : HasLinked mk mid) (new : KeptThread) (second : WritesPairAndTwoFree mid index new) where
+    pub writes_both : WritesPairsAndFourFree t index new
     writes_both = record {
       last = mk.last;
       is_last = mk.is_last;

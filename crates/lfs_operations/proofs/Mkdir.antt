@@ -1,5 +1,5 @@
 -- The making of a directory, as two steps of the thread.
-use Rattle.lfs_operations.proofs.Common.{ℕ, ◌≡◌, ◌+◌, ◌<◌, ◌≤◌, ◌^◌, ◌⊎◌, inl, inr, true, List, [], ◌∷◌, ◌++◌, length, Some, refl, sym, ap, ap₂, subst, ◌∙◌, arith, length-append, insert, slice_get, recursion_from_All, tree_creating, Blocks, SameExceptBlocks, IsFree, IsInFlight, Free, content_at, Disk, block_count, charge_limit, BelongsAt, AreWords, Name, HasEitherTree as IsLeftOf, with_blocks, FitsInPair, Gstate, Slot, zero_gstate, gstate_xor, same_pair, directory_slot, pair_with_slots, Pair, pairs_blocks, pairs_gstate, is_hard_tail, tail_target, count_before_root, address_blocks, addresses_blocks, DirectoryNode, IsWritableEntry, IsWritable, IsAccepted, LeadsTo, all_entries, disk_tree, Became, last_site, chain_now, InTwo, mkdir_in_two, CompletesOperation, no_move_from, recovered_from, HasNoMove, gstate_cons, gstate_self, sync_bit_delta, with_sync_inverted, turned_is, entry_small, place_at, insert_here, IsPlace, step_writable, site, place_of_belongs, AnyByRecursion, Site, among_left, among_right, begin_of, dirs_at, thread_at, IsSite, IsChain, KeptThread, IsThreadedIn, LossLeavesThreaded, ChangesThreadBlocks, thread_pair, complete_after, All, Contains, AreByteBlocks, entry_charge, IsPairTouched, AreTwoFree, CanPut, HasTwoFree, LeftByPut, ArePut, map_taking_two, AreBothTouched, CanMakeAt, HasFreeBlocks, IsDirectoryEnd, IsDirectoryMade, directory_entry_changes, threading_changes, tree_with_directory, SameGeometryAs, CallEvent, CanLinkPairAfter, CleanLossLeaves, SurvivesLossSince, PutMove, address_bytes, directory_name_type, directory_type, AreUsed, BeginWithSuperblock, ContentChange, IsStep, append-nil, became_front, became_shape, count_append, gstate_right, number_occurrences, site_gstate_moved, some_filled, superblock_first, used_blocks}
+use Rattle.lfs_operations.proofs.Common.{ℕ, ◌≡◌, ◌+◌, ◌<◌, ◌≤◌, ◌^◌, ◌⊎◌, inl, inr, true, List, [], ◌∷◌, ◌++◌, length, Some, refl, sym, ap, ap₂, subst, ◌∙◌, arith, length-append, insert, slice_get, recursion_from_All, tree_creating, Blocks, SameExceptBlocks, IsFree, IsInFlight, Free, content_at, Disk, block_count, half_pair_capacity, IsInsertionPosition, AreU32Addresses, Name, HasEitherTree as IsLeftOf, with_blocks, FitsInPair, Gstate, Slot, zero_gstate, gstate_xor, same_pair, directory_slot, pair_with_slots, Pair, pairs_blocks, pairs_gstate, is_hard_tail, tail_target, count_before_root, address_blocks, addresses_blocks, DirectoryNode, IsWritableEntry, IsWritable, IsAccepted, IsDirectoryAtPath, all_entries, disk_tree, Became, last_site, chain_now, InTwo, mkdir_in_two, CompletesOperation, no_move_from, recovered_from, HasNoMove, gstate_cons, gstate_self, sync_bit_delta, with_sync_inverted, turned_is, entry_small, place_at, insert_here, IsPlace, step_writable, site, place_of_belongs, HoldsForSome, Site, among_left, among_right, begin_of, dirs_at, thread_at, IsSite, IsChain, KeptThread, IsThreadedIn, LossLeavesThreaded, ChangesThreadBlocks, thread_pair, complete_after, All, Contains, AreByteBlocks, reserved_entry_size, IsPairChangedOrDropped, AreTwoFreeBlocks, CanCommitOrSplit, HasTwoFreeBlocks, LeftByCommitOrSplit, AreCommittedOrSplit, map_allocating_two, AreBothChangedOrDropped, CanMakeDirectoryAt, HasFreeBlocks, IsDirectoryEnd, IsDirectoryMade, directory_entry_changes, threading_changes, tree_with_directory, SameGeometryAs, CallEvent, CanLinkPairAfter, CleanLossLeaves, SurvivesLossSince, PutMove, address_bytes, directory_name_type, directory_struct_type, AreUsed, BeginWithSuperblock, ContentChange, IsStep, append-nil, became_front, became_shape, count_append, gstate_right, occurrence_count, site_gstate_moved, some_filled, begins_with_superblock, used_blocks}
 use Rattle.lfs_model.specs.declared.limits.Profile.{Profile}
 use Rattle.lfs_model.specs.session.Operations as ops
 use Rattle.lfs_model.proofs.Beside.{change}
@@ -32,20 +32,20 @@ holds_at t index w p there place ok =
 
 -- The directory's last pair is known, where the entry's pair stands. Two blocks are free for the new one.
 pub record IsMaking (t : KeptThread) (index id : ℕ) (name : Name) : Type 0 where
-  pub can : CanMakeAt t index id name
+  pub can : CanMakeDirectoryAt t index id name
   pub last : ℕ
   pub is_last : IsDirectoryEnd t.pairs index last
   pub fresh : ℕ × ℕ
-  pub two : AreTwoFree t.map fresh
+  pub two : AreTwoFreeBlocks t.map fresh
   pub bytes : AreByteBlocks t.disk.blocks
   pub many : block_count t.disk < 2 ^ 32
 
-abbrev pub making : {t : KeptThread} {index id : ℕ} {name : Name} {last : ℕ} {fresh : ℕ × ℕ} → CanMakeAt t index id name → IsDirectoryEnd t.pairs index last → AreTwoFree t.map fresh → AreByteBlocks t.disk.blocks → block_count t.disk < 2 ^ 32
+abbrev pub making : {t : KeptThread} {index id : ℕ} {name : Name} {last : ℕ} {fresh : ℕ × ℕ} → CanMakeDirectoryAt t index id name → IsDirectoryEnd t.pairs index last → AreTwoFreeBlocks t.map fresh → AreByteBlocks t.disk.blocks → block_count t.disk < 2 ^ 32
     → IsMaking t index id name
 making {last = last} {fresh = fresh} can is_last two bytes many = record { can = can; last = last; is_last = is_last; fresh = fresh; two = two; bytes = bytes; many = many }
 
 module _ {t : KeptThread} {index id : ℕ} {name : Name} (mk : IsMaking t index id name) where
-  abbrev b : BelongsAt t.disk.order t.pairs mk.can.first name index id
+  abbrev b : IsInsertionPosition t.disk.order t.pairs mk.can.first name index id
   b = mk.can.belongs
 
   abbrev p : Pair
@@ -76,35 +76,35 @@ module _ {t : KeptThread} {index id : ℕ} {name : Name} (mk : IsMaking t index 
   abbrev here : Site
   here = last_site w.chain w.before way.left w.after
 
-  leads_here : LeadsTo (thread_at here (x ∷ [])) mk.can.path mk.can.at
-  leads_here = subst (λ z. LeadsTo z mk.can.path mk.can.at) way.end.there mk.can.leads
+  leads_here : IsDirectoryAtPath (thread_at here (x ∷ [])) mk.can.path mk.can.at
+  leads_here = subst (λ z. IsDirectoryAtPath z mk.can.path mk.can.at) way.end.there mk.can.leads
 
   same_here : same_pair (begin_of here (x ∷ [])) mk.can.at ≡ true
   same_here = ap (λ z. same_pair z mk.can.at) way.began ∙ stand.begin
 
   -- ---- the mk.fresh pair is threaded
 
-  address : AreWords mk.fresh
+  address : AreU32Addresses mk.fresh
   address = let s = mk.can.ready.size in let g = within t.map mk.fresh.0 Free mk.two.first in let h = within t.map mk.fresh.1 Free mk.two.second in (omega arith, omega arith)
 
   made : complete_after t mk.last (threading_changes t mk.last mk.fresh) ≡ Some y.content
   made = threaded_made t mk.last x (pair_is t mk.last here x way.end.there way.end.place) (holds_at t mk.last here x way.end.there way.end.place mk.can.ready.accepted)
       (logged_there t.disk (thread_pair t mk.last).at mk.bytes) mk.fresh address mk.two.apart
 
-  pub can_link : CanLinkPairAfter (with_map t (map_taking_two t.map mk.fresh)) mk.last mk.fresh
+  pub can_link : CanLinkPairAfter (with_map t (map_allocating_two t.map mk.fresh)) mk.last mk.fresh
   can_link = record {
     can = record { below = below t mk.last here x way.end.there way.end.place; content = y.content; made = made; next = refl; held = held t.map mk.fresh mk.two };
     fits = λ c m. fits_now t mk.can.ready mk.last w.chain w.before way.left w.after x way.end mk.fresh mk.two made c m;
   }
 
-  pub threading_survives : {s : KeptThread} {new : List CallEvent} → s ≡ with_map t (map_taking_two t.map mk.fresh) → CleanLossLeaves s.history new (LossLeavesThreaded s mk.last mk.fresh (threading_changes s mk.last mk.fresh))
+  pub threading_survives : {s : KeptThread} {new : List CallEvent} → s ≡ with_map t (map_allocating_two t.map mk.fresh) → CleanLossLeaves s.history new (LossLeavesThreaded s mk.last mk.fresh (threading_changes s mk.last mk.fresh))
       → SurvivesLossSince t.disk t.history new (disk_tree t.disk t.pairs) (tree_with_directory t mk.can.path name)
   threading_survives {new = new} taken stops = survives_step t.disk
       (λ left is. left_threading t mk.can.ready mk.last w.chain w.before way.left w.after x way.end mk.fresh mk.two made mk.can.path mk.can.at leads_here same_here left (tree_with_directory t mk.can.path name) is)
       (subst (λ (s : KeptThread). CleanLossLeaves s.history new (LossLeavesThreaded s mk.last mk.fresh (threading_changes s mk.last mk.fresh))) taken stops)
 
   -- if memory for the step couldn't be allocated
-  pub left_unthreaded : {s new : KeptThread} → s ≡ with_map t (map_taking_two t.map mk.fresh) → ChangesThreadBlocks (addresses_blocks (thread_pair s mk.last).at mk.fresh) s new → SameExceptBlocks (address_blocks mk.fresh) s.disk.blocks new.disk.blocks
+  pub left_unthreaded : {s new : KeptThread} → s ≡ with_map t (map_allocating_two t.map mk.fresh) → ChangesThreadBlocks (addresses_blocks (thread_pair s mk.last).at mk.fresh) s new → SameExceptBlocks (address_blocks mk.fresh) s.disk.blocks new.disk.blocks
       → IsLeftOf new.disk (disk_tree t.disk t.pairs) (tree_with_directory t mk.can.path name)
   left_unthreaded {s = s} {new = new} taken writes others = subst (λ (d : Disk). IsLeftOf d (disk_tree t.disk t.pairs) (tree_with_directory t mk.can.path name)) same_disk
       (left_beside t mk.can.ready mk.last w.chain w.before way.left w.after x way.end mk.fresh mk.two made new.disk.blocks (tree_with_directory t mk.can.path name)
@@ -121,10 +121,10 @@ module _ {t : KeptThread} {index id : ℕ} {name : Name} (mk : IsMaking t index 
   -- after the first step
   pub record HasLinked (m : KeptThread) : Type 0 where
     pub threaded : HasThreaded t w.chain w.before way.left w.after x mk.fresh m
-    pub writes : ChangesThreadBlocks (addresses_blocks (thread_pair t mk.last).at mk.fresh) (with_map t (map_taking_two t.map mk.fresh)) m
+    pub writes : ChangesThreadBlocks (addresses_blocks (thread_pair t mk.last).at mk.fresh) (with_map t (map_allocating_two t.map mk.fresh)) m
     pub bytes_now : AreByteBlocks m.disk.blocks
 
-  pub has_linked : {s m : KeptThread} → s ≡ with_map t (map_taking_two t.map mk.fresh) → IsThreadedIn s mk.last mk.fresh (threading_changes s mk.last mk.fresh) m
+  pub has_linked : {s m : KeptThread} → s ≡ with_map t (map_allocating_two t.map mk.fresh) → IsThreadedIn s mk.last mk.fresh (threading_changes s mk.last mk.fresh) m
       → ChangesThreadBlocks (addresses_blocks (thread_pair s mk.last).at mk.fresh) s m → AreByteBlocks m.disk.blocks → HasLinked m
   has_linked {m = m} taken is writes bytes_now =
       let w_now = subst (λ (s : KeptThread). ChangesThreadBlocks (addresses_blocks (thread_pair s mk.last).at mk.fresh) s m) taken writes in
@@ -139,7 +139,7 @@ module _ {t : KeptThread} {index id : ℕ} {name : Name} (mk : IsMaking t index 
     abbrev h : HasThreaded t w.chain w.before way.left w.after x mk.fresh m
     h = linked.threaded
 
-    pub room_left : (HasTwoFree m.map → ⊥) → ⊥
+    pub room_left : (HasTwoFreeBlocks m.map → ⊥) → ⊥
     room_left none = no_room m.map none (subst (HasFreeBlocks 2) (sym h.map) (less_room 2 t.map mk.fresh mk.two mk.can.room))
 
     abbrev v : Site
@@ -191,9 +191,9 @@ module _ {t : KeptThread} {index id : ℕ} {name : Name} (mk : IsMaking t index 
 
     entry_fits : IsWritableEntry m.disk.profile m.disk.block_size m.disk.page u
     entry_fits = record {
-      charge = subst (λ (x : Profile). entry_charge x m.disk.block_size name [] ≤ charge_limit m.disk.block_size m.disk.page) (sym h.step.device.geometry.profile)
-          (subst (λ (z : ℕ). entry_charge t.disk.profile z name [] ≤ charge_limit z m.disk.page) (sym h.step.device.geometry.block_size)
-          (subst (λ (z : ℕ). entry_charge t.disk.profile t.disk.block_size name [] ≤ charge_limit t.disk.block_size z) (sym h.step.device.geometry.page) mk.can.fits));
+      charge = subst (λ (x : Profile). reserved_entry_size x m.disk.block_size name [] ≤ half_pair_capacity m.disk.block_size m.disk.page) (sym h.step.device.geometry.profile)
+          (subst (λ (z : ℕ). reserved_entry_size t.disk.profile z name [] ≤ half_pair_capacity z m.disk.page) (sym h.step.device.geometry.block_size)
+          (subst (λ (z : ℕ). reserved_entry_size t.disk.profile t.disk.block_size name [] ≤ half_pair_capacity t.disk.block_size z) (sym h.step.device.geometry.page) mk.can.fits));
       inline = tt;
     }
 
@@ -215,14 +215,14 @@ module _ {t : KeptThread} {index id : ℕ} {name : Name} (mk : IsMaking t index 
     holds_now : content_at m.disk (thread_pair m index).at ≡ Some way.p2.content
     holds_now = holds_at m index v way.p2 there_now stand.number accepted_now
 
-    new_entry : IsNewEntry m way.p2 id directory_name_type name directory_type (address_bytes mk.fresh) u (PutMove (with_sync_inverted (thread_pair m index).content.move) ∷ []) move
+    new_entry : IsNewEntry m way.p2 id directory_name_type name directory_struct_type (address_bytes mk.fresh) u (PutMove (with_sync_inverted (thread_pair m index).content.move) ∷ []) move
     new_entry = directory_entry m index way.p2 pair_now holds_now (logged_there m.disk (thread_pair m index).at linked.bytes_now) id name mk.fresh (name_length name mk.can.is_name) address id_within fits_there
         (entry_small m.disk.profile m.disk.block_size m.disk.page u large_now entry_fits)
 
     made_now : complete_after m index changes ≡ Some (content_with way.p2 slots move)
     made_now = entry_made m index way.p2 pair_now holds_now (logged_there m.disk (thread_pair m index).at linked.bytes_now) new_entry ∙ ap (λ z. Some (content_with way.p2 z move)) slots_now
 
-    pub can_enter : CanPut m index (directory_entry_changes m index id name mk.fresh)
+    pub can_enter : CanCommitOrSplit m index (directory_entry_changes m index id name mk.fresh)
     can_enter = can_put_entry m index way.p2 pair_now holds_now (logged_there m.disk (thread_pair m index).at linked.bytes_now) new_entry (below m index v way.p2 there_now stand.number)
 
     -- the superblock stays in slot 0
@@ -230,7 +230,7 @@ module _ {t : KeptThread} {index id : ℕ} {name : Name} (mk : IsMaking t index 
     first_kept [] e = absurd (let z = sym b.fronted ∙ e.0 in cc)
     first_kept (s ∷ l) e = e
 
-    front_kept : (l : List Slot) → superblock_first (l ++ b.right) ≡ true → superblock_first (l ++ u ∷ b.right) ≡ true
+    front_kept : (l : List Slot) → begins_with_superblock (l ++ b.right) ≡ true → begins_with_superblock (l ++ u ∷ b.right) ≡ true
     front_kept [] e = absurd (let z = sym b.fronted ∙ e in cc)
     front_kept (s ∷ l) e = e
 
@@ -282,7 +282,7 @@ module _ {t : KeptThread} {index id : ℕ} {name : Name} (mk : IsMaking t index 
         still_none = no_move_from (thread_at v (q ∷ more)) still_now;
         device = e.device;
         free = e.free;
-        shape = became_shape m.disk way.p2 (pair_with_slots slots way.p2) q more e.at e.became (became_front m.disk way.p2 (pair_with_slots slots way.p2) q more e.is e.became (λ h. front_kept b.left (sym (ap superblock_first was) ∙ h)));
+        shape = became_shape m.disk way.p2 (pair_with_slots slots way.p2) q more e.at e.became (became_front m.disk way.p2 (pair_with_slots slots way.p2) q more e.is e.became (λ h. front_kept b.left (sym (ap begins_with_superblock was) ∙ h)));
         was = append-nil way.p2.content.slots ∙ was;
         is = e.is;
         splice = record { front = λ k. b.fronted; entries = (record { name = mk.can.is_name; struct = tt }, tt); lists = (tt, tt); blocks = λ b. omega arith };
@@ -301,7 +301,7 @@ module _ {t : KeptThread} {index id : ℕ} {name : Name} (mk : IsMaking t index 
       both : InTwo t.disk (thread_at here (x ∷ [])) m.disk (thread_at v (way.p2 ∷ [])) disk (thread_at v (q ∷ more)) (λ z. z) (tree_creating (mk.can.path ++ name ∷ []) (DirectoryNode [] []))
       both = mkdir_in_two t.disk m.disk disk w.chain w.before way.left w.after x [] y [] f (mk.fresh.0 ∷ mk.fresh.1 ∷ []) x.content.slots [] h.step mk.can.path mk.can.at leads_here same_here sync
           v way.p2 q more (pairs_blocks more) b.left b.right u step same_thread mk.can.path mk.can.at
-          (subst (λ z. LeadsTo z mk.can.path mk.can.at) same_thread (ap (λ d. d mk.can.path) first.follows.leads ∙ leads_here))
+          (subst (λ z. IsDirectoryAtPath z mk.can.path mk.can.at) same_thread (ap (λ d. d mk.can.path) first.follows.leads ∙ leads_here))
           (ap (λ z. same_pair z mk.can.at) way.begins ∙ stand.begin) place_there refl
           (recovered_from t.disk (thread_at here (x ∷ [])) h.step.accepted settled).reached
 
@@ -312,10 +312,10 @@ module _ {t : KeptThread} {index id : ℕ} {name : Name} (mk : IsMaking t index 
       shows_now : disk_tree disk (thread_at v (q ∷ more)) ≡ tree_with_directory t mk.can.path name
       shows_now = both.end.shows ∙ ap (λ z. tree_creating (mk.can.path ++ name ∷ []) (DirectoryNode [] []) (disk_tree t.disk z)) (sym way.end.there)
 
-      count_now : (b : ℕ) → number_occurrences b (used_blocks disk (thread_at v (q ∷ more))) ≡ number_occurrences b (pairs_blocks more) + number_occurrences b (used_blocks m.disk (thread_at v (way.p2 ∷ [])))
+      count_now : (b : ℕ) → occurrence_count b (used_blocks disk (thread_at v (q ∷ more))) ≡ occurrence_count b (pairs_blocks more) + occurrence_count b (used_blocks m.disk (thread_at v (way.p2 ∷ [])))
       count_now c = used_count_now m.disk disk v way.p2 q more b.left (u ∷ []) b.right step.no_move step.still_none step.device e.at was step.is (λ b. refl) c
 
-    pub made_is : (new : KeptThread) → ArePut m index (directory_entry_changes m index id name mk.fresh) new → IsDirectoryMade t new mk.can.path name
+    pub made_is : (new : KeptThread) → AreCommittedOrSplit m index (directory_entry_changes m index id name mk.fresh) new → IsDirectoryMade t new mk.can.path name
     made_is new is = go (put_turned m index changes v way.p2 slots move turn mapped new is)
       where
         go : TurnedTo m v way.p2 slots move new → IsDirectoryMade t new mk.can.path name
@@ -355,37 +355,37 @@ module _ {t : KeptThread} {index id : ℕ} {name : Name} (mk : IsMaking t index 
             was_free c free = freed t.map mk.fresh mk.two c (subst (λ s. IsFree s c) h.map free)
 
     -- neither pair stays with what it held
-    pub made_alters : (new : KeptThread) → ArePut m index (directory_entry_changes m index id name mk.fresh) new → AreBothTouched t index new
+    pub made_alters : (new : KeptThread) → AreCommittedOrSplit m index (directory_entry_changes m index id name mk.fresh) new → AreBothChangedOrDropped t index new
     made_alters new is = go (put_turned m index changes v way.p2 slots move turn mapped new is)
       where
-        x_was : AnyByRecursion (λ z. z ≡ x) t.pairs
-        x_was = subst (AnyByRecursion (λ z. z ≡ x)) (sym way.end.there) (among_right (λ z. z ≡ x) w.chain (dirs_at here (x ∷ [])) (among_right (λ z. z ≡ x) (w.before ++ way.left) (x ∷ w.after) (inl refl)))
+        x_was : HoldsForSome (λ z. z ≡ x) t.pairs
+        x_was = subst (HoldsForSome (λ z. z ≡ x)) (sym way.end.there) (among_right (λ z. z ≡ x) w.chain (dirs_at here (x ∷ [])) (among_right (λ z. z ≡ x) (w.before ++ way.left) (x ∷ w.after) (inl refl)))
 
-        go : TurnedTo m v way.p2 slots move new → AreBothTouched t index new
+        go : TurnedTo m v way.p2 slots move new → AreBothChangedOrDropped t index new
         go e = by way.which
           where
             ok : IsAccepted new.disk (thread_at v (e.q ∷ e.more))
             ok = (both new.disk e.q e.more e.turned).end.accepted
 
             -- the mk.last one, by the tail of the pair that stands there now
-            end_goes : (z : Pair) → AnyByRecursion (λ y. y ≡ z) (thread_at v (e.q ∷ e.more)) → z.at ≡ x.at → (tail_target z.content.tail ≡ Some mk.fresh) ⊎ (is_hard_tail z.content.tail ≡ true) → Contains new.pairs x → ⊥
+            end_goes : (z : Pair) → HoldsForSome (λ y. y ≡ z) (thread_at v (e.q ∷ e.more)) → z.at ≡ x.at → (tail_target z.content.tail ≡ Some mk.fresh) ⊎ (is_hard_tail z.content.tail ≡ true) → Contains new.pairs x → ⊥
             end_goes z h at tail has =
                 other_tail t z x mk.fresh mk.can.ready mk.two.first x_was (run_right way.left x [] way.end.site.run) (thread_at v (e.q ∷ e.more)) ok.thread.distinct h at tail (subst (λ ps. Contains ps x) e.pairs has)
 
-            end_alters : (Contains new.pairs x → ⊥) → (i : ℕ) → IsDirectoryEnd t.pairs index i → IsPairTouched t i new
+            end_alters : (Contains new.pairs x → ⊥) → (i : ℕ) → IsDirectoryEnd t.pairs index i → IsPairChangedOrDropped t i new
             end_alters gone i is_i =
                 let a = is_i.is in
                 let b = mk.is_last.is in
                 let number : mk.last ≡ i = omega arith in
-                subst (λ (j : ℕ). IsPairTouched t j new) number (subst (λ z. Contains new.pairs z → ⊥) (sym (pair_is t mk.last here x way.end.there way.end.place)) gone)
+                subst (λ (j : ℕ). IsPairChangedOrDropped t j new) number (subst (λ z. Contains new.pairs z → ⊥) (sym (pair_is t mk.last here x way.end.there way.end.place)) gone)
 
-            entry_alters : (Contains new.pairs p → ⊥) → IsPairTouched t index new
+            entry_alters : (Contains new.pairs p → ⊥) → IsPairChangedOrDropped t index new
             entry_alters = subst (λ z. Contains new.pairs z → ⊥) (sym (pair_is t index w p stand.there stand.number))
 
             at_now : e.q.at ≡ p.at
             at_now = e.turned.at ∙ way.at
 
-            by : IsOne p x way.p2 mk.fresh ⊎ IsAhead p x way.p2 way.right mk.fresh → AreBothTouched t index new
+            by : IsOne p x way.p2 mk.fresh ⊎ IsAhead p x way.p2 way.right mk.fresh → AreBothChangedOrDropped t index new
             by (inl h) = record { entry = entry_alters (subst (λ z. Contains new.pairs z → ⊥) h.same gone); end = end_alters gone }
               where
                 tail_now : (more : List Pair) → Became m.disk way.p2 (pair_with_slots slots way.p2) e.q more → (tail_target e.q.content.tail ≡ Some mk.fresh) ⊎ (is_hard_tail e.q.content.tail ≡ true)
@@ -407,7 +407,7 @@ module _ {t : KeptThread} {index id : ℕ} {name : Name} (mk : IsMaking t index 
                     (subst (Contains (thread_at v (e.q ∷ e.more))) (sym h.stays) (subst (λ ps. Contains ps p) e.pairs has))
 
     -- a power loss leaves the tree from before it or from after it
-    pub left_by_entering : (left : Blocks) → LeftByPut m index (directory_entry_changes m index id name mk.fresh) left → IsLeftOf (with_blocks left t.disk) (disk_tree t.disk t.pairs) (tree_with_directory t mk.can.path name)
+    pub left_by_entering : (left : Blocks) → LeftByCommitOrSplit m index (directory_entry_changes m index id name mk.fresh) left → IsLeftOf (with_blocks left t.disk) (disk_tree t.disk t.pairs) (tree_with_directory t mk.can.path name)
     left_by_entering left is = subst (λ (d : Disk). IsLeftOf d (disk_tree t.disk t.pairs) (tree_with_directory t mk.can.path name)) same_disk
         (go (left_put m index changes v way.p2 slots move turn mapped left is))
       where

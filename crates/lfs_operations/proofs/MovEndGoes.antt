@@ -1,5 +1,5 @@
 -- The end of a pending move that drops the pair with its slot, as a step of the thread.
-use Rattle.lfs_operations.proofs.Common.{ℕ, ◌≡◌, ◌≢◌, inl, inr, ◌-◌, true, false, List, [], ◌∷◌, ◌++◌, length, refl, sym, ap, ap₂, subst, ◌∙◌, arith, append-nil, length-append, remove, subst₂, Disk, CallEvent, MoveStateFits, SurvivesLossSince, PairContent, Gstate, Slot, same_pair, Pair, pairs_gstate, is_hard_tail, count_before_root, IsAccepted, IsWritable, all_directories, disk_tree, used_blocks, SameSlots, alike_append, alike_itself, number_occurrences, HoldsAtLosses-weaker, HasSite, site_of_number, directory_addresses, AnyByRecursion, Site, thread_at, IsWritableChange, ends_joined, CleanLossLeaves, KeptThread, IsPairWritten, thread_pair, map_freeing, CanDropAt, IsPairDropped, LeftByDrop, content_after_drop, CanEndMoveAt, HasEndedMoveAt, continues_directory, gstate_without_move}
+use Rattle.lfs_operations.proofs.Common.{ℕ, ◌≡◌, ◌≢◌, inl, inr, ◌-◌, true, false, List, [], ◌∷◌, ◌++◌, length, refl, sym, ap, ap₂, subst, ◌∙◌, arith, append-nil, length-append, remove, subst₂, Disk, CallEvent, MoveStateFits, SurvivesLossSince, PairContent, Gstate, Slot, same_pair, Pair, pairs_gstate, is_hard_tail, count_before_root, IsAccepted, IsWritable, all_directories, disk_tree, used_blocks, SameSlots, alike_append, alike_itself, occurrence_count, HoldsAtLosses-weaker, HasSite, site_of_number, directory_addresses, HoldsForSome, Site, thread_at, IsWritableChange, last_tail_is_hard, CleanLossLeaves, KeptThread, IsPairWritten, thread_pair, map_freeing, CanDropAt, IsPairDropped, LeftByDrop, content_after_drop, CanEndMoveAt, HasEndedMoveAt, continues_directory, gstate_without_move}
 use Rattle.lfs_operations.proofs.Dropped.{IsToBeDropped, can_drop_pair, device_left, grouped, is, left_dropped, pairs_left, slots_left, state_left, tail_left}
 use Rattle.lfs_operations.proofs.DroppedTails.{remove_next}
 use Rattle.lfs_operations.proofs.MovEnding.{led_is}
@@ -46,11 +46,11 @@ module _ (t : KeptThread) (index id : ℕ) (can : CanEndMoveAt t index id true) 
 
   -- ---- the pair in front
 
-  led : ends_joined false (v.before ++ v.left) ≡ true
+  led : last_tail_is_hard false (v.before ++ v.left) ≡ true
   led = sym (ap (λ z. continues_directory z index) h.is ∙ led_is v o index h.is_site.chain h.number) ∙ (can.alone refl).0
 
   some_left : v.left ≢ []
-  some_left none = absurd (let z = sym led ∙ ap (λ z. ends_joined false (v.before ++ z)) none ∙ ap (ends_joined false) (append-nil v.before) ∙ flag_ends v.before h.is_site.ends in cc)
+  some_left none = absurd (let z = sym led ∙ ap (λ z. last_tail_is_hard false (v.before ++ z)) none ∙ ap (last_tail_is_hard false) (append-nil v.before) ∙ flag_ends v.before h.is_site.ends in cc)
 
   before_it : StandsBehind t.pairs v o index
   before_it = stands_behind t.pairs v o index h.is h.is_site (site_place h) some_left
@@ -103,10 +103,10 @@ module _ (t : KeptThread) (index id : ℕ) (can : CanEndMoveAt t index id true) 
   goes_on disk written = whole_ended t.disk w x o u ending disk q (over_on disk written)
 
   -- the others stay
-  still_there : (z : Pair) → z.content.slots ≡ [] → is_hard_tail z.content.tail ≡ false → AnyByRecursion (λ y. y ≡ z) t.pairs → AnyByRecursion (λ y. y ≡ z) (thread_at w (q ∷ []))
-  still_there z none soft among = among_turned (λ y. y ≡ z) w (x ∷ o ∷ []) (q ∷ []) gone (subst (AnyByRecursion (λ y. y ≡ z)) there among)
+  still_there : (z : Pair) → z.content.slots ≡ [] → is_hard_tail z.content.tail ≡ false → HoldsForSome (λ y. y ≡ z) t.pairs → HoldsForSome (λ y. y ≡ z) (thread_at w (q ∷ []))
+  still_there z none soft among = among_turned (λ y. y ≡ z) w (x ∷ o ∷ []) (q ∷ []) gone (subst (HoldsForSome (λ y. y ≡ z)) there among)
     where
-      gone : AnyByRecursion (λ y. y ≡ z) (x ∷ o ∷ []) → AnyByRecursion (λ y. y ≡ z) (q ∷ [])
+      gone : HoldsForSome (λ y. y ≡ z) (x ∷ o ∷ []) → HoldsForSome (λ y. y ≡ z) (q ∷ [])
       gone (inl e) = absurd (let k = sym before_it.hard ∙ ap (λ (y : Pair). is_hard_tail y.content.tail) e ∙ soft in cc)
       gone (inr (inl e)) = absurd (let k = sym held ∙ ap (λ (y : Pair). y.content.slots) e ∙ none in cc)
       gone (inr (inr a)) = inr a
@@ -128,15 +128,15 @@ module _ (t : KeptThread) (index id : ℕ) (can : CanEndMoveAt t index id true) 
         map = d.map ∙ ap (λ (i : ℕ). map_freeing t.map (thread_pair t i).at) (let e = before_it.number in omega arith);
         blocks = λ b.
             let e = whole_count t.disk w x o u ending new.disk q over b in
-            let f = ap (λ z. number_occurrences b (used_blocks new.disk z)) pairs in
-            let g = ap (λ z. number_occurrences b (used_blocks t.disk z)) there in
-            let k = ap (λ (z : Pair). number_occurrences b (z.at.0 ∷ z.at.1 ∷ [])) here in
+            let f = ap (λ z. occurrence_count b (used_blocks new.disk z)) pairs in
+            let g = ap (λ z. occurrence_count b (used_blocks t.disk z)) there in
+            let k = ap (λ (z : Pair). occurrence_count b (z.at.0 ∷ z.at.1 ∷ [])) here in
             omega arith;
         shape = d.written.shape;
         begins = ap (λ z. directory_addresses (all_directories z)) pairs ∙ whole_firsts t.disk w x o u ending new.disk q over ∙ ap (λ z. directory_addresses (all_directories z)) (sym there);
         root = root;
         leads_on = subst₂ (λ a z. GoOnAlike t.disk a new.disk z) (sym there) (sym pairs) (whole_leads t.disk w x o u ending new.disk q over before_it.hard);
-        kept = λ z none soft among. subst (AnyByRecursion (λ y. y ≡ z)) (sym pairs) (still_there z none soft among);
+        kept = λ z none soft among. subst (HoldsForSome (λ y. y ≡ z)) (sym pairs) (still_there z none soft among);
       }
 
   -- ---- at a power loss

@@ -1,5 +1,5 @@
 -- The end of a pending move, as a step of the thread.
-use Rattle.lfs_operations.proofs.Common.{ℕ, ◌≡◌, ◌≢◌, ◌-◌, ◌<◌, ◌⊎◌, inl, inr, true, false, take, List, [], ◌∷◌, Option, ◌++◌, length, Some, refl, sym, ap, ap₂, subst, ◌∙◌, arith, length-append, remove, subst₂, xor_lt, same_Some, recursion_from_All, Blocks, Delete, PutMove, content_with_changes, RawContent, content_at, raw_content, complete_content, Disk, CallEvent, AreWords, MoveStateFits, HasEitherTree as IsLeftOf, SurvivesLossSince, with_blocks, Slot, FitsInPair, Gstate, Tail, gstate_xor, same_pair, Pair, pairs_gstate, tail_target, count_before_root, IsAccepted, IsWritable, all_directories, disk_tree, used_blocks, SameSlots, alike_itself, IsCompleted, complete_length, complete_remove, completed_parts, completed_from, Each, number_occurrences, deletes, does_first, does_nothing, puts_move, HoldsAtLosses-weaker, HasSite, site_of_number, directory_addresses, remove_here, AnyByRecursion, Site, dirs_at, thread_at, IsWritableChange, pairs_behind, ends_joined, CleanLossLeaves, KeptThread, CanChangePair, IsPairCommitted, LossLeavesPair, RefusesChanges, BeginWithSuperblock, complete_after, thread_pair, pairs_with_content, option_and_then, CanEndMoveAt, HasEndedMoveAt, content_move_ended, ending_changes, continues_directory, gstate_without_sync, delta_without_move, gstate_without_move}
+use Rattle.lfs_operations.proofs.Common.{ℕ, ◌≡◌, ◌≢◌, ◌-◌, ◌<◌, ◌⊎◌, inl, inr, true, false, take, List, [], ◌∷◌, Option, ◌++◌, length, Some, refl, sym, ap, ap₂, subst, ◌∙◌, arith, length-append, remove, subst₂, xor_lt, same_Some, recursion_from_All, Blocks, Delete, PutMove, content_with_changes, RawContent, content_at, raw_content, decoded_content, Disk, CallEvent, AreU32Addresses, MoveStateFits, HasEitherTree as IsLeftOf, SurvivesLossSince, with_blocks, Slot, FitsInPair, Gstate, Tail, gstate_xor, same_pair, Pair, pairs_gstate, tail_target, count_before_root, IsAccepted, IsWritable, all_directories, disk_tree, used_blocks, SameSlots, alike_itself, IsCompleted, complete_length, complete_remove, completed_parts, completed_from, Each, occurrence_count, deletes, does_first, does_nothing, puts_move, HoldsAtLosses-weaker, HasSite, site_of_number, directory_addresses, remove_here, HoldsForSome, Site, dirs_at, thread_at, IsWritableChange, pairs_behind, last_tail_is_hard, CleanLossLeaves, KeptThread, CanChangePair, IsPairCommitted, LossLeavesPair, RefusesChanges, BeginWithSuperblock, complete_after, thread_pair, pairs_with_content, option_and_then, CanEndMoveAt, HasEndedMoveAt, content_after_move_ended, move_ending_changes, continues_directory, gstate_without_sync, delta_without_move, gstate_without_move}
 use Rattle.lfs_operations.proofs.Held.{CompletesTo, completes_to}
 use Rattle.lfs_model.proofs.MoveEnds.{IsEnding, ended, ended_count, ended_firsts, ended_state, ended_chain, ended_leads}
 use Rattle.lfs_model.proofs.SetMoves.{HasTurned}
@@ -10,12 +10,12 @@ use Rattle.lfs_model.proofs.RecoveryLayouts.{GoOnAlike}
 use Rattle.lfs_operations.proofs.AtSite.{among_turned, each_from, site_pair, site_place}
 use Rattle.lfs_operations.proofs.Replacing.{fits_replaced}
 
-pub led_is : (w : Site) (p : Pair) (i : ℕ) → count_before_root (thread_at w (p ∷ [])) ≡ length w.chain → length (w.chain ++ (w.before ++ w.left)) ≡ i → continues_directory (thread_at w (p ∷ [])) i ≡ ends_joined false (w.before ++ w.left)
+pub led_is : (w : Site) (p : Pair) (i : ℕ) → count_before_root (thread_at w (p ∷ [])) ≡ length w.chain → length (w.chain ++ (w.before ++ w.left)) ≡ i → continues_directory (thread_at w (p ∷ [])) i ≡ last_tail_is_hard false (w.before ++ w.left)
 led_is w p i chain number =
-    ap₂ (λ n z. ends_joined false (take (i - n) z)) chain (pairs_behind w.chain (dirs_at w (p ∷ [])) chain)
-    ∙ ap (ends_joined false) (take_front (w.before ++ w.left) (p ∷ [] ++ (w.right ++ w.after)) (i - length w.chain) (let l = length-append w.chain (w.before ++ w.left) in omega arith))
+    ap₂ (λ n z. last_tail_is_hard false (take (i - n) z)) chain (pairs_behind w.chain (dirs_at w (p ∷ [])) chain)
+    ∙ ap (last_tail_is_hard false) (take_front (w.before ++ w.left) (p ∷ [] ++ (w.right ++ w.after)) (i - length w.chain) (let l = length-append w.chain (w.before ++ w.left) in omega arith))
 
-module _ (t : KeptThread) (pair id : ℕ) (can : CanEndMoveAt t pair id false) (address : AreWords (delta_without_move t pair).pair) where
+module _ (t : KeptThread) (pair id : ℕ) (can : CanEndMoveAt t pair id false) (address : AreU32Addresses (delta_without_move t pair).pair) where
   abbrev h : HasSite t.pairs pair
   h = site_of_number t.disk t.pairs pair can.accepted can.begins can.below
 
@@ -81,7 +81,7 @@ module _ (t : KeptThread) (pair id : ℕ) (can : CanEndMoveAt t pair id false) (
   abbrev raw_now : RawContent
   raw_now = record c.raw { slots = remove c.raw.slots id; move = delta_without_move t pair }
 
-  changed_now : content_with_changes c.raw (ending_changes t pair id) ≡ Some raw_now
+  changed_now : content_with_changes c.raw (move_ending_changes t pair id) ≡ Some raw_now
   changed_now =
       let few = fits_there.count in
       let n = complete_length c.raw.slots p.content.slots parts.slots in
@@ -92,14 +92,14 @@ module _ (t : KeptThread) (pair id : ℕ) (can : CanEndMoveAt t pair id false) (
   slots_now : remove p.content.slots id ≡ l ++ r
   slots_now = ap₂ (λ (z : List Slot) (i : ℕ). remove z i) held (sym can.stands.number) ∙ remove_here l r u
 
-  made : complete_after t pair (ending_changes t pair id) ≡ Some (content_with p (l ++ r) move)
+  made : complete_after t pair (move_ending_changes t pair id) ≡ Some (content_with p (l ++ r) move)
   made =
-      ap (λ o. option_and_then complete_content (option_and_then (λ (x : RawContent). content_with_changes x (ending_changes t pair id)) o)) c.is
-      ∙ ap (λ o. option_and_then complete_content o) changed_now
+      ap (λ o. option_and_then decoded_content (option_and_then (λ (x : RawContent). content_with_changes x (move_ending_changes t pair id)) o)) c.is
+      ∙ ap (λ o. option_and_then decoded_content o) changed_now
       ∙ completed_from raw_now (remove p.content.slots id) (complete_remove c.raw.slots p.content.slots id parts.slots)
       ∙ ap₂ (λ s (z : Option Tail). Some (record { slots = s; tail = z; move = move })) slots_now (sym parts.tail)
 
-  pub can_end : CanChangePair t pair (ending_changes t pair id)
+  pub can_end : CanChangePair t pair (move_ending_changes t pair id)
   can_end = record {
     below = can.below;
     content = content_with p (l ++ r) move;
@@ -111,7 +111,7 @@ module _ (t : KeptThread) (pair id : ℕ) (can : CanEndMoveAt t pair id false) (
   still_fits : FitsInPair t.disk.block_size t.disk.page (content_with p (l ++ r) move)
   still_fits = fits_replaced t.disk.block_size t.disk.page p.content (content_with p (l ++ r) move) l (u ∷ []) [] r held refl (omega arith) (omega arith) fits_there
 
-  pub end_not_refused : (new : KeptThread) → RefusesChanges t pair (ending_changes t pair id) new → ⊥
+  pub end_not_refused : (new : KeptThread) → RefusesChanges t pair (move_ending_changes t pair id) new → ⊥
   end_not_refused new is = is.too_large (subst (FitsInPair t.disk.block_size t.disk.page) (sym (same_Some is.content (content_with p (l ++ r) move) (sym is.made ∙ made))) still_fits)
 
   -- ---- in the image
@@ -120,7 +120,7 @@ module _ (t : KeptThread) (pair id : ℕ) (can : CanEndMoveAt t pair id false) (
   first_kept [] e = absurd (let z = sym can.stands.entry ∙ e.0 in cc)
   first_kept (s ∷ l) e = e
 
-  turn : IsTurn t pair (ending_changes t pair id) w p (l ++ r) move
+  turn : IsTurn t pair (move_ending_changes t pair id) w p (l ++ r) move
   turn = record {
     accepted = can.accepted;
     there = h.is;
@@ -130,7 +130,7 @@ module _ (t : KeptThread) (pair id : ℕ) (can : CanEndMoveAt t pair id false) (
     first = λ e. first_kept l (subst BeginWithSuperblock held (e.kind, e.name));
   }
 
-  filled : ends_joined false (w.before ++ w.left) ≡ true → l ++ r ≢ []
+  filled : last_tail_is_hard false (w.before ++ w.left) ≡ true → l ++ r ≢ []
   filled hard none =
       let led = ap (λ z. continues_directory z pair) h.is ∙ led_is w p pair h.is_site.chain h.number ∙ hard in
       let many = can.stays refl led in
@@ -167,19 +167,19 @@ module _ (t : KeptThread) (pair id : ℕ) (can : CanEndMoveAt t pair id false) (
   turned_alone disk x = ended t.disk w p l u r ending disk q_of (subst (λ m. HasTurned t.disk w p (l ++ r) m disk q_of []) move_is x)
 
   -- the others stay
-  still_there : (z : Pair) → z.content.slots ≡ [] → AnyByRecursion (λ y. y ≡ z) (thread_at w (p ∷ [])) → AnyByRecursion (λ y. y ≡ z) (thread_at w (q_of ∷ []))
+  still_there : (z : Pair) → z.content.slots ≡ [] → HoldsForSome (λ y. y ≡ z) (thread_at w (p ∷ [])) → HoldsForSome (λ y. y ≡ z) (thread_at w (q_of ∷ []))
   still_there z none among = among_turned (λ y. y ≡ z) w (p ∷ []) (q_of ∷ []) gone among
     where
       has_none : (xs : List Slot) → xs ++ u ∷ r ≡ [] → ⊥
       has_none [] e = absurd (cc)
       has_none (s ∷ xs) e = absurd (cc)
 
-      gone : AnyByRecursion (λ y. y ≡ z) (p ∷ []) → AnyByRecursion (λ y. y ≡ z) (q_of ∷ [])
+      gone : HoldsForSome (λ y. y ≡ z) (p ∷ []) → HoldsForSome (λ y. y ≡ z) (q_of ∷ [])
       gone (inl is) = absurd (has_none l (sym held ∙ ap (λ (y : Pair). y.content.slots) is ∙ none))
       gone (inr a) = inr a
 
-  pub has_ended : (new : KeptThread) → IsPairCommitted t pair (ending_changes t pair id) new → HasEndedMoveAt t pair id false new
-  has_ended new is = go (changed_one t pair (ending_changes t pair id) w p (l ++ r) move turn new is)
+  pub has_ended : (new : KeptThread) → IsPairCommitted t pair (move_ending_changes t pair id) new → HasEndedMoveAt t pair id false new
+  has_ended new is = go (changed_one t pair (move_ending_changes t pair id) w p (l ++ r) move turn new is)
     where
       go : ChangedOne t pair w p (l ++ r) move new → HasEndedMoveAt t pair id false new
       go x =
@@ -190,26 +190,26 @@ module _ (t : KeptThread) (pair id : ℕ) (can : CanEndMoveAt t pair id false) (
           record {
             taken = all;
             state = state;
-            alike = subst (SameSlots (pairs_with_content t pair (content_move_ended t pair id))) (sym (x.is ∙ ap (λ d. pairs_with_content t pair d) (ap₂ (λ s (z : Pair). record { slots = s; tail = z.content.tail; move = move })
-                (sym slots_now ∙ ap (λ (z : Pair). remove z.content.slots id) (sym here)) (sym here)))) (alike_itself (pairs_with_content t pair (content_move_ended t pair id)));
+            alike = subst (SameSlots (pairs_with_content t pair (content_after_move_ended t pair id))) (sym (x.is ∙ ap (λ d. pairs_with_content t pair d) (ap₂ (λ s (z : Pair). record { slots = s; tail = z.content.tail; move = move })
+                (sym slots_now ∙ ap (λ (z : Pair). remove z.content.slots id) (sym here)) (sym here)))) (alike_itself (pairs_with_content t pair (content_after_move_ended t pair id)));
             map = x.map;
-            blocks = λ b. (let e = ap (λ z. number_occurrences b (used_blocks new.disk z)) x.pairs ∙ ended_count t.disk w p l u r ending new.disk q_of y b ∙ ap (λ z. number_occurrences b (used_blocks t.disk z)) (sym h.is) in omega arith);
+            blocks = λ b. (let e = ap (λ z. occurrence_count b (used_blocks new.disk z)) x.pairs ∙ ended_count t.disk w p l u r ending new.disk q_of y b ∙ ap (λ z. occurrence_count b (used_blocks t.disk z)) (sym h.is) in omega arith);
             shape = x.shape;
             begins = ap (λ z. directory_addresses (all_directories z)) x.pairs ∙ ended_firsts t.disk w p l u r ending new.disk q_of y ∙ ap (λ z. directory_addresses (all_directories z)) (sym h.is);
             root = root;
             leads_on = subst₂ (λ a z. GoOnAlike t.disk a new.disk z) (sym h.is) (sym x.pairs) (ended_leads t.disk w p l u r ending new.disk q_of y);
-            kept = λ z none soft among. subst (AnyByRecursion (λ y. y ≡ z)) (sym x.pairs) (still_there z none (subst (AnyByRecursion (λ y. y ≡ z)) h.is among));
+            kept = λ z none soft among. subst (HoldsForSome (λ y. y ≡ z)) (sym x.pairs) (still_there z none (subst (HoldsForSome (λ y. y ≡ z)) h.is among));
           }
 
   -- ---- at a power loss
 
-  left_tree : (left : Blocks) → LossLeavesPair t pair (ending_changes t pair id) left → IsLeftOf (with_blocks left t.disk) (disk_tree t.disk t.pairs) (disk_tree t.disk t.pairs)
-  left_tree left is = go (left_alone t pair (ending_changes t pair id) w p (l ++ r) move turn left is)
+  left_tree : (left : Blocks) → LossLeavesPair t pair (move_ending_changes t pair id) left → IsLeftOf (with_blocks left t.disk) (disk_tree t.disk t.pairs) (disk_tree t.disk t.pairs)
+  left_tree left is = go (left_alone t pair (move_ending_changes t pair id) w p (l ++ r) move turn left is)
     where
-      go : Stays t pair (ending_changes t pair id) w p (l ++ r) move turn (with_blocks left t.disk) ⊎ HasTurned t.disk w p (l ++ r) move (with_blocks left t.disk) q_of []
+      go : Stays t pair (move_ending_changes t pair id) w p (l ++ r) move turn (with_blocks left t.disk) ⊎ HasTurned t.disk w p (l ++ r) move (with_blocks left t.disk) q_of []
           → IsLeftOf (with_blocks left t.disk) (disk_tree t.disk t.pairs) (disk_tree t.disk t.pairs)
       go (inl d) = left_still t.disk left (thread_at w (p ∷ [])) (subst (IsAccepted t.disk) h.is can.accepted) (subst (IsWritable t.disk) h.is can.writable) d (inl (ap (disk_tree t.disk) (sym h.is)))
       go (inr x) = left_after (turned_alone (with_blocks left t.disk) x) (inl (ap (disk_tree t.disk) (sym h.is)))
 
-  pub end_survives : (new : List CallEvent) → CleanLossLeaves t.history new (LossLeavesPair t pair (ending_changes t pair id)) → SurvivesLossSince t.disk t.history new (disk_tree t.disk t.pairs) (disk_tree t.disk t.pairs)
+  pub end_survives : (new : List CallEvent) → CleanLossLeaves t.history new (LossLeavesPair t pair (move_ending_changes t pair id)) → SurvivesLossSince t.disk t.history new (disk_tree t.disk t.pairs) (disk_tree t.disk t.pairs)
   end_survives new stops clean = HoldsAtLosses-weaker left_tree (stops clean)

@@ -1,5 +1,5 @@
 -- An entry that moves to another pair, by a move that is set first.
-use Rattle.lfs_operations.proofs.Common.{◌≢◌, nat_eq, Bool, ℕ, ◌≡◌, ◌+◌, ◌<◌, ◌⊎◌, inl, inr, true, false, List, [], ◌∷◌, ◌++◌, length, Some, refl, sym, ap, subst, ◌∙◌, arith, append-nil, Option, ◌-◌, ◌≤◌, IsDistinct, ContentChange, Disk, IsPairAt, Name, is_valid_name, Slot, gstate_xor, Pair, pairs_blocks, superblock_first, count_before_root, Path, tree_renaming, IsWritableEntry, slot_of, IsChangedImage, no_move_from, last_is, slot_of_stands, Site, thread_at, ends_joined, KeptThread, BeginWithSuperblock, complete_after, thread_pair, IsNoDirectory, target_slots, CanEditIn, gstate_naming, IsRawFormed, drops_emptied_pair, CanPut, ArePut, moving_changes, CanEndMoveAt, HasEndedMoveAt, CanEndAfterPut, ArePutAndEnded, number_after_insertion, tree_moved, disk_tree, ShowsDroppedTree, file_blocks, used_blocks, number_occurrences, Session, path_or_root, CompletesOperation, is_some, ap₂, subst₂, xor_lt, length-append, PutMove, FitsInPair, Gstate, MoveStateFits, AreWords, removal_changes, HasName, Route}
+use Rattle.lfs_operations.proofs.Common.{◌≢◌, nat_eq, Bool, ℕ, ◌≡◌, ◌+◌, ◌<◌, ◌⊎◌, inl, inr, true, false, List, [], ◌∷◌, ◌++◌, length, Some, refl, sym, ap, subst, ◌∙◌, arith, append-nil, Option, ◌-◌, ◌≤◌, IsDistinct, ContentChange, Disk, IsPairAt, Name, is_valid_name, Slot, gstate_xor, Pair, pairs_blocks, begins_with_superblock, count_before_root, Path, tree_renaming, IsWritableEntry, slot_of_path, IsChangedImage, no_move_from, last_is, slot_of_stands, Site, thread_at, last_tail_is_hard, KeptThread, BeginWithSuperblock, complete_after, thread_pair, IsNoDirectory, target_slots, CanEditIn, gstate_with_move, IsLogContentDecodable, drops_pair_after_removal, CanCommitOrSplit, AreCommittedOrSplit, move_start_changes, CanEndMoveAt, HasEndedMoveAt, CanEndMoveAfterCopy, IsMoveCopiedAndEnded, pair_index_after_insertion, tree_with_entry_moved, disk_tree, HasTreeAfterDrops, file_blocks, used_blocks, occurrence_count, Session, path_or_root, CompletesOperation, is_some, ap₂, subst₂, xor_lt, length-append, PutMove, FitsInPair, Gstate, MoveStateFits, AreU32Addresses, removal_changes, HasName, Route}
 use Rattle.lfs_operations.proofs.Held.{here}
 use Rattle.lfs_model.proofs.SetMoves.{HasTurned, IsSetting, chain_same, walk_by}
 use Rattle.lfs_operations.proofs.MovStep.{IsFirst, first_turned, grown, mid_ends, mid_shows, rename_becomes, rename_completed, rename_once, same_at}
@@ -18,40 +18,40 @@ pub record IsPlaceInOtherPair (t : KeptThread) (route : Route) (can : CanEditIn 
   pub number : length l ≡ route.new_id
   pub apart : route.old_pair ≢ route.new_pair
   pub was : p.content.slots ≡ l ++ (target_slots target ++ r)
-  pub front : l ≡ [] → superblock_first (target_slots target ++ r) ≡ false
+  pub front : l ≡ [] → begins_with_superblock (target_slots target ++ r) ≡ false
   pub named : is_valid_name name ≡ true
   pub fits : IsWritableEntry t.disk.profile t.disk.block_size t.disk.page (record can.stands.stands.slot { name = name })
 
 -- The entry may come into the pair p at the site w, between l and r, where the target stands, if there is one.
 pub record IsAimed (replaces sync : Bool) (t : KeptThread) (route : Route) (name : Name) (old : CanEditIn t route.old_pair route.old_id) (path : Path) (w : Site) (p : Pair) (l : List Slot) (target : Option Slot) (r : List Slot) : Type 0 where
   pub apart : route.old_pair ≢ route.new_pair
-  pub can : CanPut t route.new_pair (moving_changes replaces sync t route name)
-  pub way : IsFirst t sync route.old_pair (drops_emptied_pair t route.old_pair route.first) route.new_pair (moving_changes replaces sync t route name) (site_of old)
+  pub can : CanCommitOrSplit t route.new_pair (move_start_changes replaces sync t route name)
+  pub way : IsFirst t sync route.old_pair (drops_pair_after_removal t route.old_pair route.first) route.new_pair (move_start_changes replaces sync t route name) (site_of old)
       old.stands.pair old.stands.stands.left old.stands.stands.slot old.stands.stands.right w p l target (record old.stands.stands.slot { name = name }) r (old.path ++ old.name ∷ []) (path ++ name ∷ []) name
 
 module _ {t : KeptThread} {replaces sync : Bool} {route : Route} {name : Name} {old : CanEditIn t route.old_pair route.old_id} {path : Path} {w : Site} {p : Pair} {l : List Slot} {target : Option Slot} {r : List Slot}
     (a : IsAimed replaces sync t route name old path w p l target r) where
-  pub ends_aimed : (mid : KeptThread) → ArePut t route.new_pair (moving_changes replaces sync t route name) mid → CanEndAfterPut t route.old_pair route.old_id (drops_emptied_pair t route.old_pair route.first) route.new_pair mid
+  pub ends_aimed : (mid : KeptThread) → AreCommittedOrSplit t route.new_pair (move_start_changes replaces sync t route name) mid → CanEndMoveAfterCopy t route.old_pair route.old_id (drops_pair_after_removal t route.old_pair route.first) route.new_pair mid
   ends_aimed mid is =
       let x = first_turned a.way mid is in
       record {
         apart = a.apart;
         grown = grown a.way mid x;
-        can = subst (λ i. CanEndMoveAt mid (number_after_insertion route.old_pair route.new_pair (length mid.pairs - length t.pairs)) i (drops_emptied_pair t route.old_pair route.first)) old.stands.stands.number (mid_ends a.way mid x);
+        can = subst (λ i. CanEndMoveAt mid (pair_index_after_insertion route.old_pair route.new_pair (length mid.pairs - length t.pairs)) i (drops_pair_after_removal t route.old_pair route.first)) old.stands.stands.number (mid_ends a.way mid x);
         at = same_at a.way mid x;
       }
 
-  pub shows_aimed : (mid : KeptThread) → ArePut t route.new_pair (moving_changes replaces sync t route name) mid → disk_tree mid.disk mid.pairs ≡ tree_moved t old.path old.name path name
+  pub shows_aimed : (mid : KeptThread) → AreCommittedOrSplit t route.new_pair (move_start_changes replaces sync t route name) mid → disk_tree mid.disk mid.pairs ≡ tree_with_entry_moved t old.path old.name path name
   shows_aimed mid is = mid_shows a.way mid (first_turned a.way mid is)
 
-  module _ {new : KeptThread} (is : ArePutAndEnded t route.old_pair route.old_id (drops_emptied_pair t route.old_pair route.first) route.new_pair (moving_changes replaces sync t route name) new) where
-    pub ended_aimed : HasEndedMoveAt is.mid (number_after_insertion route.old_pair route.new_pair (length is.mid.pairs - length t.pairs)) (length old.stands.stands.left) (drops_emptied_pair t route.old_pair route.first) new
-    ended_aimed = subst (λ i. HasEndedMoveAt is.mid (number_after_insertion route.old_pair route.new_pair (length is.mid.pairs - length t.pairs)) i (drops_emptied_pair t route.old_pair route.first) new) (sym old.stands.stands.number) is.ended
+  module _ {new : KeptThread} (is : IsMoveCopiedAndEnded t route.old_pair route.old_id (drops_pair_after_removal t route.old_pair route.first) route.new_pair (move_start_changes replaces sync t route name) new) where
+    pub ended_aimed : HasEndedMoveAt is.mid (pair_index_after_insertion route.old_pair route.new_pair (length is.mid.pairs - length t.pairs)) (length old.stands.stands.left) (drops_pair_after_removal t route.old_pair route.first) new
+    ended_aimed = subst (λ i. HasEndedMoveAt is.mid (pair_index_after_insertion route.old_pair route.new_pair (length is.mid.pairs - length t.pairs)) i (drops_pair_after_removal t route.old_pair route.first) new) (sym old.stands.stands.number) is.ended
 
-    pub shows_moved : sync ≡ false → ShowsDroppedTree t new (tree_moved t old.path old.name path name) (file_blocks t.disk (target_slots target))
+    pub shows_moved : sync ≡ false → HasTreeAfterDrops t new (tree_with_entry_moved t old.path old.name path name) (file_blocks t.disk (target_slots target))
     shows_moved plain = rename_becomes a.way is.mid (first_turned a.way is.mid is.put) new ended_aimed plain
 
-    pub once_moved : (b : ℕ) → number_occurrences b (used_blocks new.disk new.pairs) + number_occurrences b (file_blocks t.disk (target_slots target)) ≤ 1
+    pub once_moved : (b : ℕ) → occurrence_count b (used_blocks new.disk new.pairs) + occurrence_count b (file_blocks t.disk (target_slots target)) ≤ 1
     once_moved = rename_once a.way is.mid (first_turned a.way is.mid is.put) new ended_aimed
 
     pub completed_moved : sync ≡ false → (z : Session) (given to_given : List ℕ) → z.tree ≡ disk_tree t.disk t.pairs → path_or_root given ≡ old.path ++ old.name ∷ [] → path_or_root to_given ≡ path ++ name ∷ []
@@ -61,7 +61,7 @@ module _ {t : KeptThread} {replaces sync : Bool} {route : Route} {name : Name} {
 module _ {t : KeptThread} {route : Route} {can : CanEditIn t route.old_pair route.old_id} (begins_old : can.first ≡ route.first)
     {path : Path} {to_at : ℕ × ℕ} {w : Site} {p : Pair} {l : List Slot} {target : Option Slot} {r : List Slot} {name : Name} (k : IsPlaceInOtherPair t route can path to_at w p l target r name) where
   abbrev goes : Bool
-  goes = drops_emptied_pair t route.old_pair route.first
+  goes = drops_pair_after_removal t route.old_pair route.first
 
   abbrev q : Pair
   q = can.stands.pair
@@ -100,39 +100,39 @@ module _ {t : KeptThread} {route : Route} {can : CanEditIn t route.old_pair rout
     fit = ((λ e. absurd (let z = sym h.entry ∙ e in cc)), (λ e. k.fits));
   }
 
-  led_first : route.old_pair ≡ can.first → ends_joined false (wo.before ++ wo.left) ≡ false
+  led_first : route.old_pair ≡ can.first → last_tail_is_hard false (wo.before ++ wo.left) ≡ false
   led_first e =
       let none_before = alone wo.chain wo.before wo.left (wo.right ++ wo.after) q can.at can.first (subst (λ z. IsDistinct nat_eq (pairs_blocks z)) stand_old.there can.ready.accepted.thread.distinct) stand_old.begin
       (subst (λ z. IsPairAt z can.at can.first) stand_old.there can.begins) (sym e ∙ stand_old.number) in
-      ap (λ z. ends_joined false (wo.before ++ z)) none_before ∙ ap (ends_joined false) (append-nil wo.before) ∙ flag_ends wo.before setting.old_site.ends
+      ap (λ z. last_tail_is_hard false (wo.before ++ z)) none_before ∙ ap (last_tail_is_hard false) (append-nil wo.before) ∙ flag_ends wo.before setting.old_site.ends
 
-  stays : goes ≡ false → ends_joined false (wo.before ++ wo.left) ≡ true → 1 < length q.content.slots
+  stays : goes ≡ false → last_tail_is_hard false (wo.before ++ wo.left) ≡ true → 1 < length q.content.slots
   stays remains hard = go (stays_there t route.old_pair route.old_id route.first can begins_old remains)
     where
       go : (route.old_pair ≡ can.first) ⊎ (1 < length (thread_pair t route.old_pair).content.slots) → 1 < length q.content.slots
       go (inl e) = absurd (let z = sym hard ∙ led_first e in cc)
       go (inr many) = subst (λ (z : Pair). 1 < length z.content.slots) (here t can.ready can.first route.old_pair q can.stands.rest can.stands.place) many
 
-  goes_alone : goes ≡ true → (ends_joined false (wo.before ++ wo.left) ≡ true) × (length q.content.slots ≡ 1)
+  goes_alone : goes ≡ true → (last_tail_is_hard false (wo.before ++ wo.left) ≡ true) × (length q.content.slots ≡ 1)
   goes_alone whole =
       let k = stands_whole t route.old_pair route.old_id route.first can begins_old whole in
       (flag_whole t route.old_pair route.old_id route.first can begins_old whole, ap length k.held)
 
   -- ---- what the changes make of the other pair
 
-  module _ (sync : Bool) (address : AreWords (thread_pair t route.old_pair).at) where
+  module _ (sync : Bool) (address : AreU32Addresses (thread_pair t route.old_pair).at) where
     abbrev move : Gstate
-    move = gstate_xor (gstate_naming sync (thread_pair t route.old_pair).at route.old_id) (thread_pair t route.new_pair).content.move
+    move = gstate_xor (gstate_with_move sync (thread_pair t route.old_pair).at route.old_id) (thread_pair t route.new_pair).content.move
 
     abbrev delta : Gstate
-    delta = gstate_xor (gstate_naming sync q.at (length h.left)) p.content.move
+    delta = gstate_xor (gstate_with_move sync q.at (length h.left)) p.content.move
 
     abbrev changes : List ContentChange
-    changes = moving_changes (is_some target) sync t route name
+    changes = move_start_changes (is_some target) sync t route name
 
     move_is : move ≡ delta
-    move_is = ap₂ (λ (x : Pair) (i : ℕ). gstate_xor (gstate_naming sync x.at i) (thread_pair t route.new_pair).content.move) (pair_here (logged_of can)) (sym h.number)
-        ∙ ap (λ (x : Pair). gstate_xor (gstate_naming sync q.at (length h.left)) x.content.move) (pair_here k.logged)
+    move_is = ap₂ (λ (x : Pair) (i : ℕ). gstate_xor (gstate_with_move sync x.at i) (thread_pair t route.new_pair).content.move) (pair_here (logged_of can)) (sym h.number)
+        ∙ ap (λ (x : Pair). gstate_xor (gstate_with_move sync q.at (length h.left)) x.content.move) (pair_here k.logged)
 
     is_state : MoveStateFits move
     is_state =
@@ -156,15 +156,15 @@ module _ {t : KeptThread} {route : Route} {can : CanEditIn t route.old_pair rout
     fits_rest : FitsInPair t.disk.block_size t.disk.page (record p.content { slots = l ++ r })
     fits_rest = fits_left t.disk.block_size t.disk.page p.content l target r k.was (fits_whole k.logged)
 
-    can_put_moved : CanPut t route.new_pair changes
+    can_put_moved : CanCommitOrSplit t route.new_pair changes
     can_put_moved = can_put k.logged (source (logged_of can) can.stands.stands) l r left fits_rest route.new_id k.number name k.named k.fits
 
     made_moved : complete_after t route.new_pair changes ≡ Some (content_with p (l ++ v ∷ r) delta)
     made_moved = made k.logged (source (logged_of can) can.stands.stands) l r left fits_rest route.new_id k.number name k.named k.fits
 
-    pub aimed : ((disk : Disk) (x : Pair) (more : List Pair) → HasTurned t.disk w p (l ++ record h.slot { name = name } ∷ r) (gstate_xor (gstate_naming sync can.stands.pair.at (length h.left)) p.content.move) disk x more
+    pub aimed : ((disk : Disk) (x : Pair) (more : List Pair) → HasTurned t.disk w p (l ++ record h.slot { name = name } ∷ r) (gstate_xor (gstate_with_move sync can.stands.pair.at (length h.left)) p.content.move) disk x more
         → IsChangedImage t.disk (thread_at w (p ∷ [])) disk (thread_at w (x ∷ more)) (tree_renaming (can.path ++ can.name ∷ []) (path ++ name ∷ [])) (walk_by (can.path ++ can.name ∷ []) (path ++ name ∷ [])))
-        → slot_of t.pairs (path ++ name ∷ []) ≡ target → (sync ≡ false → IsNoDirectory target)
+        → slot_of_path t.pairs (path ++ name ∷ []) ≡ target → (sync ≡ false → IsNoDirectory target)
         → IsAimed (is_some target) sync t route name can path w p l target r
     aimed follows to_slot file = record {
       apart = k.apart;
@@ -183,14 +183,14 @@ module _ {t : KeptThread} {route : Route} {can : CanEditIn t route.old_pair rout
         chain = chain_same t.disk wo q h.left h.slot h.right w p l (target_slots target) v r setting;
         old_place = stand_old.number;
         old_is = ap (λ (z : Pair). z.at) (pair_here (logged_of can));
-        logged = subst (λ (z : Pair). IsRawFormed t.disk z.at) (pair_here (logged_of can)) can.logged;
+        logged = subst (λ (z : Pair). IsLogContentDecodable t.disk z.at) (pair_here (logged_of can)) can.logged;
         same_slot = refl;
         follows = follows;
         stays = stays;
         alone = goes_alone;
-        from_slot = subst (λ z. slot_of z (can.path ++ can.name ∷ []) ≡ Some h.slot) k.stand.there
+        from_slot = subst (λ z. slot_of_path z (can.path ++ can.name ∷ []) ≡ Some h.slot) k.stand.there
             (slot_of_stands t.disk t.pairs can.path can.at can.ready.accepted can.leads can.first route.old_pair route.old_id can.name (no_move_from t.pairs can.ready.settled) can.stands can.begins);
-        to_slot = subst (λ z. slot_of z (path ++ name ∷ []) ≡ target) k.stand.there to_slot;
+        to_slot = subst (λ z. slot_of_path z (path ++ name ∷ []) ≡ target) k.stand.there to_slot;
         to_name = last_is path name;
         file = file;
       };

@@ -1,5 +1,5 @@
 -- A rename across pairs to a new name, from the entry's slot and the one at which the name belongs.
-use Rattle.lfs_operations.proofs.Common.{Bool, false, List, [], ◌∷◌, ◌++◌, length, None, refl, ap, subst, ◌∙◌, Disk, BelongsAt, AreWords, Name, gstate_xor, Pair, Path, tree_renaming, without_prefix, LeadsTo, all_entries, IsChangedImage, no_move_from, nothing_there, place_at, IsPlace, place_of_belongs, site, Site, thread_at, KeptThread, thread_pair, IsPairTouched, CanEditIn, gstate_naming, CanMoveAcross, IsMovedAcross, Route}
+use Rattle.lfs_operations.proofs.Common.{Bool, false, List, [], ◌∷◌, ◌++◌, length, None, refl, ap, subst, ◌∙◌, Disk, IsInsertionPosition, AreU32Addresses, Name, gstate_xor, Pair, Path, tree_renaming, without_prefix, IsDirectoryAtPath, all_entries, IsChangedImage, no_move_from, nothing_there, place_at, IsPlace, place_of_belongs, site, Site, thread_at, KeptThread, thread_pair, IsPairChangedOrDropped, CanEditIn, gstate_with_move, CanMoveBetweenPairs, IsMovedBetweenPairs, Route}
 use Rattle.lfs_operations.proofs.AlteredAcross.{moved_alters}
 use Rattle.lfs_model.proofs.SetMoves.{HasTurned, set_new, walk_by}
 use Rattle.lfs_operations.proofs.MovStep.{first_turned}
@@ -7,11 +7,11 @@ use Rattle.lfs_operations.proofs.RenameMade.{site_of, stand_of}
 use Rattle.lfs_operations.proofs.MovPlaced.{IsAimed, IsPlaceInOtherPair, ended_aimed, setting, aimed}
 use Rattle.lfs_operations.proofs.PairAt.{HasPairAt, pair_at}
 
-module _ (sync : Bool) (t : KeptThread) (route : Route) (name : Name) (rename : CanMoveAcross false sync t route name) (address : AreWords (thread_pair t route.old_pair).at) where
+module _ (sync : Bool) (t : KeptThread) (route : Route) (name : Name) (rename : CanMoveBetweenPairs false sync t route name) (address : AreU32Addresses (thread_pair t route.old_pair).at) where
   abbrev can : CanEditIn t route.old_pair route.old_id
   can = rename.old
 
-  abbrev b : BelongsAt t.disk.order t.pairs rename.to_first name route.new_pair route.new_id
+  abbrev b : IsInsertionPosition t.disk.order t.pairs rename.to_first name route.new_pair route.new_id
   b = rename.target.belongs
 
   abbrev p : Pair
@@ -44,11 +44,11 @@ module _ (sync : Bool) (t : KeptThread) (route : Route) (name : Name) (rename : 
   abbrev to : Path
   to = rename.path ++ name ∷ []
 
-  follows : (disk : Disk) (x : Pair) (more : List Pair) → HasTurned t.disk w p (b.left ++ record can.stands.stands.slot { name = name } ∷ b.right) (gstate_xor (gstate_naming sync can.stands.pair.at (length can.stands.stands.left)) p.content.move) disk x more
+  follows : (disk : Disk) (x : Pair) (more : List Pair) → HasTurned t.disk w p (b.left ++ record can.stands.stands.slot { name = name } ∷ b.right) (gstate_xor (gstate_with_move sync can.stands.pair.at (length can.stands.stands.left)) p.content.move) disk x more
       → IsChangedImage t.disk (thread_at w (p ∷ [])) disk (thread_at w (x ∷ more)) (tree_renaming from to) (walk_by from to)
   follows disk x more turned = subst (λ (n : Name). IsChangedImage t.disk (thread_at w (p ∷ [])) disk (thread_at w (x ∷ more)) (tree_renaming (can.path ++ n ∷ []) to) (walk_by (can.path ++ n ∷ []) to)) can.stands.stands.named
       (set_new t.disk (site_of can) can.stands.pair can.stands.stands.left can.stands.stands.slot can.stands.stands.right w p b.left (record can.stands.stands.slot { name = name }) b.right sync disk x more turned
-      can.path can.at (subst (λ z. LeadsTo z can.path can.at) stand.there can.leads) (stand_of can).begin rename.path rename.at stand.leads stand.begin
+      can.path can.at (subst (λ z. IsDirectoryAtPath z can.path can.at) stand.there can.leads) (stand_of can).begin rename.path rename.at stand.leads stand.begin
       (setting rename.begins_old aim) refl (ap (λ (n : Name). without_prefix (can.path ++ n ∷ []) to) can.stands.stands.named ∙ rename.not_beneath)
       (subst (λ z. IsPlace t.disk.order (all_entries z rename.at) (place_at w b.left) name) stand.there place))
 
@@ -56,7 +56,7 @@ module _ (sync : Bool) (t : KeptThread) (route : Route) (name : Name) (rename : 
   aimed_new = aimed rename.begins_old aim sync address follows (nothing_there t.disk t.pairs rename.path rename.at (place_at w b.left) name rename.leads place).0 (λ e. tt)
 
 -- the pair is changed or dropped
-pub across_alters : {t : KeptThread} {route : Route} {name : Name} (rename : CanMoveAcross false false t route name) {new : KeptThread} → IsMovedAcross false false t route name new → IsPairTouched t route.new_pair new
+pub across_alters : {t : KeptThread} {route : Route} {name : Name} (rename : CanMoveBetweenPairs false false t route name) {new : KeptThread} → IsMovedBetweenPairs false false t route name new → IsPairChangedOrDropped t route.new_pair new
 across_alters {t = t} {route = route} {name = name} rename {new = new} h =
     let a = aimed_new false t route name rename h.address in
     moved_alters a.way h.done.mid (first_turned a.way h.done.mid h.done.put) new (ended_aimed a h.done)

@@ -1,11 +1,11 @@
 -- The errors of two steps, one after the other, and what a stop in them leaves.
-use Rattle.lfs_operations.proofs.Common.{ℕ, zero, suc, ◌≡◌, ◌≢◌, ◌+◌, ◌-◌, ◌<◌, ◌≤◌, ◌⊎◌, inl, inr, Bool, true, false, cond, List, [], ◌∷◌, length, Result, Ok, Err, refl, sym, ap, subst, ◌∙◌, arith, get_or, insert, length-set, set, cases_lt, le-ltb, lt-ltb, ContentChange, Disk, CallEvent, AllCallsSince, fault_count, Blocks, HasEitherTree as IsLeftOf, SurvivesLossSince, with_blocks, Pair, address_blocks, disk_tree, survives_then, HoldsAtLosses-weaker, CleanLossLeaves, KeptThread, ThreadView, SameGeometryAs, IsPairCommitted, ChangesThreadBlocks, back_pair, front_pair, empty_anchor, thread_pair, IfErr, IsErrOf, is_err, Error, Io, NoMemory, NoSpace, IsSplitInto, LeftByPut, ArePut, WritesPairTwo, has_failed_after, ending_written_pair, CanEndAfterPut, SurvivesCommits, ReportsTakingCommits, WritesPairsTwo, number_after_insertion, ReportsCommit, ⊎_elim, OnlyReadsThread}
+use Rattle.lfs_operations.proofs.Common.{ℕ, zero, suc, ◌≡◌, ◌≢◌, ◌+◌, ◌-◌, ◌<◌, ◌≤◌, ◌⊎◌, inl, inr, Bool, true, false, cond, List, [], ◌∷◌, length, Result, Ok, Err, refl, sym, ap, subst, ◌∙◌, arith, get_or, insert, length-set, set, cases_lt, le-ltb, lt-ltb, ContentChange, Disk, CallEvent, AllCallsSince, fault_count, Blocks, HasEitherTree as IsLeftOf, SurvivesLossSince, with_blocks, Pair, address_blocks, disk_tree, survives_then, HoldsAtLosses-weaker, CleanLossLeaves, KeptThread, ThreadView, SameGeometryAs, IsPairCommitted, ChangesThreadBlocks, back_pair, front_pair, empty_anchor, thread_pair, IfErr, IsErrOf, is_err, Error, Io, NoMemory, NoSpace, IsSplitInto, LeftByCommitOrSplit, AreCommittedOrSplit, WritesPairAndTwoFree, has_failed_after, move_ending_written_pair, CanEndMoveAfterCopy, PowerLossKeepsEitherTree, ReportsAllocatingCommits, WritesPairsAndTwoFree, pair_index_after_insertion, ReportsCommit, ⊎_elim, OnlyReadsThread}
 use Rattle.lfs_operations.proofs.Putting.{writes_trans, writes_among}
 use Rattle.std.proofs.lemmas.List.Edits.{get_or-insert_above, get_or-insert_at, get_or-insert_below, length-insert}
 
 -- the errors of an operation that has enough free blocks
 pub reports_spaced : {X : Type 0} (old new : ThreadView) (index : ℕ) (changes : List ContentChange) (r : Result X Error) → (new.failed ≡ has_failed_after r) ⊎ ((new.failed ≡ false) × OnlyReadsThread old.kept new.kept)
-    → IfErr r (λ e. (e ≡ Io) ⊎ (e ≡ NoMemory)) → (IsErrOf r Io → fault_count old.kept.history < fault_count new.kept.history) → (¬ IsErrOf r Io → fault_count new.kept.history ≡ fault_count old.kept.history) → ReportsTakingCommits old new index changes r
+    → IfErr r (λ e. (e ≡ Io) ⊎ (e ≡ NoMemory)) → (IsErrOf r Io → fault_count old.kept.history < fault_count new.kept.history) → (¬ IsErrOf r Io → fault_count new.kept.history ≡ fault_count old.kept.history) → ReportsAllocatingCommits old new index changes r
 reports_spaced {X = X} old new index changes r failed errors fault no_fault = record {
   failed = failed;
   errors = wider r errors;
@@ -26,7 +26,7 @@ reports_spaced {X = X} old new index changes r failed errors fault no_fault = re
     not_space (Err e) (inl h) k = let z : e ≡ NoSpace = cc in absurd (let w = sym h ∙ z in cc)
     not_space (Err e) (inr h) k = let z : e ≡ NoSpace = cc in absurd (let w = sym h ∙ z in cc)
 
-pub reports_of_end : (old mid new : ThreadView) (index : ℕ) (changes : List ContentChange) (r : Result (Unit {0}) Error) → fault_count mid.kept.history ≡ fault_count old.kept.history → ReportsCommit mid new r → ReportsTakingCommits old new index changes r
+pub reports_of_end : (old mid new : ThreadView) (index : ℕ) (changes : List ContentChange) (r : Result (Unit {0}) Error) → fault_count mid.kept.history ≡ fault_count old.kept.history → ReportsCommit mid new r → ReportsAllocatingCommits old new index changes r
 reports_of_end old mid new index changes r same h =
     reports_spaced old new index changes r (inl (go r h.failed h.reported.errors)) h.reported.errors (λ io. let k = h.reported.fault io in omega (arith, k, same)) (λ other. h.reported.no_fault other ∙ same)
   where
@@ -40,10 +40,10 @@ not_io r x is io = absurd (let z = sym is ∙ io in cc)
 
 -- ---- the device
 
-pub writes_first : (old mid : KeptThread) (one other : ℕ) → WritesPairTwo old other mid → WritesPairsTwo old one other mid
+pub writes_first : (old mid : KeptThread) (one other : ℕ) → WritesPairAndTwoFree old other mid → WritesPairsAndTwoFree old one other mid
 writes_first old mid one other w = record { fresh = w.fresh; few = w.few; free = w.free; writes = writes_among (λ b some. omega (arith, some)) w.writes }
 
-pub writes_both : (old mid new : KeptThread) (one other place : ℕ) → (thread_pair mid place).at ≡ (thread_pair old one).at → WritesPairTwo old other mid → ChangesThreadBlocks (address_blocks (thread_pair mid place).at) mid new → WritesPairsTwo old one other new
+pub writes_both : (old mid new : KeptThread) (one other place : ℕ) → (thread_pair mid place).at ≡ (thread_pair old one).at → WritesPairAndTwoFree old other mid → ChangesThreadBlocks (address_blocks (thread_pair mid place).at) mid new → WritesPairsAndTwoFree old one other new
 unfolding writes_first
 writes_both old mid new one other place at w e = record {
   fresh = w.fresh;
@@ -63,7 +63,7 @@ get_set (x ∷ xs) (suc i) (suc j) p d e = get_set xs i j p d e
 
 -- the index of a pair after so many were inserted behind another one
 abbrev IsNumbered : ℕ → ℕ → ℕ → Type 0
-IsNumbered i o n = ((i < o) × (number_after_insertion i o n ≡ i)) ⊎ ((o < i) × (number_after_insertion i o n ≡ i + n))
+IsNumbered i o n = ((i < o) × (pair_index_after_insertion i o n ≡ i)) ⊎ ((o < i) × (pair_index_after_insertion i o n ≡ i + n))
 
 numbered : (i o n : ℕ) → i ≢ o → IsNumbered i o n
 numbered i o n apart = go (cases_lt i o) (cases_lt o i)
@@ -75,13 +75,13 @@ numbered i o n apart = go (cases_lt i o) (cases_lt o i)
 
 -- Where the first step has put the changes, the second one writes the pair in front of the old one: that is a pair that stood
 -- there, or a fresh one.
-module _ (old mid new : KeptThread) (index other : ℕ) (changes : List ContentChange) (below : other < length old.pairs) (first : WritesPairTwo old other mid)
-    (second : ChangesThreadBlocks (address_blocks (thread_pair mid (number_after_insertion index other (length mid.pairs - length old.pairs) - 1)).at) mid new)
+module _ (old mid new : KeptThread) (index other : ℕ) (changes : List ContentChange) (below : other < length old.pairs) (first : WritesPairAndTwoFree old other mid)
+    (second : ChangesThreadBlocks (address_blocks (thread_pair mid (pair_index_after_insertion index other (length mid.pairs - length old.pairs) - 1)).at) mid new)
     (at : IsNumbered index other (length mid.pairs - length old.pairs)) where
-  stood : (n : ℕ) → number_after_insertion index other (length mid.pairs - length old.pairs) - 1 ≡ n → (thread_pair mid n).at ≡ (thread_pair old (index - 1)).at → WritesPairsTwo old (index - 1) other new
-  stood n is same = writes_both old mid new (index - 1) other (number_after_insertion index other (length mid.pairs - length old.pairs) - 1) (ap (λ (i : ℕ). (thread_pair mid i).at) is ∙ same) first second
+  stood : (n : ℕ) → pair_index_after_insertion index other (length mid.pairs - length old.pairs) - 1 ≡ n → (thread_pair mid n).at ≡ (thread_pair old (index - 1)).at → WritesPairsAndTwoFree old (index - 1) other new
+  stood n is same = writes_both old mid new (index - 1) other (pair_index_after_insertion index other (length mid.pairs - length old.pairs) - 1) (ap (λ (i : ℕ). (thread_pair mid i).at) is ∙ same) first second
 
-  changed : IsPairCommitted old other changes mid → WritesPairsTwo old (index - 1) other new
+  changed : IsPairCommitted old other changes mid → WritesPairsAndTwoFree old (index - 1) other new
   changed is =
       let p : Pair = record { at = (thread_pair old other).at; content = is.content } in
       let many = ap length is.pairs ∙ length-set old.pairs other p in
@@ -103,16 +103,16 @@ module _ (old mid new : KeptThread) (index other : ℕ) (changes : List ContentC
     one : length mid.pairs - length old.pairs ≡ 1
     one = let e = ap length is.pairs ∙ length-insert (set old.pairs other front) (other + 1) back within in let f = length-set old.pairs other front in omega (arith, e, f)
 
-    cut : IsNumbered index other (length mid.pairs - length old.pairs) → WritesPairsTwo old (index - 1) other new
+    cut : IsNumbered index other (length mid.pairs - length old.pairs) → WritesPairsAndTwoFree old (index - 1) other new
     cut (inl (l, e)) = stood (index - 1) (omega (arith, e))
         (there (index - 1) ∙ ap (λ (z : Pair). z.at) (get_or-insert_below (set old.pairs other front) (other + 1) back empty_anchor (index - 1) (omega (arith, l)) within) ∙ get_set old.pairs other (index - 1) front empty_anchor refl)
     cut (inr (l, e)) = go (cases_lt (other + 1) index)
       where
-        go : (other + 1 < index) ⊎ (index ≤ other + 1) → WritesPairsTwo old (index - 1) other new
+        go : (other + 1 < index) ⊎ (index ≤ other + 1) → WritesPairsAndTwoFree old (index - 1) other new
         go (inl k) = stood (index - 1 + 1) (let m = one in omega (arith, e, m, k))
             (there (index - 1 + 1) ∙ ap (λ (z : Pair). z.at) (get_or-insert_above (set old.pairs other front) (other + 1) back empty_anchor (index - 1) (omega (arith, k)) within) ∙ get_set old.pairs other (index - 1) front empty_anchor refl)
         go (inr k) =
-            let next : number_after_insertion index other (length mid.pairs - length old.pairs) - 1 ≡ other + 1 = (let m = one in omega (arith, e, m, l, k)) in
+            let next : pair_index_after_insertion index other (length mid.pairs - length old.pairs) - 1 ≡ other + 1 = (let m = one in omega (arith, e, m, l, k)) in
             let same = ap (λ (i : ℕ). (thread_pair mid i).at) next ∙ there (other + 1) ∙ ap (λ (z : Pair). z.at) (get_or-insert_at (set old.pairs other front) (other + 1) back empty_anchor within) in
             record {
               fresh = fresh.0 ∷ fresh.1 ∷ [];
@@ -121,15 +121,15 @@ module _ (old mid new : KeptThread) (index other : ℕ) (changes : List ContentC
               writes = writes_trans (writes_among (λ b some. omega (arith, some)) is.writes) (writes_among (λ b some. omega (arith, some)) (subst (λ (a : ℕ × ℕ). ChangesThreadBlocks (address_blocks a) mid new) same second));
             }
 
-  writes_in_front : ArePut old other changes mid → WritesPairsTwo old (index - 1) other new
+  writes_in_front : AreCommittedOrSplit old other changes mid → WritesPairsAndTwoFree old (index - 1) other new
   writes_in_front (inl is) = changed is
   writes_in_front (inr (large, (fresh, is))) = cut fresh is at
 
-pub writes_at_end : (old mid new : KeptThread) (old_pair old_id : ℕ) (goes : Bool) (new_pair : ℕ) (changes : List ContentChange) → ArePut old new_pair changes mid → new_pair < length old.pairs → CanEndAfterPut old old_pair old_id goes new_pair mid
-    → WritesPairTwo old new_pair mid → ChangesThreadBlocks (address_blocks (thread_pair mid (ending_written_pair (number_after_insertion old_pair new_pair (length mid.pairs - length old.pairs)) goes)).at) mid new → WritesPairsTwo old (ending_written_pair old_pair goes) new_pair new
+pub writes_at_end : (old mid new : KeptThread) (old_pair old_id : ℕ) (goes : Bool) (new_pair : ℕ) (changes : List ContentChange) → AreCommittedOrSplit old new_pair changes mid → new_pair < length old.pairs → CanEndMoveAfterCopy old old_pair old_id goes new_pair mid
+    → WritesPairAndTwoFree old new_pair mid → ChangesThreadBlocks (address_blocks (thread_pair mid (move_ending_written_pair (pair_index_after_insertion old_pair new_pair (length mid.pairs - length old.pairs)) goes)).at) mid new → WritesPairsAndTwoFree old (move_ending_written_pair old_pair goes) new_pair new
 unfolding writes_both
 writes_at_end old mid new old_pair old_id false new_pair changes put below ends first second =
-    writes_both old mid new old_pair new_pair (number_after_insertion old_pair new_pair (length mid.pairs - length old.pairs)) ends.at first second
+    writes_both old mid new old_pair new_pair (pair_index_after_insertion old_pair new_pair (length mid.pairs - length old.pairs)) ends.at first second
 writes_at_end old mid new old_pair old_id true new_pair changes put below ends first second =
     writes_in_front old mid new old_pair new_pair changes below first second (numbered old_pair new_pair (length mid.pairs - length old.pairs) ends.apart) put
 
@@ -138,8 +138,8 @@ writes_at_end old mid new old_pair old_id true new_pair changes put below ends f
 same_disk : (old new : Disk) (blocks : Blocks) → SameGeometryAs old new → with_blocks blocks new ≡ with_blocks blocks old
 same_disk old new blocks h = λ j. record { block_size = h.block_size j; page = h.page j; order = h.order j; profile = h.profile j; blocks = blocks }
 
-pub survives_both : (old mid new : KeptThread) (index : ℕ) (changes : List ContentChange) {P : CallEvent → Type 0} → ArePut old index changes mid → CleanLossLeaves old.history mid.history (LeftByPut old index changes)
-    → WritesPairTwo old index mid → AllCallsSince P mid.history new.history → SurvivesLossSince mid.disk mid.history new.history (disk_tree mid.disk mid.pairs) (disk_tree mid.disk mid.pairs) → SurvivesCommits old index changes new
+pub survives_both : (old mid new : KeptThread) (index : ℕ) (changes : List ContentChange) {P : CallEvent → Type 0} → AreCommittedOrSplit old index changes mid → CleanLossLeaves old.history mid.history (LeftByCommitOrSplit old index changes)
+    → WritesPairAndTwoFree old index mid → AllCallsSince P mid.history new.history → SurvivesLossSince mid.disk mid.history new.history (disk_tree mid.disk mid.pairs) (disk_tree mid.disk mid.pairs) → PowerLossKeepsEitherTree old index changes new
 survives_both old mid new index changes put stops w since second before after first shows =
     survives_then old.disk old.history mid.history new.history before after w.writes.at_worst since (first mid.history stops) (λ clean. HoldsAtLosses-weaker left (second clean))
   where

@@ -1,5 +1,5 @@
 -- The first step of a rename across pairs, as a step of the thread, and what the second one makes of it.
-use Rattle.lfs_operations.proofs.Common.{ℕ, ◌≡◌, ◌≢◌, ◌+◌, ◌-◌, ◌<◌, ◌≤◌, ◌⊎◌, inl, inr, Bool, true, false, cond, take, List, [], ◌∷◌, ◌++◌, length, Option, Some, refl, sym, ap, ap₂, subst, ◌∙◌, arith, append_assoc, length-append, get_or, set, remove, le-ltb, lt-ltb, Blocks, AreUsed, Free, InFlight, ContentChange, content_after, current_of_two, empty_raw_content, raw_content, block_count, Disk, disk_block, block_entries, Name, HasEitherTree as IsLeftOf, with_blocks, Slot, Gstate, gstate_xor, zero_gstate, same_pair, slot_of, Pair, pairs_blocks, pairs_gstate, is_hard_tail, count_before_root, Path, Tree, last_name, tree_renaming, Session, path_or_root, all_directories, all_unmoved_slots, struct_blocks, disk_tree, used_blocks, IsAccepted, IsWritable, flat_map, SameSlots, IsChangedImage, rearranged_chain, CompletesOperation, number_occurrences, count_append, count_here, once_from_distinct, remove_here, directory_addresses, set_rearranged, pair_itself, IsNoDirectory, target_slots, AnyByRecursion, Site, among_right, dirs_at, thread_at, file_blocks, IsWritableChange, IsChain, pairs_behind, OldStays, from_old, two, ends_joined, KeptThread, SameGeometryAs, empty_anchor, thread_pair, option_and_then, taken_then, LeftByPut, ArePut, ShowsDroppedTree, SameInFlight, CanEndMoveAt, HasEndedMoveAt, ending_dropped_blocks, content_move_ended, continues_directory, gstate_naming, pairs_move_ended, number_after_insertion, IsRawFormed, IsReadyImage, KeepsRootNumber, gstate_without_move}
+use Rattle.lfs_operations.proofs.Common.{ℕ, ◌≡◌, ◌≢◌, ◌+◌, ◌-◌, ◌<◌, ◌≤◌, ◌⊎◌, inl, inr, Bool, true, false, cond, take, List, [], ◌∷◌, ◌++◌, length, Option, Some, refl, sym, ap, ap₂, subst, ◌∙◌, arith, append_assoc, length-append, get_or, set, remove, le-ltb, lt-ltb, Blocks, AreUsed, Free, InFlight, ContentChange, content_after, later_committed_block, empty_raw_content, raw_content, block_count, Disk, disk_block, block_entries, Name, HasEitherTree as IsLeftOf, with_blocks, Slot, Gstate, gstate_xor, zero_gstate, same_pair, slot_of_path, Pair, pairs_blocks, pairs_gstate, is_hard_tail, count_before_root, Path, Tree, last_name, tree_renaming, Session, path_or_root, all_directories, all_unmoved_slots, struct_blocks, disk_tree, used_blocks, IsAccepted, IsWritable, flat_map, SameSlots, IsChangedImage, rearranged_chain, CompletesOperation, occurrence_count, count_append, count_here, once_from_distinct, remove_here, directory_addresses, set_rearranged, pair_itself, IsNoDirectory, target_slots, HoldsForSome, Site, among_right, dirs_at, thread_at, file_blocks, IsWritableChange, IsChain, pairs_behind, OldStays, from_old, two, last_tail_is_hard, KeptThread, SameGeometryAs, empty_anchor, thread_pair, option_and_then, taken_then, LeftByCommitOrSplit, AreCommittedOrSplit, HasTreeAfterDrops, HasSameBlocksInFlight, CanEndMoveAt, HasEndedMoveAt, move_ending_dropped_blocks, content_after_move_ended, continues_directory, gstate_with_move, pairs_after_move_ended, pair_index_after_insertion, IsLogContentDecodable, IsRecoveredWritableImage, KeepsRootPairIndex, gstate_without_move}
 use Rattle.lfs_model.specs.session.Operations as ops
 use Rattle.lfs_model.proofs.LeftFiles.{ends_same}
 use Rattle.lfs_operations.proofs.Dropped.{HasMapWithout, map_ended}
@@ -27,18 +27,18 @@ blocks_alike [] (y ∷ ys) h = absurd h
 blocks_alike (x ∷ xs) [] h = absurd h
 blocks_alike (x ∷ xs) (y ∷ ys) h = ap₂ (λ (at : ℕ × ℕ) (z : List ℕ). at.0 ∷ at.1 ∷ z) h.0 (blocks_alike xs ys h.2)
 
-led_at : (chain pre back : List Pair) (i : ℕ) → IsChain chain (pre ++ back) → i ≡ length chain + length pre → continues_directory (chain ++ (pre ++ back)) i ≡ ends_joined false pre
+led_at : (chain pre back : List Pair) (i : ℕ) → IsChain chain (pre ++ back) → i ≡ length chain + length pre → continues_directory (chain ++ (pre ++ back)) i ≡ last_tail_is_hard false pre
 led_at chain pre back i is_chain number =
-    ap₂ (λ n z. ends_joined false (take (i - n) z)) is_chain (pairs_behind chain (pre ++ back) is_chain)
-    ∙ ap (ends_joined false) (take_front pre back (i - length chain) (omega arith))
+    ap₂ (λ n z. last_tail_is_hard false (take (i - n) z)) is_chain (pairs_behind chain (pre ++ back) is_chain)
+    ∙ ap (last_tail_is_hard false) (take_front pre back (i - length chain) (omega arith))
 
 -- what holds of one of a list holds of one of another behind the same pairs
-among_behind : (P : Pair → Type 0) (xs ys zs : List Pair) → (AnyByRecursion P ys → AnyByRecursion P zs) → AnyByRecursion P (xs ++ ys) → AnyByRecursion P (xs ++ zs)
+among_behind : (P : Pair → Type 0) (xs ys zs : List Pair) → (HoldsForSome P ys → HoldsForSome P zs) → HoldsForSome P (xs ++ ys) → HoldsForSome P (xs ++ zs)
 among_behind P [] ys zs f h = f h
 among_behind P (x ∷ xs) ys zs f (inl h) = inl h
 among_behind P (x ∷ xs) ys zs f (inr h) = inr (among_behind P xs ys zs f h)
 
-count_apart : (front os mid ns back : List Pair) (b : ℕ) → number_occurrences b (pairs_blocks os) + number_occurrences b (pairs_blocks ns) ≤ number_occurrences b (pairs_blocks (front ++ (os ++ (mid ++ (ns ++ back)))))
+count_apart : (front os mid ns back : List Pair) (b : ℕ) → occurrence_count b (pairs_blocks os) + occurrence_count b (pairs_blocks ns) ≤ occurrence_count b (pairs_blocks (front ++ (os ++ (mid ++ (ns ++ back)))))
 count_apart front os mid ns back b =
     let a = blocks_append front (os ++ (mid ++ (ns ++ back))) b in
     let c = blocks_append os (mid ++ (ns ++ back)) b in
@@ -46,7 +46,7 @@ count_apart front os mid ns back b =
     let e = blocks_append ns back b in
     omega arith
 
-count_two : (s : Bool) (front os mid ns back : List Pair) (b : ℕ) → number_occurrences b (pairs_blocks os) + number_occurrences b (pairs_blocks ns) ≤ number_occurrences b (pairs_blocks (two s front os mid ns back))
+count_two : (s : Bool) (front os mid ns back : List Pair) (b : ℕ) → occurrence_count b (pairs_blocks os) + occurrence_count b (pairs_blocks ns) ≤ occurrence_count b (pairs_blocks (two s front os mid ns back))
 count_two true front os mid ns back b = count_apart front os mid ns back b
 count_two false front os mid ns back b = let k = count_apart front ns mid os back b in omega (arith, k)
 
@@ -55,20 +55,20 @@ count_two false front os mid ns back b = let k = count_apart front ns mid os bac
 -- The changes put the slot v into the pair p at the site w, and set a move that hides u in the pair o at the site wo.
 pub record IsFirst (t : KeptThread) (sync : Bool) (old_pair : ℕ) (goes : Bool) (new_pair : ℕ) (changes : List ContentChange) (wo : Site) (o : Pair) (lo : List Slot) (u : Slot) (ro : List Slot) (w : Site) (p : Pair) (l : List Slot) (target : Option Slot) (v : Slot) (r : List Slot)
     (old_path new_path : Path) (name : Name) : Type 0 where
-  pub ready : IsReadyImage t
-  pub turn : IsTurn t new_pair changes w p (l ++ v ∷ r) (gstate_xor (gstate_naming sync o.at (length lo)) p.content.move)
+  pub ready : IsRecoveredWritableImage t
+  pub turn : IsTurn t new_pair changes w p (l ++ v ∷ r) (gstate_xor (gstate_with_move sync o.at (length lo)) p.content.move)
   pub setting : IsSetting t.disk wo o lo u ro w p l (target_slots target) v r
   pub chain : wo.chain ≡ w.chain
   pub old_place : old_pair ≡ length wo.chain + length (wo.before ++ wo.left)
   pub old_is : (thread_pair t old_pair).at ≡ o.at
-  pub logged : IsRawFormed t.disk o.at
+  pub logged : IsLogContentDecodable t.disk o.at
   pub same_slot : v ≡ record u { name = name }
-  pub follows : (disk : Disk) (q : Pair) (more : List Pair) → HasTurned t.disk w p (l ++ v ∷ r) (gstate_xor (gstate_naming sync o.at (length lo)) p.content.move) disk q more
+  pub follows : (disk : Disk) (q : Pair) (more : List Pair) → HasTurned t.disk w p (l ++ v ∷ r) (gstate_xor (gstate_with_move sync o.at (length lo)) p.content.move) disk q more
       → IsChangedImage t.disk (thread_at w (p ∷ [])) disk (thread_at w (q ∷ more)) (tree_renaming old_path new_path) (walk_by old_path new_path)
-  pub stays : goes ≡ false → ends_joined false (wo.before ++ wo.left) ≡ true → 1 < length o.content.slots
-  pub alone : goes ≡ true → (ends_joined false (wo.before ++ wo.left) ≡ true) × (length o.content.slots ≡ 1)
-  pub from_slot : slot_of (thread_at w (p ∷ [])) old_path ≡ Some u
-  pub to_slot : slot_of (thread_at w (p ∷ [])) new_path ≡ target
+  pub stays : goes ≡ false → last_tail_is_hard false (wo.before ++ wo.left) ≡ true → 1 < length o.content.slots
+  pub alone : goes ≡ true → (last_tail_is_hard false (wo.before ++ wo.left) ≡ true) × (length o.content.slots ≡ 1)
+  pub from_slot : slot_of_path (thread_at w (p ∷ [])) old_path ≡ Some u
+  pub to_slot : slot_of_path (thread_at w (p ∷ [])) new_path ≡ target
   pub to_name : last_name new_path ≡ name
   pub file : sync ≡ false → IsNoDirectory target
 
@@ -81,7 +81,7 @@ module _ {t : KeptThread} {sync : Bool} {old_pair : ℕ} {goes : Bool} {new_pair
   slots = l ++ v ∷ r
 
   abbrev move : Gstate
-  move = gstate_xor (gstate_naming sync o.at (length lo)) p.content.move
+  move = gstate_xor (gstate_with_move sync o.at (length lo)) p.content.move
 
   abbrev pub after : Tree
   after = tree_renaming old_path new_path (disk_tree t.disk t.pairs)
@@ -92,7 +92,7 @@ module _ {t : KeptThread} {sync : Bool} {old_pair : ℕ} {goes : Bool} {new_pair
 
   -- ---- at a power loss in the first step
 
-  pub left_tree : (left : Blocks) → LeftByPut t new_pair changes left → IsLeftOf (with_blocks left t.disk) (disk_tree t.disk t.pairs) (tree_renaming old_path new_path (disk_tree t.disk t.pairs))
+  pub left_tree : (left : Blocks) → LeftByCommitOrSplit t new_pair changes left → IsLeftOf (with_blocks left t.disk) (disk_tree t.disk t.pairs) (tree_renaming old_path new_path (disk_tree t.disk t.pairs))
   left_tree left is = go (left_put t new_pair changes w p slots move k.turn (record { used = k.ready.used; size = k.ready.size }) left is)
     where
       go : Stays t new_pair changes w p slots move k.turn (with_blocks left t.disk) ⊎ TurnedOn t w p slots move (with_blocks left t.disk)
@@ -102,7 +102,7 @@ module _ {t : KeptThread} {sync : Bool} {old_pair : ℕ} {goes : Bool} {new_pair
 
   -- ---- after the first step
 
-  pub first_turned : (mid : KeptThread) → ArePut t new_pair changes mid → TurnedTo t w p slots move mid
+  pub first_turned : (mid : KeptThread) → AreCommittedOrSplit t new_pair changes mid → TurnedTo t w p slots move mid
   first_turned mid is = put_turned t new_pair changes w p slots move k.turn (record { used = k.ready.used; size = k.ready.size }) mid is
 
   module _ (mid : KeptThread) (x : TurnedTo t w p slots move mid) where
@@ -115,7 +115,7 @@ module _ {t : KeptThread} {sync : Bool} {old_pair : ℕ} {goes : Bool} {new_pair
     pub mid_shows : disk_tree mid.disk mid.pairs ≡ tree_renaming old_path new_path (disk_tree t.disk t.pairs)
     mid_shows = ap (disk_tree mid.disk) x.pairs ∙ taken.follows.shows ∙ ap (λ z. tree_renaming old_path new_path (disk_tree t.disk z)) (sym k.turn.there)
 
-    mid_state : pairs_gstate mid.pairs ≡ gstate_naming sync o.at (length lo)
+    mid_state : pairs_gstate mid.pairs ≡ gstate_with_move sync o.at (length lo)
     mid_state = ap pairs_gstate x.pairs ∙ state_is t.disk wo o lo u ro w p l (target_slots target) v r k.setting sync mid.disk x.q x.more x.turned
 
     mid_is : mid.pairs ≡ w.chain ++ (arr.pre ++ o ∷ arr.post)
@@ -142,9 +142,9 @@ module _ {t : KeptThread} {sync : Bool} {old_pair : ℕ} {goes : Bool} {new_pair
     grown = let e = lengths in omega (arith, e)
 
     abbrev pub index : ℕ
-    index = number_after_insertion old_pair new_pair (length mid.pairs - length t.pairs)
+    index = pair_index_after_insertion old_pair new_pair (length mid.pairs - length t.pairs)
 
-    index_is : number_after_insertion old_pair new_pair (length mid.pairs - length t.pairs) ≡ length w.chain + length arr.pre
+    index_is : pair_index_after_insertion old_pair new_pair (length mid.pairs - length t.pairs) ≡ length w.chain + length arr.pre
     index_is = go arr.number
       where
         old_at : old_pair ≡ length w.chain + length (wo.before ++ wo.left)
@@ -152,7 +152,7 @@ module _ {t : KeptThread} {sync : Bool} {old_pair : ℕ} {goes : Bool} {new_pair
 
         go : ((length (wo.before ++ wo.left) < length (w.before ++ w.left)) × (length arr.pre ≡ length (wo.before ++ wo.left)))
             ⊎ ((length (w.before ++ w.left) < length (wo.before ++ wo.left)) × (length arr.pre ≡ length (wo.before ++ wo.left) + length x.more))
-            → number_after_insertion old_pair new_pair (length mid.pairs - length t.pairs) ≡ length w.chain + length arr.pre
+            → pair_index_after_insertion old_pair new_pair (length mid.pairs - length t.pairs) ≡ length w.chain + length arr.pre
         go (inl (less, is)) =
             let e = k.turn.place in let f = old_at in
             ap (λ b. cond b old_pair (old_pair + (length mid.pairs - length t.pairs))) (lt-ltb old_pair new_pair (omega arith)) ∙ omega arith
@@ -163,7 +163,7 @@ module _ {t : KeptThread} {sync : Bool} {old_pair : ℕ} {goes : Bool} {new_pair
     grouped : mid.pairs ≡ (w.chain ++ arr.pre) ++ o ∷ arr.post
     grouped = mid_is ∙ sym (append_assoc w.chain arr.pre (o ∷ arr.post))
 
-    index_at : number_after_insertion old_pair new_pair (length mid.pairs - length t.pairs) ≡ length (w.chain ++ arr.pre)
+    index_at : pair_index_after_insertion old_pair new_pair (length mid.pairs - length t.pairs) ≡ length (w.chain ++ arr.pre)
     index_at = index_is ∙ sym (length-append w.chain arr.pre)
 
     here : thread_pair mid index ≡ o
@@ -171,26 +171,26 @@ module _ {t : KeptThread} {sync : Bool} {old_pair : ℕ} {goes : Bool} {new_pair
 
     -- ---- the old pair isn't written
 
-    unwritten : (b : ℕ) → 1 ≤ number_occurrences b (pairs_blocks (o ∷ [])) → disk_block mid.disk b ≡ disk_block t.disk b
+    unwritten : (b : ℕ) → 1 ≤ occurrence_count b (pairs_blocks (o ∷ [])) → disk_block mid.disk b ≡ disk_block t.disk b
     unwritten b some = x.turned.same b (
         let once = once_from_distinct ((pairs_blocks x.more ++ []) ++ used_blocks t.disk ps) x.turned.free.distinct b in
         let c = count_append b (pairs_blocks x.more ++ []) (used_blocks t.disk ps) in
         let d = count_append b (pairs_blocks x.more) [] in
         let e = count_append b (pairs_blocks ps) (flat_map (λ s. struct_blocks t.disk s.struct) (all_unmoved_slots ps)) in
-        let f = ap (λ z. number_occurrences b (pairs_blocks z)) arr.old_is ∙ blocks_append w.chain (two arr.b arr.front (o ∷ []) arr.mid (p ∷ []) arr.back) b in
+        let f = ap (λ z. occurrence_count b (pairs_blocks z)) arr.old_is ∙ blocks_append w.chain (two arr.b arr.front (o ∷ []) arr.mid (p ∷ []) arr.back) b in
         let g = count_append b (pairs_blocks x.more) (pairs_blocks (p ∷ [])) in
         let h = count_two arr.b arr.front (o ∷ []) arr.mid (p ∷ []) arr.back b in
         omega arith)
 
     raw_same : raw_content mid.disk o.at ≡ raw_content t.disk o.at
-    raw_same = ap (λ h. option_and_then (λ block. content_after empty_raw_content (block_entries block)) h) (ap₂ current_of_two
+    raw_same = ap (λ h. option_and_then (λ block. content_after empty_raw_content (block_entries block)) h) (ap₂ later_committed_block
         (unwritten o.at.0 (let e = count_here o.at.0 (o.at.1 ∷ []) in omega arith))
         (unwritten o.at.1 (let e = count_here o.at.1 [] in let f = count_append o.at.1 (o.at.0 ∷ []) (o.at.1 ∷ []) in omega arith)))
 
-    led_same : continues_directory mid.pairs index ≡ ends_joined false (wo.before ++ wo.left)
+    led_same : continues_directory mid.pairs index ≡ last_tail_is_hard false (wo.before ++ wo.left)
     led_same = ap (λ z. continues_directory z index) mid_is ∙ led_at w.chain arr.pre (o ∷ arr.post) index mid_chain index_is ∙ arr.led
 
-    pub mid_ends : CanEndMoveAt mid (number_after_insertion old_pair new_pair (length mid.pairs - length t.pairs)) (length lo) goes
+    pub mid_ends : CanEndMoveAt mid (pair_index_after_insertion old_pair new_pair (length mid.pairs - length t.pairs)) (length lo) goes
     mid_ends = record {
       accepted = subst (IsAccepted mid.disk) (sym x.pairs) taken.follows.accepted;
       writable = subst (IsWritable mid.disk) (sym x.pairs) taken.writable;
@@ -214,14 +214,14 @@ module _ {t : KeptThread} {sync : Bool} {old_pair : ℕ} {goes : Bool} {new_pair
       alone = λ goes. (let a = k.alone goes in (led_same ∙ a.0, ap (λ (z : Pair). length z.content.slots) here ∙ a.1));
     }
 
-    pub same_at : (thread_pair mid (number_after_insertion old_pair new_pair (length mid.pairs - length t.pairs))).at ≡ (thread_pair t old_pair).at
+    pub same_at : (thread_pair mid (pair_index_after_insertion old_pair new_pair (length mid.pairs - length t.pairs))).at ≡ (thread_pair t old_pair).at
     same_at = ap (λ (z : Pair). z.at) here ∙ sym k.old_is
 
     -- ---- after the second step
 
-    module _ (last : KeptThread) (e : HasEndedMoveAt mid (number_after_insertion old_pair new_pair (length mid.pairs - length t.pairs)) (length lo) goes last) where
+    module _ (last : KeptThread) (e : HasEndedMoveAt mid (pair_index_after_insertion old_pair new_pair (length mid.pairs - length t.pairs)) (length lo) goes last) where
       abbrev o2 : Pair
-      o2 = record { at = (thread_pair mid index).at; content = content_move_ended mid index (length lo) }
+      o2 = record { at = (thread_pair mid index).at; content = content_after_move_ended mid index (length lo) }
 
       pub last_state : pairs_gstate last.pairs ≡ record zero_gstate { sync = sync }
       last_state = e.state ∙ ap gstate_without_move mid_state
@@ -229,7 +229,7 @@ module _ {t : KeptThread} {sync : Bool} {old_pair : ℕ} {goes : Bool} {new_pair
       settled_last : sync ≡ false → pairs_gstate last.pairs ≡ zero_gstate
       settled_last plain = last_state ∙ ap (λ b. record zero_gstate { sync = b }) plain
 
-      filled : goes ≡ false → ends_joined false (wo.before ++ wo.left) ≡ true → lo ++ ro ≢ []
+      filled : goes ≡ false → last_tail_is_hard false (wo.before ++ wo.left) ≡ true → lo ++ ro ≢ []
       filled stays hard none =
           let m = k.stays stays hard in
           let a = ap length k.setting.held in
@@ -253,14 +253,14 @@ module _ {t : KeptThread} {sync : Bool} {old_pair : ℕ} {goes : Bool} {new_pair
             stays = (ap (λ (z : Pair). z.at) here, ap (λ (z : Pair). remove z.content.slots (length lo)) here ∙ ap (λ z. remove z (length lo)) k.setting.held ∙ remove_here lo ro u, (λ from. filled is (sym arr.from ∙ from)));
             alike = subst (λ z. SameSlots z last.pairs)
                 (ap₂ (λ (z : List Pair) (i : ℕ). set z i o2) grouped index_at ∙ set_at (w.chain ++ arr.pre) o arr.post o2 ∙ append_assoc w.chain arr.pre (o2 ∷ arr.post))
-                (subst (λ b. SameSlots (pairs_move_ended mid index (length lo) b) last.pairs) is e.alike);
+                (subst (λ b. SameSlots (pairs_after_move_ended mid index (length lo) b) last.pairs) is e.alike);
           }
           go true is = record {
             os = [];
             stays = (arr.from ∙ (k.alone is).0, only_left lo ro u (sym (ap length k.setting.held) ∙ (k.alone is).1));
             alike = subst (λ z. SameSlots z last.pairs)
                 (ap₂ (λ (z : List Pair) (i : ℕ). remove z i) grouped index_at ∙ remove_at (w.chain ++ arr.pre) o arr.post ∙ append_assoc w.chain arr.pre arr.post)
-                (subst (λ b. SameSlots (pairs_move_ended mid index (length lo) b) last.pairs) is e.alike);
+                (subst (λ b. SameSlots (pairs_after_move_ended mid index (length lo) b) last.pairs) is e.alike);
           }
 
       second : IsWritableChange mid.disk (thread_at w (x.q ∷ x.more)) last.disk last.pairs (λ t. t) (λ d. d)
@@ -277,11 +277,11 @@ module _ {t : KeptThread} {sync : Bool} {old_pair : ℕ} {goes : Bool} {new_pair
           ∙ ap (λ z. directory_addresses (all_directories z)) (sym k.turn.there)
 
       -- a pair stays that isn't one of the two, has no slots and ends its directory
-      pub last_kept : (z : Pair) → (p ≡ z → ⊥) → z.content.slots ≡ [] → is_hard_tail z.content.tail ≡ false → AnyByRecursion (λ y. y ≡ z) t.pairs → AnyByRecursion (λ y. y ≡ z) last.pairs
-      last_kept z other none soft h = e.kept z none soft (subst (AnyByRecursion (λ y. y ≡ z)) (sym x.pairs)
-          (among_behind (λ y. y ≡ z) w.chain (dirs_at w (p ∷ [])) (dirs_at w (x.q ∷ x.more)) (among_behind (λ y. y ≡ z) (w.before ++ w.left) (p ∷ (w.right ++ w.after)) (x.q ∷ x.more ++ (w.right ++ w.after)) behind) (subst (AnyByRecursion (λ y. y ≡ z)) k.turn.there h)))
+      pub last_kept : (z : Pair) → (p ≡ z → ⊥) → z.content.slots ≡ [] → is_hard_tail z.content.tail ≡ false → HoldsForSome (λ y. y ≡ z) t.pairs → HoldsForSome (λ y. y ≡ z) last.pairs
+      last_kept z other none soft h = e.kept z none soft (subst (HoldsForSome (λ y. y ≡ z)) (sym x.pairs)
+          (among_behind (λ y. y ≡ z) w.chain (dirs_at w (p ∷ [])) (dirs_at w (x.q ∷ x.more)) (among_behind (λ y. y ≡ z) (w.before ++ w.left) (p ∷ (w.right ++ w.after)) (x.q ∷ x.more ++ (w.right ++ w.after)) behind) (subst (HoldsForSome (λ y. y ≡ z)) k.turn.there h)))
         where
-          behind : AnyByRecursion (λ y. y ≡ z) (p ∷ (w.right ++ w.after)) → AnyByRecursion (λ y. y ≡ z) (x.q ∷ x.more ++ (w.right ++ w.after))
+          behind : HoldsForSome (λ y. y ≡ z) (p ∷ (w.right ++ w.after)) → HoldsForSome (λ y. y ≡ z) (x.q ∷ x.more ++ (w.right ++ w.after))
           behind (inl is) = absurd (other is)
           behind (inr h) = among_right (λ y. y ≡ z) (x.q ∷ x.more) (w.right ++ w.after) h
 
@@ -299,29 +299,29 @@ module _ {t : KeptThread} {sync : Bool} {old_pair : ℕ} {goes : Bool} {new_pair
       abbrev kept : List ℕ
       kept = used_blocks last.disk last.pairs ++ file_blocks t.disk (target_slots target)
 
-      before_last : (b : ℕ) → number_occurrences b kept + number_occurrences b (ending_dropped_blocks mid index goes) ≡ number_occurrences b (pairs_blocks x.more ++ used_blocks t.disk t.pairs)
+      before_last : (b : ℕ) → occurrence_count b kept + occurrence_count b (move_ending_dropped_blocks mid index goes) ≡ occurrence_count b (pairs_blocks x.more ++ used_blocks t.disk t.pairs)
       before_last b =
           let a = e.blocks b in
-          let c = ap (λ z. number_occurrences b (used_blocks mid.disk z)) x.pairs in
+          let c = ap (λ z. occurrence_count b (used_blocks mid.disk z)) x.pairs in
           let d = set_count t.disk wo o lo u ro w p l (target_slots target) v r k.setting sync mid.disk x.q x.more x.turned b in
-          let f = ap (λ z. number_occurrences b (used_blocks t.disk z)) k.turn.there in
+          let f = ap (λ z. occurrence_count b (used_blocks t.disk z)) k.turn.there in
           let g = count_append b (pairs_blocks x.more) (used_blocks t.disk t.pairs) in
           let h = count_append b (used_blocks last.disk last.pairs) (file_blocks t.disk (target_slots target)) in
           omega arith
 
-      once_before : (b : ℕ) → number_occurrences b (pairs_blocks x.more ++ used_blocks t.disk t.pairs) ≤ 1
+      once_before : (b : ℕ) → occurrence_count b (pairs_blocks x.more ++ used_blocks t.disk t.pairs) ≤ 1
       once_before b =
           let once = once_from_distinct ((pairs_blocks x.more ++ []) ++ used_blocks t.disk ps) x.turned.free.distinct b in
           let c = count_append b (pairs_blocks x.more ++ []) (used_blocks t.disk ps) in
           let d = count_append b (pairs_blocks x.more) [] in
-          let f = ap (λ z. number_occurrences b (used_blocks t.disk z)) k.turn.there in
+          let f = ap (λ z. occurrence_count b (used_blocks t.disk z)) k.turn.there in
           let g = count_append b (pairs_blocks x.more) (used_blocks t.disk t.pairs) in
           omega arith
 
       map_is : HasMapWithout mid.map last.map (used_blocks last.disk last.pairs ++ file_blocks t.disk (target_slots target))
       map_is = map_ended mid index goes (pairs_blocks x.more ++ used_blocks t.disk t.pairs) kept (x.used (used_blocks t.disk t.pairs) k.ready.used) once_before before_last last.map e.map
 
-      pub rename_once : (b : ℕ) → number_occurrences b (used_blocks last.disk last.pairs) + number_occurrences b (file_blocks t.disk (target_slots target)) ≤ 1
+      pub rename_once : (b : ℕ) → occurrence_count b (used_blocks last.disk last.pairs) + occurrence_count b (file_blocks t.disk (target_slots target)) ≤ 1
       rename_once b =
           let a = before_last b in
           let c = once_before b in
@@ -334,17 +334,17 @@ module _ {t : KeptThread} {sync : Bool} {old_pair : ℕ} {goes : Bool} {new_pair
       pub last_size : length last.map ≡ block_count last.disk
       last_size = map_is.size ∙ x.size ∙ k.ready.size ∙ sym x.shape.count ∙ sym e.shape.count
 
-      pub last_flying : SameInFlight t.map last.map
+      pub last_flying : HasSameBlocksInFlight t.map last.map
       last_flying b = (
         (λ h. x.none_comes b ((map_is.flying b).0 h)),
         (λ h. (map_is.flying b).1 (x.stays b (λ free. absurd (let z : Some InFlight ≡ Some Free = sym h ∙ free in cc)) ∙ h)),
       )
 
       -- the root directory begins with the same pair
-      pub last_root : KeepsRootNumber t last
+      pub last_root : KeepsRootPairIndex t last
       last_root = e.root ∙ ap count_before_root mid_is ∙ mid_chain ∙ sym (ap count_before_root k.turn.there ∙ k.setting.site.chain)
 
-      pub rename_becomes : sync ≡ false → ShowsDroppedTree t last (tree_renaming old_path new_path (disk_tree t.disk t.pairs)) (file_blocks t.disk (target_slots target))
+      pub rename_becomes : sync ≡ false → HasTreeAfterDrops t last (tree_renaming old_path new_path (disk_tree t.disk t.pairs)) (file_blocks t.disk (target_slots target))
       rename_becomes plain = record {
         ready = record {
           accepted = e.taken.follows.accepted;

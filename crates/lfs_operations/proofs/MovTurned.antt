@@ -1,5 +1,5 @@
 -- A pair of an accepted image that is changed, or split, and gets any delta of the global state.
-use Rattle.lfs_operations.proofs.Common.{ℕ, zero, suc, ◌≡◌, ◌+◌, ◌<◌, ◌≤◌, ◌⊎◌, inl, inr, true, nat_eq, List, [], ◌∷◌, ◌++◌, length, take, drop, Some, refl, sym, ap, subst, ◌∙◌, arith, append-nil, slice_get, IsDistinct, same_Some, take-append-drop, All-from_recursion, recursion_from_All, Blocks, AreUsed, BlockStates, IsFree, IsInFlight, ContentChange, content_at, current_block, Disk, block_count, with_blocks, Slot, PairContent, Gstate, FitsInPair, gstate_xor, pair_with_slots, Pair, pairs_blocks, pairs_gstate, BeginsWith, superblock_entry, IsAccepted, used_blocks, fits_same, each_right, number_occurrences, gstate_cons, gstate_left, gstate_right, Site, thread_at, IsSite, IsDevice, HasFirst, KeepsOutsideBoth, KeptThread, thread_pair, complete_after, pairs_with_content, SplitOnDisk, SameGeometryAs, HasOldPair, IsPairCommitted, LossLeavesPair, IsPairWritten, BeginWithSuperblock, front_pair, back_pair, PartsFit, All, AreTwoFree, IsSplitInto, LeftByPut, ArePut, OverfillsPair, AddsNoneInFlight, KeepsTakenStates, ⊎_elim, each_counted}
+use Rattle.lfs_operations.proofs.Common.{ℕ, zero, suc, ◌≡◌, ◌+◌, ◌<◌, ◌≤◌, ◌⊎◌, inl, inr, true, nat_eq, List, [], ◌∷◌, ◌++◌, length, take, drop, Some, refl, sym, ap, subst, ◌∙◌, arith, append-nil, slice_get, IsDistinct, same_Some, take-append-drop, All-from_recursion, recursion_from_All, Blocks, AreUsed, BlockStates, IsFree, IsInFlight, ContentChange, content_at, current_block, Disk, block_count, with_blocks, Slot, PairContent, Gstate, FitsInPair, gstate_xor, pair_with_slots, Pair, pairs_blocks, pairs_gstate, HasFirstLogEntry, superblock_entry, IsAccepted, used_blocks, fits_same, each_right, occurrence_count, gstate_cons, gstate_left, gstate_right, Site, thread_at, IsSite, IsDevice, HasFirst, KeepsOutsideBoth, KeptThread, thread_pair, complete_after, pairs_with_content, SplitOnDisk, SameGeometryAs, HasOldPair, IsPairCommitted, LossLeavesPair, IsPairWritten, BeginWithSuperblock, front_pair, back_pair, PartsFit, All, AreTwoFreeBlocks, IsSplitInto, LeftByCommitOrSplit, AreCommittedOrSplit, OverfillsPair, AddsNoneInFlight, KeepsNonFreeStates, ⊎_elim, each_counted}
 use Rattle.lfs_operations.proofs.Owning.{length_now, none_comes_now, stay_taken, used_more}
 use Rattle.lfs_model.proofs.Placing.{IsPlaced, device}
 use Rattle.lfs_operations.proofs.Threads as thread
@@ -20,7 +20,7 @@ pub record AreOn (t : KeptThread) (index : ℕ) (content : PairContent) (disk : 
   pub back : content_at disk fresh ≡ Some (back_pair content cut fresh).content
   pub parts : PartsFit t index content cut fresh disk
 
-of_fresh : (sets : BlockStates) (fresh : ℕ × ℕ) → AreTwoFree sets fresh → (b : ℕ) → 1 ≤ number_occurrences b (fresh.0 ∷ fresh.1 ∷ []) → IsFree sets b
+of_fresh : (sets : BlockStates) (fresh : ℕ × ℕ) → AreTwoFreeBlocks sets fresh → (b : ℕ) → 1 ≤ occurrence_count b (fresh.0 ∷ fresh.1 ∷ []) → IsFree sets b
 of_fresh sets fresh two b some = each_counted (IsFree sets) (fresh.0 ∷ fresh.1 ∷ []) (two.first, (two.second, tt)) b some
 
 -- the pair's tail, with other slots and another delta
@@ -45,7 +45,7 @@ pub record TurnedOn (t : KeptThread) (w : Site) (p : Pair) (slots : List Slot) (
   pub q : Pair
   pub more : List Pair
   pub turned : HasTurned t.disk w p slots move disk q more
-  pub fresh : (b : ℕ) → 1 ≤ number_occurrences b (pairs_blocks more) → IsFree t.map b
+  pub fresh : (b : ℕ) → 1 ≤ occurrence_count b (pairs_blocks more) → IsFree t.map b
 
 -- so do the thread and the map say
 pub record TurnedTo (t : KeptThread) (w : Site) (p : Pair) (slots : List Slot) (move : Gstate) (new : KeptThread) : Type 0 where
@@ -56,9 +56,9 @@ pub record TurnedTo (t : KeptThread) (w : Site) (p : Pair) (slots : List Slot) (
   pub used : (owned : List ℕ) → AreUsed t.map owned → AreUsed new.map (pairs_blocks more ++ owned)
   pub size : length new.map ≡ length t.map
   pub shape : SameGeometryAs t.disk new.disk
-  pub stays : KeepsTakenStates t.map new.map
+  pub stays : KeepsNonFreeStates t.map new.map
   pub none_comes : AddsNoneInFlight t.map new.map
-  pub fresh : (b : ℕ) → 1 ≤ number_occurrences b (pairs_blocks more) → IsFree t.map b
+  pub fresh : (b : ℕ) → 1 ≤ occurrence_count b (pairs_blocks more) → IsFree t.map b
 
 -- the pair alone, as what a change of it comes to
 pub record ChangedOne (t : KeptThread) (index : ℕ) (w : Site) (p : Pair) (slots : List Slot) (move : Gstate) (new : KeptThread) : Type 0 where
@@ -96,13 +96,13 @@ module _ (t : KeptThread) (index : ℕ) (changes : List ContentChange) (w : Site
     geometry = shape_same t index w p k.there k.place is.shape;
     same = same_four t index w p k.there k.place disk fresh is.others;
     contents = (ap (content_at disk) (sym at_is) ∙ is.front, (is.back, tt));
-    first = λ h b. subst (λ at. BeginsWith (current_block disk at) superblock_entry) at_is
-        (is.parts.first (subst (λ at. BeginsWith (current_block t.disk at) superblock_entry) (sym at_is) b) (front_begins cut some slots (k.first h)));
+    first = λ h b. subst (λ at. HasFirstLogEntry (current_block disk at) superblock_entry) at_is
+        (is.parts.first (subst (λ at. HasFirstLogEntry (current_block t.disk at) superblock_entry) (sym at_is) b) (front_begins cut some slots (k.first h)));
   }
 
   -- ---- free blocks
 
-  all_distinct : IsMapped t → (fresh : ℕ × ℕ) → AreTwoFree t.map fresh → IsDistinct nat_eq (fresh.0 ∷ fresh.1 ∷ used_blocks t.disk ps)
+  all_distinct : IsMapped t → (fresh : ℕ × ℕ) → AreTwoFreeBlocks t.map fresh → IsDistinct nat_eq (fresh.0 ∷ fresh.1 ∷ used_blocks t.disk ps)
   all_distinct m fresh two = fresh_distinct t index w p k.there k.place m.used k.accepted.owned_once fresh two
 
   -- ---- the result
@@ -118,7 +118,7 @@ module _ (t : KeptThread) (index : ℕ) (changes : List ContentChange) (w : Site
     same = (placed_one t index w p k.there k.place disk c k.first is).same;
   }
 
-  turned_two : IsMapped t → (disk : Disk) (fresh : ℕ × ℕ) (cut : ℕ) → AreTwoFree t.map fresh → (FitsInPair t.disk.block_size t.disk.page c → ⊥) → AreOn t index c disk fresh cut
+  turned_two : IsMapped t → (disk : Disk) (fresh : ℕ × ℕ) (cut : ℕ) → AreTwoFreeBlocks t.map fresh → (FitsInPair t.disk.block_size t.disk.page c → ⊥) → AreOn t index c disk fresh cut
       → HasTurned t.disk w p slots move disk (cut_front p.at c cut fresh) (back_pair c cut fresh ∷ [])
   turned_two m disk fresh cut two large is = record {
     at = refl;
@@ -197,7 +197,7 @@ module _ (t : KeptThread) (index : ℕ) (changes : List ContentChange) (w : Site
         fresh = λ b some. of_fresh t.map fresh is.free b some;
       }
 
-  pub put_turned : IsMapped t → (new : KeptThread) → ArePut t index changes new → TurnedTo t w p slots move new
+  pub put_turned : IsMapped t → (new : KeptThread) → AreCommittedOrSplit t index changes new → TurnedTo t w p slots move new
   put_turned m new (inl is) = changed_turned new is
   put_turned m new (inr (large, (fresh, is))) = cut_turned m new fresh large is
 
@@ -223,7 +223,7 @@ module _ (t : KeptThread) (index : ℕ) (changes : List ContentChange) (w : Site
           let same = made_same is.content m in
           inr (turned_one (with_blocks left t.disk) (subst (λ d. IsPairWritten t index d (with_blocks left t.disk)) same is.written) (subst (FitsInPair t.disk.block_size t.disk.page) same fits))
 
-  pub left_put : IsMapped t → (left : Blocks) → LeftByPut t index changes left → Stays (with_blocks left t.disk) ⊎ TurnedOn t w p slots move (with_blocks left t.disk)
+  pub left_put : IsMapped t → (left : Blocks) → LeftByCommitOrSplit t index changes left → Stays (with_blocks left t.disk) ⊎ TurnedOn t w p slots move (with_blocks left t.disk)
   left_put m left (inl is) = ⊎_elim (λ d. inl d) (λ x. inr (record { q = record { at = p.at; content = content_with p slots move }; more = []; turned = x; fresh = λ b some. absurd (omega arith) })) (left_alone left is)
   left_put m left (inr (large, (fresh, (two, is)))) = go is.content
     where

@@ -1,8 +1,8 @@
 -- A rename across pairs over an empty directory: the index of the directory's pair after the move, and the result of the last
 -- step.
-use Rattle.lfs_operations.proofs.Common.{ℕ, zero, suc, ◌≡◌, ◌<◌, ◌⊎◌, inl, inr, ◌-◌, Bool, true, false, cond, nat_eq, slice_get, take, List, [], ◌∷◌, ◌++◌, length, map, Some, None, sym, ap, ap₂, subst, ◌∙◌, arith, append_assoc, append-nil, refl, AllByRecursion, IsDistinct, recursion_from_All, same_Some, last_name, tree_renaming, without_prefix, Blocks, IsPairAt, IsPlaceOf, FitsPair, IsUnreachedOrRemoved, Name, HasEitherTree as IsLeftOf, with_blocks, slot_of, pair_with_slots, Branch, Ctz, Inline, Slot, Struct, gstate_xor, zero_gstate, same_pair, path_or_root, ThreadDirectory, Pair, anchor_address, pairs_blocks, pairs_from_root, first_address, pairs_gstate, root_address, count_before_root, Path, branch_address, address_at_path, HasNoEmpties, IsWritable, IsAccepted, IsReachedBySome, LeadsTo, all_directories, all_entries, disk_tree, used_blocks, SameSlots, IsChangedImage, CompletesOperation, no_move_from, recovered_from, Each, number_occurrences, count_append, each_right, each_weaker, HasDirectory, chain_of_thread, site_shows, NoneGoes, joined_parts, none_where, rest_all, entry_only, get_here, place_at, shown_before, shown_behind, some_filled, pair_itself, pair_on, last_is, Gains, Keeps, Piece, Stays, olds_of, segment_of, renamed_addresses, IsReplaced, avoids_behind, avoids_front, same, site, drafts_of, parts_of, AnyByRecursion, Site, dirs_at, thread_at, file_blocks, IsWritableChange, IsChain, pairs_behind, OldStays, from_old, two, KeptThread, empty_anchor, thread_pair, HasNoMove, Any, all_at_firsts, begins_at_firsts, CanDropAt, IsPairDropped, LeftByDrop, CanEditIn, HasEndedMoveAt, gstate_naming, ArePutAndEnded, number_after_insertion, IsRenamedAcross, tree_moved, CanReplaceDirectoryAcross, CanMoveAcross, IsMovedAcross, moving_changes, drops_emptied_pair, WritesPairsTwo, WritesThreadTwo, second_step_pair, once_from_distinct, Route}
+use Rattle.lfs_operations.proofs.Common.{ℕ, zero, suc, ◌≡◌, ◌<◌, ◌⊎◌, inl, inr, ◌-◌, Bool, true, false, cond, nat_eq, slice_get, take, List, [], ◌∷◌, ◌++◌, length, map, Some, None, sym, ap, ap₂, subst, ◌∙◌, arith, append_assoc, append-nil, refl, AllByRecursion, IsDistinct, recursion_from_All, same_Some, last_name, tree_renaming, without_prefix, Blocks, IsPairAt, IsPositionOfName, IsFittingPair, IsUnreachedOrRemoved, Name, HasEitherTree as IsLeftOf, with_blocks, slot_of_path, pair_with_slots, Branch, Ctz, Inline, Slot, Struct, gstate_xor, zero_gstate, same_pair, path_or_root, ThreadDirectory, Pair, superblock_pair_address, pairs_blocks, pairs_from_root, first_address, pairs_gstate, root_address, count_before_root, Path, struct_directory_address, address_at_path, HasNoEmptyPairs, IsWritable, IsAccepted, IsReachedDirectory, IsDirectoryAtPath, all_directories, all_entries, disk_tree, used_blocks, SameSlots, IsChangedImage, CompletesOperation, no_move_from, recovered_from, Each, occurrence_count, count_append, each_right, each_weaker, HasDirectory, chain_of_thread, site_shows, NoneGoes, joined_parts, none_where, rest_all, entry_only, get_here, place_at, shown_before, shown_behind, some_filled, pair_itself, pair_on, last_is, Gains, Keeps, Piece, Stays, olds_of, segment_of, renamed_addresses, IsReplaced, avoids_behind, avoids_front, same, site, drafts_of, parts_of, HoldsForSome, Site, dirs_at, thread_at, file_blocks, IsWritableChange, IsChain, pairs_behind, OldStays, from_old, two, KeptThread, empty_anchor, thread_pair, HasNoMove, Any, all_at_firsts, begins_at_firsts, CanDropAt, IsPairDropped, LeftByDrop, CanEditIn, HasEndedMoveAt, gstate_with_move, IsMoveCopiedAndEnded, pair_index_after_insertion, IsRenamedBetweenPairs, tree_with_entry_moved, CanReplaceDirectoryBetweenPairs, CanMoveBetweenPairs, IsMovedBetweenPairs, move_start_changes, drops_pair_after_removal, WritesPairsAndTwoFree, WritesThreadAndTwoFree, move_ending_pair, once_from_distinct, Route}
 use Rattle.lfs_model.specs.session.TreeEdits.{same_path}
-use Rattle.lfs_model.specs.session.Layout.{branch_addresses, removed_addresses}
+use Rattle.lfs_model.specs.session.Layout.{slot_directory_addresses, removed_directory_addresses}
 use Rattle.lfs_model.specs.session.Operations as ops
 use Rattle.lfs_model.proofs.Alike.{Stood}
 use Rattle.lfs_model.proofs.Found.{directory_found, links_behind}
@@ -25,36 +25,36 @@ use Rattle.lfs_operations.proofs.OntoWritten.{end_below, writes_one}
 
 -- ---- lists
 
-among_there : (xs : List Pair) (k : ℕ) (o : Pair) → slice_get xs k ≡ Some o → AnyByRecursion (λ y. y ≡ o) xs
+among_there : (xs : List Pair) (k : ℕ) (o : Pair) → slice_get xs k ≡ Some o → HoldsForSome (λ y. y ≡ o) xs
 among_there [] k o e = absurd (cc)
 among_there (x ∷ xs) zero o e = inl (same_Some x o e)
 among_there (x ∷ xs) (suc k) o e = inr (among_there xs k o e)
 
-somewhere : (xs : List Pair) (o : Pair) → AnyByRecursion (λ y. y ≡ o) xs → (k : ℕ) × (slice_get xs k ≡ Some o)
+somewhere : (xs : List Pair) (o : Pair) → HoldsForSome (λ y. y ≡ o) xs → (k : ℕ) × (slice_get xs k ≡ Some o)
 somewhere [] o h = absurd h
 somewhere (x ∷ xs) o (inl e) = (0, ap Some e)
 somewhere (x ∷ xs) o (inr h) = let s = somewhere xs o h in (suc s.0, s.1)
 
-pub two_written : {t : KeptThread} {route : Route} {name : Name} {gone : ℕ} (rename : CanReplaceDirectoryAcross t route name gone) {m : KeptThread}
-    → WritesPairsTwo t (second_step_pair t route.old_pair route.first) route.new_pair m → WritesThreadTwo t m
+pub two_written : {t : KeptThread} {route : Route} {name : Name} {gone : ℕ} (rename : CanReplaceDirectoryBetweenPairs t route name gone) {m : KeptThread}
+    → WritesPairsAndTwoFree t (move_ending_pair t route.old_pair route.first) route.new_pair m → WritesThreadAndTwoFree t m
 two_written {t = t} {route = route} rename {m = m} w =
     let can = rename.onto.old in
     let b = rename.onto.target.there in
-    writes_one t m (second_step_pair t route.old_pair route.first) route.new_pair (end_below (length t.pairs) route.old_pair (drops_emptied_pair t route.old_pair route.first) (below t can.ready can.first route.old_pair can.stands.pair can.stands.rest can.stands.place))
+    writes_one t m (move_ending_pair t route.old_pair route.first) route.new_pair (end_below (length t.pairs) route.old_pair (drops_pair_after_removal t route.old_pair route.first) (below t can.ready can.first route.old_pair can.stands.pair can.stands.rest can.stands.place))
     (below t can.ready rename.onto.to_first route.new_pair b.pair b.rest b.place) w
 
-module _ {t : KeptThread} {route : Route} {name : Name} {gone : ℕ} (rename : CanReplaceDirectoryAcross t route name gone) {m : KeptThread}
-    (h : IsMovedAcross true true t route name m) where
-  abbrev is : ArePutAndEnded t route.old_pair route.old_id (drops_emptied_pair t route.old_pair route.first) route.new_pair (moving_changes true true t route name) m
+module _ {t : KeptThread} {route : Route} {name : Name} {gone : ℕ} (rename : CanReplaceDirectoryBetweenPairs t route name gone) {m : KeptThread}
+    (h : IsMovedBetweenPairs true true t route name m) where
+  abbrev is : IsMoveCopiedAndEnded t route.old_pair route.old_id (drops_pair_after_removal t route.old_pair route.first) route.new_pair (move_start_changes true true t route name) m
   is = h.done
 
-  abbrev onto : CanMoveAcross true true t route name
+  abbrev onto : CanMoveBetweenPairs true true t route name
   onto = rename.onto
 
   abbrev can : CanEditIn t route.old_pair route.old_id
   can = onto.old
 
-  abbrev tb : IsPlaceOf t.pairs onto.to_first name route.new_pair route.new_id
+  abbrev tb : IsPositionOfName t.pairs onto.to_first name route.new_pair route.new_id
   tb = onto.target.there
 
   abbrev p : Pair
@@ -97,19 +97,19 @@ module _ {t : KeptThread} {route : Route} {name : Name} {gone : ℕ} (rename : C
   to = onto.path ++ name ∷ []
 
   abbrev goes : Bool
-  goes = drops_emptied_pair t route.old_pair route.first
+  goes = drops_pair_after_removal t route.old_pair route.first
 
   abbrev o : Pair
   o = thread_pair t gone
 
-  first_step : IsFirst t true route.old_pair goes route.new_pair (moving_changes true true t route name) wo q0 lo s ro w p l (Some g) v r from to name
+  first_step : IsFirst t true route.old_pair goes route.new_pair (move_start_changes true true t route name) wo q0 lo s ro w p l (Some g) v r from to name
   first_step = (aimed_onto true t route name onto h.address).way
 
-  x : TurnedTo t w p (l ++ v ∷ r) (gstate_xor (gstate_naming true q0.at (length lo)) p.content.move) is.mid
+  x : TurnedTo t w p (l ++ v ∷ r) (gstate_xor (gstate_with_move true q0.at (length lo)) p.content.move) is.mid
   x = first_turned first_step is.mid is.put
 
-  e : HasEndedMoveAt is.mid (number_after_insertion route.old_pair route.new_pair (length is.mid.pairs - length t.pairs)) (length lo) goes m
-  e = subst (λ i. HasEndedMoveAt is.mid (number_after_insertion route.old_pair route.new_pair (length is.mid.pairs - length t.pairs)) i goes m) (sym can.stands.stands.number) is.ended
+  e : HasEndedMoveAt is.mid (pair_index_after_insertion route.old_pair route.new_pair (length is.mid.pairs - length t.pairs)) (length lo) goes m
+  e = subst (λ i. HasEndedMoveAt is.mid (pair_index_after_insertion route.old_pair route.new_pair (length is.mid.pairs - length t.pairs)) i goes m) (sym can.stands.stands.number) is.ended
 
   -- ---- the directory before
 
@@ -118,7 +118,7 @@ module _ {t : KeptThread} {route : Route} {name : Name} {gone : ℕ} (rename : C
       (same t.disk t.pairs onto.path onto.at can.ready.accepted onto.leads onto.to_first route.new_pair p tb.rest tb.place onto.begins) tb.stands.held
       ∙ ap (λ z. shown_before w l ++ (z ++ shown_behind w r)) (entry_only g tb.stands.entry)) ∙ get_here (shown_before w l) (shown_behind w r) g
 
-  led_there : LeadsTo t.pairs (onto.path ++ name ∷ []) rename.to
+  led_there : IsDirectoryAtPath t.pairs (onto.path ++ name ∷ []) rename.to
   led_there = led_to t can.ready onto.path onto.at onto.leads onto.to_first route.new_pair route.new_id name tb onto.begins rename.to rename.branch
 
   own : HasOwnPair t w.chain (dirs_at w (p ∷ [])) gone rename.to
@@ -146,7 +146,7 @@ module _ {t : KeptThread} {route : Route} {name : Name} {gone : ℕ} (rename : C
 
   found : HasDirectory (pairs_from_root m.pairs) rename.to
   found =
-      let k = links_behind (Some anchor_address) (count_before_root m.pairs) m.pairs moved.follows.accepted.thread.links in
+      let k = links_behind (Some superblock_pair_address) (count_before_root m.pairs) m.pairs moved.follows.accepted.thread.links in
       directory_found (pairs_gstate m.pairs) rename.to k.0 (pairs_from_root m.pairs) k.1
       (begins_at_firsts (all_directories t.pairs) (all_directories m.pairs) (last_firsts first_step is.mid x m e) rename.to (can.ready.accepted.branches (onto.path ++ name ∷ []) rename.to led_there))
 
@@ -197,13 +197,13 @@ module _ {t : KeptThread} {route : Route} {name : Name} {gone : ℕ} (rename : C
       drops = replaced_drops t m from to rename.to (take (count_before_root m.pairs) m.pairs) now.front now.before o (now.run ++ now.after) can.ready moved no_move_now there_now chain_now
           (subst (λ z. IsReplaced (address_at_path (all_entries z) (root_address z)) from to rename.to) (sym first_step.turn.there)
           (subst (λ (n : Name). IsReplaced (address_at_path (all_entries (thread_at w (p ∷ []))) (root_address (thread_at w (p ∷ [])))) from (onto.path ++ n ∷ []) rename.to) tb.stands.named
-          (replaced_by t.disk (thread_at w (p ∷ [])) onto.path onto.at (place_at w l) g rename.to from first_step.setting.accepted (subst (λ z. LeadsTo z onto.path onto.at) first_step.turn.there onto.leads) entry_there rename.branch own.empty
+          (replaced_by t.disk (thread_at w (p ∷ [])) onto.path onto.at (place_at w l) g rename.to from first_step.setting.accepted (subst (λ z. IsDirectoryAtPath z onto.path onto.at) first_step.turn.there onto.leads) entry_there rename.branch own.empty
           (ap (λ (n : Name). without_prefix from (onto.path ++ n ∷ [])) tb.stands.named ∙ onto.not_beneath))))
           (λ Q h. all_at_firsts Q (all_directories t.pairs) (all_directories m.pairs) (last_firsts first_step is.mid x m e) h)
           rename.alike rename.alone;
       empty = rename.empty;
       used = used_same m.map (used_blocks m.disk m.pairs ++ file_blocks t.disk (g ∷ [])) (used_blocks m.disk m.pairs)
-          (λ b. let a = count_append b (used_blocks m.disk m.pairs) (file_blocks t.disk (g ∷ [])) in let c : number_occurrences b (file_blocks t.disk (g ∷ [])) ≡ 0 = ap (λ z. number_occurrences b (file_blocks t.disk (record g { struct = z } ∷ []))) rename.branch in omega arith) (last_used first_step is.mid x m e);
+          (λ b. let a = count_append b (used_blocks m.disk m.pairs) (file_blocks t.disk (g ∷ [])) in let c : occurrence_count b (file_blocks t.disk (g ∷ [])) ≡ 0 = ap (λ z. occurrence_count b (file_blocks t.disk (record g { struct = z } ∷ []))) rename.branch in omega arith) (last_used first_step is.mid x m e);
       size = last_size first_step is.mid x m e;
       flying = last_flying first_step is.mid x m e;
       root = last_root first_step is.mid x m e;
@@ -240,7 +240,7 @@ module _ {t : KeptThread} {route : Route} {name : Name} {gone : ℕ} (rename : C
       joined false = joined_stays a.front (Gains p (l ++ v ∷ r) x.q x.more ∷ Stays a.mid ∷ Keeps q0 (lo ++ ro) left.os ∷ Stays a.back ∷ [])
           ∙ ap (λ z. a.front ++ ((x.q ∷ x.more) ++ z)) (joined_stays a.mid (Keeps q0 (lo ++ ro) left.os ∷ Stays a.back ∷ []) ∙ ap (λ z. a.mid ++ (left.os ++ z)) last_piece)
 
-      o_fits : FitsPair t.disk (pair_with_slots (lo ++ ro) q0)
+      o_fits : IsFittingPair t.disk (pair_with_slots (lo ++ ro) q0)
       o_fits = fits_fewer t.disk q0 lo ro s can.stands.stands.held (fits_there t can.ready can.first route.old_pair q0 can.stands.rest can.stands.place)
 
       known : (b : Bool) → OldStays (from_old b a.front a.mid p) q0 (lo ++ ro) left.os → AreKnown t.disk o None (pieces_of b)
@@ -310,31 +310,31 @@ module _ {t : KeptThread} {route : Route} {name : Name} {gone : ℕ} (rename : C
       were : t.pairs ≡ ps
       were = first_step.turn.there ∙ a.old_is
 
-      unreached : NoneGoes (λ z. IsReachedBySome ps z → ⊥) None (two a.b a.front (q0 ∷ []) a.mid (p ∷ []) a.back)
-      unreached = subst (NoneGoes (λ z. IsReachedBySome ps z → ⊥) None) (pairs_behind w.chain (two a.b a.front (q0 ∷ []) a.mid (p ∷ []) a.back) two_chain)
-          (none_where (λ z. IsReachedBySome ps z → ⊥) (pairs_gstate ps) None (pairs_from_root ps) (λ z f. absurd (cc))
-          (subst (Each (λ (z : ThreadDirectory). (IsReachedBySome ps z.at → ⊥) → ⊥)) (sym (rest_all (all_directories ps)))
-          (each_weaker (λ (z : ThreadDirectory). IsReachedBySome ps z.at) (λ (z : ThreadDirectory). (IsReachedBySome ps z.at → ⊥) → ⊥) (λ z h n. n h) (all_directories ps)
-          (recursion_from_All (λ (z : ThreadDirectory). IsReachedBySome ps z.at) (all_directories ps) (recovered_from t.disk ps (subst (IsAccepted t.disk) were can.ready.accepted) (ap pairs_gstate (sym were) ∙ can.ready.settled)).reached))))
+      unreached : NoneGoes (λ z. IsReachedDirectory ps z → ⊥) None (two a.b a.front (q0 ∷ []) a.mid (p ∷ []) a.back)
+      unreached = subst (NoneGoes (λ z. IsReachedDirectory ps z → ⊥) None) (pairs_behind w.chain (two a.b a.front (q0 ∷ []) a.mid (p ∷ []) a.back) two_chain)
+          (none_where (λ z. IsReachedDirectory ps z → ⊥) (pairs_gstate ps) None (pairs_from_root ps) (λ z f. absurd (cc))
+          (subst (Each (λ (z : ThreadDirectory). (IsReachedDirectory ps z.at → ⊥) → ⊥)) (sym (rest_all (all_directories ps)))
+          (each_weaker (λ (z : ThreadDirectory). IsReachedDirectory ps z.at) (λ (z : ThreadDirectory). (IsReachedDirectory ps z.at → ⊥) → ⊥) (λ z h n. n h) (all_directories ps)
+          (recursion_from_All (λ (z : ThreadDirectory). IsReachedDirectory ps z.at) (all_directories ps) (recovered_from t.disk ps (subst (IsAccepted t.disk) were can.ready.accepted) (ap pairs_gstate (sym were) ∙ can.ready.settled)).reached))))
 
       writable : IsWritable t.disk ps
       writable = subst (IsWritable t.disk) were can.ready.writable
 
-      stood : Stood t.disk (GoesAt (λ z. IsReachedBySome ps z → ⊥) rename.to) (length w.chain) None (w.chain ++ drafts_of (map segment_of cut.all)) new.pairs
-      stood = pieces_stood t.disk (λ z. IsReachedBySome ps z → ⊥) rename.to w.chain cut.all new.pairs
-          (subst (λ z. Each (FitsPair t.disk) (w.chain ++ z)) (sym all_olds) (recursion_from_All (FitsPair t.disk) ps writable.pairs))
-          (subst (HasNoEmpties false) (pairs_behind w.chain (two a.b a.front (q0 ∷ []) a.mid (p ∷ []) a.back) two_chain ∙ sym all_olds) writable.no_empty_pair)
-          (subst (NoneGoes (λ z. IsReachedBySome ps z → ⊥) None) (sym all_olds) unreached) cut.there alike_after
+      stood : Stood t.disk (GoesAt (λ z. IsReachedDirectory ps z → ⊥) rename.to) (length w.chain) None (w.chain ++ drafts_of (map segment_of cut.all)) new.pairs
+      stood = pieces_stood t.disk (λ z. IsReachedDirectory ps z → ⊥) rename.to w.chain cut.all new.pairs
+          (subst (λ z. Each (IsFittingPair t.disk) (w.chain ++ z)) (sym all_olds) (recursion_from_All (IsFittingPair t.disk) ps writable.pairs))
+          (subst (HasNoEmptyPairs false) (pairs_behind w.chain (two a.b a.front (q0 ∷ []) a.mid (p ∷ []) a.back) two_chain ∙ sym all_olds) writable.no_empty_pair)
+          (subst (NoneGoes (λ z. IsReachedDirectory ps z → ⊥) None) (sym all_olds) unreached) cut.there alike_after
 
-      to_slot : slot_of ps to ≡ Some g
-      to_slot = subst (λ z. slot_of z to ≡ Some g) a.old_is first_step.to_slot
+      to_slot : slot_of_path ps to ≡ Some g
+      to_slot = subst (λ z. slot_of_path z to ≡ Some g) a.old_is first_step.to_slot
 
-      removes : (given to_given : List ℕ) → path_or_root given ≡ from → path_or_root to_given ≡ to → removed_addresses ps (ops.Rename given to_given) ≡ rename.to ∷ []
-      removes given to_given given_is to_is = ap (λ z. cond z [] (branch_addresses (slot_of ps (path_or_root to_given)))) (ap₂ same_path given_is to_is ∙ not_before from to onto.not_beneath)
-          ∙ ap branch_addresses (ap (slot_of ps) to_is ∙ to_slot) ∙ go g.struct rename.branch
+      removes : (given to_given : List ℕ) → path_or_root given ≡ from → path_or_root to_given ≡ to → removed_directory_addresses ps (ops.Rename given to_given) ≡ rename.to ∷ []
+      removes given to_given given_is to_is = ap (λ z. cond z [] (slot_directory_addresses (slot_of_path ps (path_or_root to_given)))) (ap₂ same_path given_is to_is ∙ not_before from to onto.not_beneath)
+          ∙ ap slot_directory_addresses (ap (slot_of_path ps) to_is ∙ to_slot) ∙ go g.struct rename.branch
         where
-          go : (z : Struct) → z ≡ Branch rename.to → branch_addresses (Some (record g { struct = z })) ≡ rename.to ∷ []
-          go (Branch b) k = ap (λ y. y ∷ []) (same_Some b rename.to (ap branch_address k))
+          go : (z : Struct) → z ≡ Branch rename.to → slot_directory_addresses (Some (record g { struct = z })) ≡ rename.to ∷ []
+          go (Branch b) k = ap (λ y. y ∷ []) (same_Some b rename.to (ap struct_directory_address k))
           go (Inline bytes) k = absurd (cc)
           go (Ctz head size) k = absurd (cc)
 
@@ -349,15 +349,15 @@ module _ {t : KeptThread} {route : Route} {name : Name} {gone : ℕ} (rename : C
         still_writable = (taken_end replacing_across new d).writable;
         held = can.stands.stands.held;
         was = tb.stands.held;
-        from_slot = ap (slot_of ps) given_is ∙ subst (λ z. slot_of z from ≡ Some s) a.old_is first_step.from_slot;
-        to_slot = ap (slot_of ps) to_is ∙ to_slot;
+        from_slot = ap (slot_of_path ps) given_is ∙ subst (λ z. slot_of_path z from ≡ Some s) a.old_is first_step.from_slot;
+        to_slot = ap (slot_of_path ps) to_is ∙ to_slot;
         to_name = ap last_name to_is ∙ last_is onto.path name;
         stood = subst (λ k. Stood t.disk (IsUnreachedOrRemoved ps (ops.Rename given to_given)) k None (w.chain ++ two a.b a.front (pair_with_slots (lo ++ ro) q0 ∷ []) a.mid (pair_with_slots (l ++ v ∷ r) p ∷ []) a.back) new.pairs) (sym two_chain)
             (subst (λ z. Stood t.disk (IsUnreachedOrRemoved ps (ops.Rename given to_given)) (length w.chain) None (w.chain ++ z) new.pairs) (cut.drafts ∙ drafts a.b)
-            (subst (λ ds. Stood t.disk (λ y. (IsReachedBySome ps y → ⊥) ⊎ Any (λ at. same_pair y at ≡ true) ds) (length w.chain) None (w.chain ++ drafts_of (map segment_of cut.all)) new.pairs) (sym (removes given to_given given_is to_is)) stood));
+            (subst (λ ds. Stood t.disk (λ y. (IsReachedDirectory ps y → ⊥) ⊎ Any (λ at. same_pair y at ≡ true) ds) (length w.chain) None (w.chain ++ drafts_of (map segment_of cut.all)) new.pairs) (sym (removes given to_given given_is to_is)) stood));
       }
 
-      pub renamed_onto : IsRenamedAcross t new can.path can.name onto.path name []
+      pub renamed_onto : IsRenamedBetweenPairs t new can.path can.name onto.path name []
       renamed_onto = record {
         now = shows_dropped replacing_across new d;
         once = λ b. let k = once_from_distinct (used_blocks new.disk new.pairs) (shows_dropped replacing_across new d).ready.accepted.owned_once b in omega (arith, k);
@@ -368,13 +368,13 @@ module _ {t : KeptThread} {route : Route} {name : Name} {gone : ℕ} (rename : C
     pub can_drop_onto : CanDropAt m n zero_gstate
     can_drop_onto = can_drop_last replacing_across
 
-    pub left_across : (left : Blocks) → LeftByDrop m (n - 1) zero_gstate left → IsLeftOf (with_blocks left t.disk) (disk_tree t.disk t.pairs) (tree_moved t can.path can.name onto.path name)
+    pub left_across : (left : Blocks) → LeftByDrop m (n - 1) zero_gstate left → IsLeftOf (with_blocks left t.disk) (disk_tree t.disk t.pairs) (tree_with_entry_moved t can.path can.name onto.path name)
     left_across left h = left_last replacing_across left h
 
   pub not_nowhere : AllByRecursion (λ z. same_pair z.at o.at ≡ false) m.pairs → ⊥
   not_nowhere none = go m.pairs none (last_kept first_step is.mid x m e o not_new rename.empty rename.alone (among_there t.pairs gone o o_there))
     where
-      go : (xs : List Pair) → AllByRecursion (λ z. same_pair z.at o.at ≡ false) xs → AnyByRecursion (λ y. y ≡ o) xs → ⊥
+      go : (xs : List Pair) → AllByRecursion (λ z. same_pair z.at o.at ≡ false) xs → HoldsForSome (λ y. y ≡ o) xs → ⊥
       go [] h k = k
       go (y ∷ ys) h (inl k) = absurd (let z = sym h.0 ∙ ap (λ (z : Pair). same_pair z.at o.at) k ∙ pair_itself o.at in cc)
       go (y ∷ ys) h (inr k) = go ys h.1 k

@@ -1,5 +1,5 @@
 -- The pair of a replaced directory, now an orphan, is dropped.
-use Rattle.lfs_operations.proofs.Common.{ℕ, ◌≡◌, false, true, List, [], ◌∷◌, ◌++◌, Some, None, sym, ap, subst, ◌∙◌, append-nil, slice_get, same_Some, tree_renaming, without_prefix, Disk, Branch, Slot, same_pair, Pair, pairs_gstate, is_hard_tail, root_address, Path, branch_address, address_at_path, IsAccepted, IsWritable, LeadsTo, all_directories, all_entries, recovered_from, HasNoMove, renamed_addresses, IsReplaced, IsGone, IsWritableChange, IsChain, KeptThread, option_and_then, All, IsReadyImage}
+use Rattle.lfs_operations.proofs.Common.{ℕ, ◌≡◌, false, true, List, [], ◌∷◌, ◌++◌, Some, None, sym, ap, subst, ◌∙◌, append-nil, slice_get, same_Some, tree_renaming, without_prefix, Disk, Branch, Slot, same_pair, Pair, pairs_gstate, is_hard_tail, root_address, Path, struct_directory_address, address_at_path, IsAccepted, IsWritable, IsDirectoryAtPath, all_directories, all_entries, recovered_from, HasNoMove, renamed_addresses, IsReplaced, IsGone, IsWritableChange, IsChain, KeptThread, option_and_then, All, IsRecoveredWritableImage}
 use Rattle.lfs_model.specs.tree.Tree.{address_from_slot, root_slot}
 use Rattle.lfs_model.proofs.Names.{found_at}
 use Rattle.lfs_model.proofs.Paths.{append_step}
@@ -10,11 +10,11 @@ use Rattle.lfs_model.proofs.Walks.{leaf_leads, leads_below}
 -- ---- the directory that is replaced
 
 -- a path leads to it, which ends with its entry, and to nothing beneath it
-pub replaced_by : (disk : Disk) (ps : List Pair) (P : Path) (a : ℕ × ℕ) (k : ℕ) (u : Slot) (d : ℕ × ℕ) (old : Path) → IsAccepted disk ps → LeadsTo ps P a → slice_get (all_entries ps a) k ≡ Some u → u.struct ≡ Branch d
+pub replaced_by : (disk : Disk) (ps : List Pair) (P : Path) (a : ℕ × ℕ) (k : ℕ) (u : Slot) (d : ℕ × ℕ) (old : Path) → IsAccepted disk ps → IsDirectoryAtPath ps P a → slice_get (all_entries ps a) k ≡ Some u → u.struct ≡ Branch d
     → all_entries ps d ≡ [] → without_prefix old (P ++ u.name ∷ []) ≡ None → IsReplaced (address_at_path (all_entries ps) (root_address ps)) old (P ++ u.name ∷ []) d
 replaced_by disk ps P a k u d old ok leads there branch empty apart = record {
   apart = apart;
-  there = ap (address_at_path (all_entries ps) (root_address ps)) (sym (append-nil (P ++ u.name ∷ []))) ∙ below [] ∙ ap branch_address branch;
+  there = ap (address_at_path (all_entries ps) (root_address ps)) (sym (append-nil (P ++ u.name ∷ []))) ∙ below [] ∙ ap struct_directory_address branch;
   alone = λ t at led. (leaf_leads (all_entries ps) u leaf t at (sym (below t) ∙ led)).0;
   once = ok.once;
 }
@@ -23,13 +23,13 @@ replaced_by disk ps P a k u d old ok leads there branch empty apart = record {
     below t = ap (address_at_path (all_entries ps) (root_address ps)) (append_step P u.name t) ∙ leads_below (all_entries ps) (root_slot (root_address ps)) P a leads u.name t
         ∙ ap (option_and_then (λ z. address_from_slot (all_entries ps) z t)) (found_at disk.order (all_entries ps a) k u ((accepted_sound disk ps ok).tree.order P a leads) there)
 
-    leaf : (x : ℕ × ℕ) → branch_address u.struct ≡ Some x → all_entries ps x ≡ []
-    leaf x e = ap (all_entries ps) (same_Some x d (sym e ∙ ap branch_address branch)) ∙ empty
+    leaf : (x : ℕ × ℕ) → struct_directory_address u.struct ≡ Some x → all_entries ps x ≡ []
+    leaf x e = ap (all_entries ps) (same_Some x d (sym e ∙ ap struct_directory_address branch)) ∙ empty
 
 -- ---- the last step
 
 -- no path leads to the directory's pair o, which stands behind x, once the rename has replaced it
-pub replaced_drops : (t m : KeptThread) (from to : Path) (d : ℕ × ℕ) (chain front : List Pair) (x o : Pair) (back : List Pair) → IsReadyImage t
+pub replaced_drops : (t m : KeptThread) (from to : Path) (d : ℕ × ℕ) (chain front : List Pair) (x o : Pair) (back : List Pair) → IsRecoveredWritableImage t
     → IsWritableChange t.disk t.pairs m.disk m.pairs (tree_renaming from to) (renamed_addresses from to) → HasNoMove (pairs_gstate m.pairs) → m.pairs ≡ chain ++ (front ++ x ∷ o ∷ back) → IsChain chain (front ++ x ∷ o ∷ back)
     → IsReplaced (address_at_path (all_entries t.pairs) (root_address t.pairs)) from to d → ((Q : ℕ × ℕ → Type 0) → All (λ z. Q z.at) (all_directories t.pairs) → All (λ z. Q z.at) (all_directories m.pairs))
     → same_pair o.at d ≡ true → is_hard_tail o.content.tail ≡ false → (new : Disk) (y : Pair) → IsGone m.disk new chain front x o y back

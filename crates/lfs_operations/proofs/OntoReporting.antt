@@ -1,5 +1,5 @@
 -- The errors of the steps of a rename over a directory, the blocks that they write, and what a power loss in them leaves.
-use Rattle.lfs_operations.proofs.Common.{ℕ, ◌≡◌, ◌<◌, inl, false, List, Result, Ok, sym, ap, subst, ◌∙◌, fault_count, ContentChange, ThreadView, Error, has_failed_after, ReportsTakingCommits, ReportsCommit, ReportsReadCommit, ReportsReadCommits, ⊎_elim}
+use Rattle.lfs_operations.proofs.Common.{ℕ, ◌≡◌, ◌<◌, inl, false, List, Result, Ok, sym, ap, subst, ◌∙◌, fault_count, ContentChange, ThreadView, Error, has_failed_after, ReportsAllocatingCommits, ReportsCommit, ReportsReadCommit, ReportsReadCommits, ⊎_elim}
 
 pub over_from : {X : Type 0} (old new : ThreadView) (result : Result X Error) → ReportsReadCommit old new result → ReportsReadCommits old new result
 over_from old new result h = record { failed = h.failed; errors = h.reported.errors; fault = h.reported.fault; no_fault = h.reported.no_fault }
@@ -16,5 +16,5 @@ over_then old mid new a first second ok one two =
 
 -- ---- across pairs
 
-pub works_after : {X : Type 0} {old new : ThreadView} {index : ℕ} {changes : List ContentChange} {r : Result X Error} {x : X} → ReportsTakingCommits old new index changes r → r ≡ Ok x → new.failed ≡ false
+pub works_after : {X : Type 0} {old new : ThreadView} {index : ℕ} {changes : List ContentChange} {r : Result X Error} {x : X} → ReportsAllocatingCommits old new index changes r → r ≡ Ok x → new.failed ≡ false
 works_after h is = ⊎_elim (λ e. e ∙ ap has_failed_after is) (λ e. e.0) h.failed

@@ -1,5 +1,5 @@
 -- A rename over an empty directory within a pair: the index of the directory's pair, and the result of the two steps.
-use Rattle.lfs_operations.proofs.Common.{ℕ, ◌≡◌, ◌-◌, slice_get, [], ◌∷◌, ◌++◌, length, Some, None, refl, sym, ap, subst, ◌∙◌, arith, append-nil, length-append, recursion_from_All, tree_renaming, without_prefix, AreUsed, Blocks, Name, HasEitherTree as IsLeftOf, with_blocks, slot_of, pair_with_slots, Slot, gstate_xor, zero_gstate, Pair, pairs_gstate, root_address, count_before_root, Path, address_at_path, IsAccepted, IsWritable, all_unmoved_slots, all_directories, all_entries, disk_tree, used_blocks, SameSlots, fits_same, IsChangedImage, SameFiles, SameFileBlocks, CompletesOperation, no_move_from, number_occurrences, IsStep, entry_only, get_here, place_at, shown_before, shown_behind, site_shows, last_is, renamed_addresses, sibling_apart, IsReplaced, step_chain, slot_of_stands, Site, dirs_at, thread_at, file_blocks, IsWritableChange, IsChain, KeptThread, IsPairCommitted, thread_pair, sync_bit_delta, HasNoMove, some_filled, All, step_each, IsPairDropped, LeftByDrop, SameInFlight, CanEditIn, tree_renamed, CanRenameOver, CanReplaceDirectory, IsRenamedOver, replace_directory_changes, HasName}
+use Rattle.lfs_operations.proofs.Common.{ℕ, ◌≡◌, ◌-◌, slice_get, [], ◌∷◌, ◌++◌, length, Some, None, refl, sym, ap, subst, ◌∙◌, arith, append-nil, length-append, recursion_from_All, tree_renaming, without_prefix, AreUsed, Blocks, Name, HasEitherTree as IsLeftOf, with_blocks, slot_of_path, pair_with_slots, Slot, gstate_xor, zero_gstate, Pair, pairs_gstate, root_address, count_before_root, Path, address_at_path, IsAccepted, IsWritable, all_unmoved_slots, all_directories, all_entries, disk_tree, used_blocks, SameSlots, fits_same, IsChangedImage, SameFiles, SameFileBlocks, CompletesOperation, no_move_from, occurrence_count, IsStep, entry_only, get_here, place_at, shown_before, shown_behind, site_shows, last_is, renamed_addresses, sibling_apart, IsReplaced, step_chain, slot_of_stands, Site, dirs_at, thread_at, file_blocks, IsWritableChange, IsChain, KeptThread, IsPairCommitted, thread_pair, sync_bit_delta, HasNoMove, some_filled, All, step_each, IsPairDropped, LeftByDrop, HasSameBlocksInFlight, CanEditIn, tree_with_entry_renamed, CanRenameOverDirectory, CanReplaceDirectory, IsRenamedOverDirectory, replace_directory_changes, HasName}
 use Rattle.lfs_model.specs.session.Operations as ops
 use Rattle.lfs_model.proofs.RenamedWithinOnto.{IsRenameWithinOnto, within_onto_completed}
 use Rattle.lfs_operations.proofs.OntoGone.{replaced_by, replaced_drops}
@@ -17,7 +17,7 @@ use Rattle.lfs_operations.proofs.RenameMade.{site_of, stand_of}
 
 -- ---- the two steps
 
-module _ (t : KeptThread) (index id place : ℕ) (name : Name) (gone : ℕ) (rename : CanRenameOver t index id place name gone) (m : KeptThread) (r : IsPairCommitted t index (replace_directory_changes t index id place name) m) where
+module _ (t : KeptThread) (index id place : ℕ) (name : Name) (gone : ℕ) (rename : CanRenameOverDirectory t index id place name gone) (m : KeptThread) (r : IsPairCommitted t index (replace_directory_changes t index id place name) m) where
   abbrev over : CanReplaceDirectory t index id place name
   over = rename.over
 
@@ -87,7 +87,7 @@ module _ (t : KeptThread) (index id place : ℕ) (name : Name) (gone : ℕ) (ren
   placed : HasPlaceOver w p q o over.to (length front.front)
   placed = place_over w p q o over.to rename.at stand.accepted.thread.distinct refl front.front front.before (front.run ++ front.after) own.dirs_are front.soft not_itself
 
-  used_now : (b : ℕ) → number_occurrences b (used_blocks m.disk m.pairs) ≡ number_occurrences b (used_blocks t.disk t.pairs)
+  used_now : (b : ℕ) → occurrence_count b (used_blocks m.disk m.pairs) ≡ occurrence_count b (used_blocks t.disk t.pairs)
   used_now b =
       let files : SameFiles t.disk m.disk (all_unmoved_slots t.pairs) = subst (λ z. SameFiles t.disk m.disk (all_unmoved_slots z)) (sym stand.there)
       (recursion_from_All (λ (x : Slot). SameFileBlocks t.disk m.disk x.struct) (all_unmoved_slots (thread_at w (p ∷ []))) stepped.device.files) in
@@ -99,9 +99,9 @@ module _ (t : KeptThread) (index id place : ℕ) (name : Name) (gone : ℕ) (ren
         was = h.placed.was;
         is = stepped.is;
       }) (λ b. let n = blocks_now t index (replace_directory_changes t index id place name) w p h.l h.olds h.news h.r (onto.slot ∷ []) can.stands.stands.slot (with_name can.stands.stands.slot name) h.placed m.disk stepped.device.geometry files b in omega arith) b in
-      let f = ap (λ z. number_occurrences b (used_blocks m.disk z)) x.pairs in
-      let g = ap (λ z. number_occurrences b (used_blocks t.disk z)) stand.there in
-      let none : number_occurrences b (file_blocks t.disk (onto.slot ∷ [])) ≡ 0 = ap (λ z. number_occurrences b (file_blocks t.disk (record onto.slot { struct = z } ∷ []))) over.branch in
+      let f = ap (λ z. occurrence_count b (used_blocks m.disk z)) x.pairs in
+      let g = ap (λ z. occurrence_count b (used_blocks t.disk z)) stand.there in
+      let none : occurrence_count b (file_blocks t.disk (onto.slot ∷ [])) ≡ 0 = ap (λ z. occurrence_count b (file_blocks t.disk (record onto.slot { struct = z } ∷ []))) over.branch in
       omega arith
 
   thread_now : m.pairs ≡ w.chain ++ (placed.front ++ placed.x ∷ o ∷ placed.back)
@@ -137,7 +137,7 @@ module _ (t : KeptThread) (index id place : ℕ) (name : Name) (gone : ℕ) (ren
     empty = rename.empty;
     used = subst (λ s. AreUsed s (used_blocks m.disk m.pairs)) (sym r.map) (used_same t.map (used_blocks t.disk t.pairs) (used_blocks m.disk m.pairs) used_now can.ready.used);
     size = ap length r.map ∙ can.ready.size ∙ sym r.written.shape.count;
-    flying = subst (SameInFlight t.map) (sym r.map) (λ b. ((λ k. k), (λ k. k)));
+    flying = subst (HasSameBlocksInFlight t.map) (sym r.map) (λ b. ((λ k. k), (λ k. k)));
     root = ap count_before_root x.pairs ∙ step_chain t.disk m.disk w p [] q [] [] [] h.l h.olds h.news h.r stepped ∙ sym (ap count_before_root stand.there ∙ stand.site.chain);
     shape = r.written.shape;
   }
@@ -171,15 +171,15 @@ module _ (t : KeptThread) (index id place : ℕ) (name : Name) (gone : ℕ) (ren
       begins = placed.begins;
       apart = placed.apart;
       alike = subst (λ z. SameSlots (w.chain ++ z) new.pairs) (sym placed.are) (alike_end replacing new g);
-      from_slot = subst (λ z. slot_of z from ≡ Some can.stands.stands.slot) (stand.there ∙ placed.were)
+      from_slot = subst (λ z. slot_of_path z from ≡ Some can.stands.stands.slot) (stand.there ∙ placed.were)
           (slot_of_stands t.disk t.pairs can.path can.at can.ready.accepted can.leads can.first index id can.name (no_move_from t.pairs can.ready.settled) can.stands can.begins);
-      to_slot = subst (λ z. slot_of z to ≡ Some onto.slot) (stand.there ∙ placed.were)
+      to_slot = subst (λ z. slot_of_path z to ≡ Some onto.slot) (stand.there ∙ placed.were)
           (slot_of_stands t.disk t.pairs can.path can.at can.ready.accepted can.leads can.first index place name (no_move_from t.pairs can.ready.settled) over.target can.begins);
       to_name = last_is can.path name;
       not_beneath = apart;
     }
 
-    pub renamed_onto_directory : IsRenamedOver t new rename.over.can.path rename.over.can.name name
+    pub renamed_onto_directory : IsRenamedOverDirectory t new rename.over.can.path rename.over.can.name name
     renamed_onto_directory = record {
       now = shows_dropped replacing new g;
       completed = λ s given to_given tree given_is to_is. subst (λ z. CompletesOperation t.disk z s (ops.Rename given to_given) new.disk new.pairs) (sym (stand.there ∙ placed.were))
@@ -187,5 +187,5 @@ module _ (t : KeptThread) (index id place : ℕ) (name : Name) (gone : ℕ) (ren
           (tree ∙ ap (disk_tree t.disk) (stand.there ∙ placed.were)) given_is to_is);
     }
 
-  pub left_within : (left : Blocks) → LeftByDrop m (gone - 1) zero_gstate left → IsLeftOf (with_blocks left t.disk) (disk_tree t.disk t.pairs) (tree_renamed t rename.over.can.path rename.over.can.name name)
+  pub left_within : (left : Blocks) → LeftByDrop m (gone - 1) zero_gstate left → IsLeftOf (with_blocks left t.disk) (disk_tree t.disk t.pairs) (tree_with_entry_renamed t rename.over.can.path rename.over.can.name name)
   left_within left g = left_last replacing left g

@@ -1,5 +1,5 @@
 -- A pair that is changed, or split into two free blocks.
-use Rattle.lfs_operations.proofs.Common.{ℕ, ◌≡◌, ◌≢◌, ◌∙◌, ◌≤◌, ◌⊎◌, Option, None, Some, inl, inr, List, [], ◌∷◌, ◌++◌, pairs_blocks, Result, Ok, Err, arith, refl, sym, set, Blocks, BlockStates, Free, InFlight, ContentChange, Disk, PairContent, CallEvent, OnlyReadsSince, fault_count, slice_get-set_same, slice_get-set_other, HoldsAtLosses-weaker, HoldsAtLosses-trans, StayUnprogrammed-refl, StayUnprogrammed-trans, AllCallsSince-until, AllCallsSince-behind, OnlyReadsSince-trans, StayUnprogrammed-read_count, HoldsAtLosses-read_count, LossLeavesAtWorst-read, CleanLossLeaves, KeptThread, thread_pair, SplitOnDisk, PartsFit, CanSplitAt, LossLeavesPair, HasOldPair, LossLeavesThreadSplit, OnlyReadsThread, HasSplit, ChangesThreadBlocks, addresses_blocks, SameExceptBlocks-trans, SameExceptBlocks-wider, StayUnprogrammed-wider, All, Error, FreshInFlight, AreTwoFree, CanPut, IsPairSplit, IsSplitInto, LeftByPut, OverfillsPair, LeftBySplit, ReportsSpaceErrors, WritesPairTwo, WritesThreadTwo, map_taking_two, Tree, HasEitherTree, with_blocks, SurvivesLossSince, survives_then, All-from_recursion, recursion_from_All, each_counted, each_from_counted, number_occurrences}
+use Rattle.lfs_operations.proofs.Common.{ℕ, ◌≡◌, ◌≢◌, ◌∙◌, ◌≤◌, ◌⊎◌, Option, None, Some, inl, inr, List, [], ◌∷◌, ◌++◌, pairs_blocks, Result, Ok, Err, arith, refl, sym, set, Blocks, BlockStates, Free, InFlight, ContentChange, Disk, PairContent, CallEvent, OnlyReadsSince, fault_count, slice_get-set_same, slice_get-set_other, HoldsAtLosses-weaker, HoldsAtLosses-trans, OthersStayUnprogrammed-refl, OthersStayUnprogrammed-trans, AllCallsSince-until, AllCallsSince-behind, OnlyReadsSince-trans, OthersStayUnprogrammed-read_count, HoldsAtLosses-read_count, LossLeavesAtWorst-read, CleanLossLeaves, KeptThread, thread_pair, SplitOnDisk, PartsFit, CanSplitAt, LossLeavesPair, HasOldPair, LossLeavesThreadSplit, OnlyReadsThread, HasSplit, ChangesThreadBlocks, addresses_blocks, SameExceptBlocks-trans, SameExceptBlocks-wider, OthersStayUnprogrammed-wider, All, Error, FreshInFlight, AreTwoFreeBlocks, CanCommitOrSplit, IsPairSplit, IsSplitInto, LeftByCommitOrSplit, OverfillsPair, LeftBySplit, ReportsSpaceErrors, WritesPairAndTwoFree, WritesThreadAndTwoFree, map_allocating_two, Tree, HasEitherTree, with_blocks, SurvivesLossSince, survives_then, All-from_recursion, recursion_from_All, each_counted, each_from_counted, occurrence_count}
 use Rattle.lfs_model.proofs.Histories.{began}
 use Rattle.lfs_thread.specs.CachedLog.{reads_unless_cached}
 use Rattle.lfs_operations.proofs.Taking.{within}
@@ -9,19 +9,19 @@ use Rattle.lfs_operations.proofs.Taking.{within}
 pub writes_wider : {bs : List ℕ} (cs : List ℕ) {old new : KeptThread} → ((b : ℕ) → All (λ c. c ≢ b) cs → All (λ c. c ≢ b) bs) → ChangesThreadBlocks bs old new → ChangesThreadBlocks cs old new
 writes_wider cs f h = record {
   others = SameExceptBlocks-wider cs f h.others;
-  elsewhere = StayUnprogrammed-wider cs f h.elsewhere;
+  elsewhere = OthersStayUnprogrammed-wider cs f h.elsewhere;
   shape = h.shape;
   at_worst = HoldsAtLosses-weaker (λ blocks k. SameExceptBlocks-wider cs f k) h.at_worst;
 }
 
 -- where each of these blocks is one of those
-pub writes_among : {bs cs : List ℕ} {old new : KeptThread} → ((b : ℕ) → 1 ≤ number_occurrences b bs → 1 ≤ number_occurrences b cs) → ChangesThreadBlocks bs old new → ChangesThreadBlocks cs old new
+pub writes_among : {bs cs : List ℕ} {old new : KeptThread} → ((b : ℕ) → 1 ≤ occurrence_count b bs → 1 ≤ occurrence_count b cs) → ChangesThreadBlocks bs old new → ChangesThreadBlocks cs old new
 writes_among {bs = bs} {cs = cs} of = writes_wider cs (λ k h. All-from_recursion (λ c. c ≢ k) bs (each_from_counted (λ c. c ≢ k) bs (λ b some. each_counted (λ c. c ≢ k) cs (recursion_from_All (λ c. c ≢ k) cs h) b (of b some))))
 
 pub writes_trans : {bs : List ℕ} {old mid new : KeptThread} → ChangesThreadBlocks bs old mid → ChangesThreadBlocks bs mid new → ChangesThreadBlocks bs old new
 writes_trans first second = record {
   others = SameExceptBlocks-trans first.others second.others;
-  elsewhere = StayUnprogrammed-trans first.elsewhere second.elsewhere;
+  elsewhere = OthersStayUnprogrammed-trans first.elsewhere second.elsewhere;
   shape = record {
     block_size = second.shape.block_size ∙ first.shape.block_size;
     page = second.shape.page ∙ first.shape.page;
@@ -62,7 +62,7 @@ module _ {t : KeptThread} {sets : BlockStates} {h : List CallEvent} {index : ℕ
 abbrev pub with_map : KeptThread → BlockStates → KeptThread
 with_map t sets = record t { map = sets }
 
-pub held : (sets : BlockStates) (fresh : ℕ × ℕ) → AreTwoFree sets fresh → FreshInFlight (map_taking_two sets fresh) fresh
+pub held : (sets : BlockStates) (fresh : ℕ × ℕ) → AreTwoFreeBlocks sets fresh → FreshInFlight (map_allocating_two sets fresh) fresh
 held sets fresh two = record {
   apart = two.apart;
   first = slice_get-set_other first_taken fresh.1 fresh.0 InFlight two.apart ∙ slice_get-set_same sets fresh.0 InFlight (within sets fresh.0 Free two.first);
@@ -73,7 +73,7 @@ held sets fresh two = record {
     first_taken : BlockStates
     first_taken = set sets fresh.0 InFlight
 
-pub can_split : (t : KeptThread) (index : ℕ) (fresh : ℕ × ℕ) (changes : List ContentChange) → CanPut t index changes → AreTwoFree t.map fresh → CanSplitAt (with_map t (map_taking_two t.map fresh)) index fresh changes
+pub can_split : (t : KeptThread) (index : ℕ) (fresh : ℕ × ℕ) (changes : List ContentChange) → CanCommitOrSplit t index changes → AreTwoFreeBlocks t.map fresh → CanSplitAt (with_map t (map_allocating_two t.map fresh)) index fresh changes
 can_split t index fresh changes can two = record {
   can = record { below = can.can.below; content = can.can.content; made = can.can.made; next = can.can.next };
   held = held t.map fresh two;
@@ -84,9 +84,9 @@ can_split t index fresh changes can two = record {
 
 -- ---- the result
 
-module _ (t : KeptThread) (index : ℕ) (fresh : ℕ × ℕ) (changes : List ContentChange) (two : AreTwoFree t.map fresh) where
+module _ (t : KeptThread) (index : ℕ) (fresh : ℕ × ℕ) (changes : List ContentChange) (two : AreTwoFreeBlocks t.map fresh) where
   abbrev mid : KeptThread
-  mid = with_map t (map_taking_two t.map fresh)
+  mid = with_map t (map_allocating_two t.map fresh)
 
   pub cut_in : (new : KeptThread) → HasSplit mid index fresh changes new → ChangesThreadBlocks (addresses_blocks (thread_pair t index).at fresh) mid new → IsSplitInto t index fresh changes new
   cut_in new is writes = record {
@@ -106,7 +106,7 @@ module _ (t : KeptThread) (index : ℕ) (fresh : ℕ × ℕ) (changes : List Con
   pub stops_by_cut : (new : List CallEvent) → CleanLossLeaves t.history new (LossLeavesThreadSplit mid index fresh changes) → CleanLossLeaves t.history new (LeftBySplit t index changes)
   stops_by_cut new stops clean = HoldsAtLosses-weaker (λ left l. (fresh, (two, cut_same l))) (stops clean)
 
-  pub writes_in : (new : KeptThread) → ChangesThreadBlocks (addresses_blocks (thread_pair t index).at fresh) mid new → WritesPairTwo t index new
+  pub writes_in : (new : KeptThread) → ChangesThreadBlocks (addresses_blocks (thread_pair t index).at fresh) mid new → WritesPairAndTwoFree t index new
   writes_in new w = record {
     fresh = fresh.0 ∷ fresh.1 ∷ [];
     few = omega arith;
@@ -127,15 +127,15 @@ not_both r a e h k = absurd (cc)
 none_change : (bs : List ℕ) (t : KeptThread) → ChangesThreadBlocks bs t t
 none_change bs t = record {
   others = record { count = refl; sizes = λ b. refl; others = λ b apart. refl };
-  elsewhere = StayUnprogrammed-refl bs t.history;
+  elsewhere = OthersStayUnprogrammed-refl bs t.history;
   shape = record { block_size = refl; page = refl; order = refl; profile = refl; count = refl };
   at_worst = began;
 }
 
-pub writes_none : (t : KeptThread) (index : ℕ) → WritesPairTwo t index t
+pub writes_none : (t : KeptThread) (index : ℕ) → WritesPairAndTwoFree t index t
 writes_none t index = record { fresh = []; few = omega arith; free = tt; writes = none_change ((thread_pair t index).at.0 ∷ (thread_pair t index).at.1 ∷ []) t }
 
-pub thread_stays : (t : KeptThread) → WritesThreadTwo t t
+pub thread_stays : (t : KeptThread) → WritesThreadAndTwoFree t t
 thread_stays t = record { fresh = []; few = omega arith; free = tt; writes = none_change (pairs_blocks t.pairs ++ []) t }
 
 -- ---- after reads
@@ -154,7 +154,7 @@ module _ (t : KeptThread) (h : List CallEvent) (reads : OnlyReadsSince t.disk.bl
   writes_behind : (bs : List ℕ) (new : KeptThread) → ChangesThreadBlocks bs later new → ChangesThreadBlocks bs t new
   writes_behind bs new w = record {
     others = w.others;
-    elsewhere = StayUnprogrammed-trans (StayUnprogrammed-read_count bs reads) w.elsewhere;
+    elsewhere = OthersStayUnprogrammed-trans (OthersStayUnprogrammed-read_count bs reads) w.elsewhere;
     shape = w.shape;
     at_worst = HoldsAtLosses-trans (HoldsAtLosses-read_count LossLeavesAtWorst-read reads (record { count = refl; sizes = λ b. refl; others = λ b apart. refl })) w.at_worst;
   }
@@ -190,7 +190,7 @@ module _ (t : KeptThread) (h : List CallEvent) (reads : OnlyReadsSince t.disk.bl
     no_space = reported.no_space;
   }
 
-  pub writes_later : (new : KeptThread) → WritesPairTwo later index new → WritesPairTwo t index new
+  pub writes_later : (new : KeptThread) → WritesPairAndTwoFree later index new → WritesPairAndTwoFree t index new
   writes_later new w = record {
     fresh = w.fresh;
     few = w.few;
@@ -198,8 +198,8 @@ module _ (t : KeptThread) (h : List CallEvent) (reads : OnlyReadsSince t.disk.bl
     writes = writes_behind ((thread_pair t index).at.0 ∷ (thread_pair t index).at.1 ∷ w.fresh) new w.writes;
   }
 
-  pub stops_later : (new : KeptThread) → OverfillsPair t index changes → WritesPairTwo later index new → CleanLossLeaves t.history h (LossLeavesPair t index changes) → CleanLossLeaves h new.history (LeftBySplit later index changes)
-      → CleanLossLeaves t.history new.history (LeftByPut t index changes)
+  pub stops_later : (new : KeptThread) → OverfillsPair t index changes → WritesPairAndTwoFree later index new → CleanLossLeaves t.history h (LossLeavesPair t index changes) → CleanLossLeaves h new.history (LeftBySplit later index changes)
+      → CleanLossLeaves t.history new.history (LeftByCommitOrSplit t index changes)
   stops_later new large w first second clean =
       HoldsAtLosses-trans (HoldsAtLosses-weaker (λ left l. inl l) (first (AllCallsSince-until clean reads w.writes.at_worst)))
       (HoldsAtLosses-weaker (λ left l. inr (large, left_later left l)) (second (AllCallsSince-behind clean reads w.writes.at_worst)))

@@ -1,5 +1,5 @@
 -- The content of a pair after a commit that sets the global state.
-use Rattle.lfs_operations.proofs.Common.{ℕ, ◌≡◌, ◌<◌, List, [], ◌∷◌, Some, refl, sym, ap, subst, ◌∙◌, arith, get_or, length, zero, suc, same_Some, recursion_from_All, PutMove, content_with_changes, RawContent, complete_content, content_at, raw_content, MoveStateFits, FitsInPair, Gstate, gstate_xor, Pair, pairs_gstate, completed_from, completed_parts, Each, each_weaker, does_first, does_nothing, puts_move, KeptThread, CanChangePair, RefusesChanges, complete_after, empty_anchor, thread_pair, option_and_then, CanSetGstate, gstate_changes, delta_reaching_gstate, content_reaching_gstate, AreByteBlocks}
+use Rattle.lfs_operations.proofs.Common.{ℕ, ◌≡◌, ◌<◌, List, [], ◌∷◌, Some, refl, sym, ap, subst, ◌∙◌, arith, get_or, length, zero, suc, same_Some, recursion_from_All, PutMove, content_with_changes, RawContent, decoded_content, content_at, raw_content, MoveStateFits, FitsInPair, Gstate, gstate_xor, Pair, pairs_gstate, completed_from, completed_parts, Each, each_weaker, does_first, does_nothing, puts_move, KeptThread, CanChangePair, RefusesChanges, complete_after, empty_anchor, thread_pair, option_and_then, CanSetGstate, gstate_changes, delta_reaching_gstate, content_reaching_gstate, AreByteBlocks}
 use Rattle.lfs_operations.proofs.Held.{completes_to}
 use Rattle.lfs_operations.proofs.DroppedTails.{all_again, move_xor, moves_joined, IsWritableAgain}
 
@@ -29,8 +29,8 @@ module _ (t : KeptThread) (index : ℕ) (g : Gstate) (can : CanSetGstate t index
       let k = completes_to (raw_content t.disk p.at) p.content (each_at (λ p. content_at t.disk p.at ≡ Some p.content) t.pairs index can.below all_hold) in
       let parts = completed_parts k.raw p.content k.complete in
       let now = record k.raw { move = delta_reaching_gstate t index g } in
-      ap (λ o. option_and_then complete_content (option_and_then (λ (x : RawContent). content_with_changes x (gstate_changes t index g)) o)) k.is
-      ∙ ap (λ o. option_and_then complete_content o) (does_first (PutMove (delta_reaching_gstate t index g)) [] k.raw now now
+      ap (λ o. option_and_then decoded_content (option_and_then (λ (x : RawContent). content_with_changes x (gstate_changes t index g)) o)) k.is
+      ∙ ap (λ o. option_and_then decoded_content o) (does_first (PutMove (delta_reaching_gstate t index g)) [] k.raw now now
       (puts_move k.raw (delta_reaching_gstate t index g) delta_fits) (does_nothing now))
       ∙ completed_from now p.content.slots parts.slots
       ∙ ap (λ tail. Some (record { slots = p.content.slots; tail = tail; move = delta_reaching_gstate t index g })) (sym parts.tail)

@@ -1,5 +1,5 @@
 -- A recovery ends a pending move: the pair of the step, and its result.
-use Rattle.lfs_operations.proofs.Common.{ℕ, ◌≡◌, ◌≢◌, ◌≤◌, ◌<◌, ◌+◌, ◌-◌, ◌⊎◌, inl, inr, ◌&&◌, ◌==◌, Bool, true, false, List, [], ◌∷◌, ◌++◌, length, take, refl, sym, ap, ap₂, subst, ◌∙◌, arith, append_assoc, length-append, eqb-true, eq-eqb, nat_lt, and_parts, cases_lt, lt-ltb, recursion_from_All, used_blocks, Pair, pairs_gstate, is_hard_tail, count_before_root, BeginsWithSuperblock, once_from_distinct, HasNoMove, HasSite, site_of_number, pair_back, ends_joined, KeptThread, thread_pair, tail_is_hard, CanEndMove, HasEndedMove, HasMovedSlot, drops_when_emptied, CanEndMoveAt, HasEndedMoveAt, continues_directory, ending_written_pair, IsRawFormed}
+use Rattle.lfs_operations.proofs.Common.{ℕ, ◌≡◌, ◌≢◌, ◌≤◌, ◌<◌, ◌+◌, ◌-◌, ◌⊎◌, inl, inr, ◌&&◌, ◌==◌, Bool, true, false, List, [], ◌∷◌, ◌++◌, length, take, refl, sym, ap, ap₂, subst, ◌∙◌, arith, append_assoc, length-append, eqb-true, eq-eqb, nat_lt, and_parts, cases_lt, lt-ltb, recursion_from_All, used_blocks, Pair, pairs_gstate, is_hard_tail, count_before_root, BeginsWithSuperblock, once_from_distinct, HasNoMove, HasSite, site_of_number, pair_back, last_tail_is_hard, KeptThread, thread_pair, tail_is_hard, CanEndMove, HasEndedMove, HasMovedSlot, drops_pair_after_move, CanEndMoveAt, HasEndedMoveAt, continues_directory, move_ending_written_pair, IsLogContentDecodable}
 use Rattle.lfs_operations.proofs.Dropped.{HasMapWithout, map_ended}
 use Rattle.lfs_operations.proofs.DroppedTails.{front_is}
 use Rattle.lfs_operations.proofs.MovEnding.{led_is}
@@ -7,7 +7,7 @@ use Rattle.lfs_operations.proofs.RecoverMoved.{heads, in_directory}
 use Rattle.lfs_operations.proofs.RemovedWhole.{only_slot}
 use Rattle.lfs_model.proofs.PairsInFront.{last_pair, flag_last}
 
-pub written_below : (t : KeptThread) (index : ℕ) (goes : Bool) → index < length t.pairs → ending_written_pair index goes < length t.pairs
+pub written_below : (t : KeptThread) (index : ℕ) (goes : Bool) → index < length t.pairs → move_ending_written_pair index goes < length t.pairs
 written_below t index true low = omega arith
 written_below t index false low = low
 
@@ -23,7 +23,7 @@ module _ (t : KeptThread) (can : CanEndMove t) (index : ℕ) (m : HasMovedSlot t
 
   -- ---- whether a hard tail names the pair
 
-  named : continues_directory t.pairs index ≡ ends_joined false front
+  named : continues_directory t.pairs index ≡ last_tail_is_hard false front
   named = ap (λ z. continues_directory z index) h.is ∙ led_is h.site h.pair index h.is_site.chain h.number
 
   before_is : (l : List Pair) (z : Pair) → front ≡ l ++ z ∷ [] → thread_pair t (index - 1) ≡ z
@@ -34,16 +34,16 @@ module _ (t : KeptThread) (can : CanEndMove t) (index : ℕ) (m : HasMovedSlot t
   front_led : front ≢ [] → continues_directory t.pairs index ≡ tail_is_hard t (index - 1)
   front_led some =
       let l = last_pair front some in
-      named ∙ ap (ends_joined false) l.is ∙ flag_last l.front l.last false ∙ ap (λ (z : Pair). is_hard_tail z.content.tail) (sym (before_is l.front l.last l.is))
+      named ∙ ap (last_tail_is_hard false) l.is ∙ flag_last l.front l.last false ∙ ap (λ (z : Pair). is_hard_tail z.content.tail) (sym (before_is l.front l.last l.is))
 
   abbrev goes : Bool
-  goes = drops_when_emptied t index
+  goes = drops_pair_after_move t index
 
-  stays : drops_when_emptied t index ≡ false → continues_directory t.pairs index ≡ true → 1 < length (thread_pair t index).content.slots
+  stays : drops_pair_after_move t index ≡ false → continues_directory t.pairs index ≡ true → 1 < length (thread_pair t index).content.slots
   stays alone led = go (cases_lt 1 (length (thread_pair t index).content.slots))
     where
       some : front ≢ []
-      some none = absurd (let z = sym (named ∙ ap (ends_joined false) none) ∙ led in cc)
+      some none = absurd (let z = sym (named ∙ ap (last_tail_is_hard false) none) ∙ led in cc)
 
       above : 0 < index
       above =
@@ -61,7 +61,7 @@ module _ (t : KeptThread) (can : CanEndMove t) (index : ℕ) (m : HasMovedSlot t
           (let a = ap length m.held in let b = length-append m.left (m.slot ∷ m.right) in omega arith) in
           absurd (let z = sym alone ∙ ap₂ (λ a b. a && (b && tail_is_hard t (index - 1))) (lt-ltb 0 index above) one ∙ sym (front_led some) ∙ led in cc)
 
-  alone : drops_when_emptied t index ≡ true → (continues_directory t.pairs index ≡ true) × (length (thread_pair t index).content.slots ≡ 1)
+  alone : drops_pair_after_move t index ≡ true → (continues_directory t.pairs index ≡ true) × (length (thread_pair t index).content.slots ≡ 1)
   alone whole = (front_led some ∙ parts.1, single)
     where
       parts : ((length (thread_pair t index).content.slots == 1) ≡ true) × (tail_is_hard t (index - 1) ≡ true)
@@ -90,7 +90,7 @@ module _ (t : KeptThread) (can : CanEndMove t) (index : ℕ) (m : HasMovedSlot t
           let n = h.number in
           absurd (omega arith)
 
-  pub can_at : IsRawFormed t.disk (thread_pair t index).at → CanEndMoveAt t index (pairs_gstate t.pairs).id (drops_when_emptied t index)
+  pub can_at : IsLogContentDecodable t.disk (thread_pair t index).at → CanEndMoveAt t index (pairs_gstate t.pairs).id (drops_pair_after_move t index)
   can_at logged = record {
     accepted = can.accepted;
     writable = can.writable;
@@ -108,7 +108,7 @@ module _ (t : KeptThread) (can : CanEndMove t) (index : ℕ) (m : HasMovedSlot t
 
   -- ---- the result
 
-  pub ended_at : (new : KeptThread) → HasEndedMoveAt t index (pairs_gstate t.pairs).id (drops_when_emptied t index) new → HasEndedMove t new
+  pub ended_at : (new : KeptThread) → HasEndedMoveAt t index (pairs_gstate t.pairs).id (drops_pair_after_move t index) new → HasEndedMove t new
   ended_at new e = record {
     taken = e.taken;
     none = subst HasNoMove (sym e.state) (record { kind = refl; id = refl; pair = refl });
@@ -121,4 +121,4 @@ module _ (t : KeptThread) (can : CanEndMove t) (index : ℕ) (m : HasMovedSlot t
   }
     where
       map_is : HasMapWithout t.map new.map (used_blocks new.disk new.pairs)
-      map_is = map_ended t index (drops_when_emptied t index) (used_blocks t.disk t.pairs) (used_blocks new.disk new.pairs) can.used (λ b. once_from_distinct (used_blocks t.disk t.pairs) can.accepted.owned_once b) e.blocks new.map e.map
+      map_is = map_ended t index (drops_pair_after_move t index) (used_blocks t.disk t.pairs) (used_blocks new.disk new.pairs) can.used (λ b. once_from_distinct (used_blocks t.disk t.pairs) can.accepted.owned_once b) e.blocks new.map e.map

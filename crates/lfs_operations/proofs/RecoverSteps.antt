@@ -1,5 +1,5 @@
 -- The steps of a recovery, on the disk that they write and on those that a power loss leaves.
-use Rattle.lfs_operations.proofs.Common.{ℕ, ◌≡◌, ◌<◌, ◌+◌, ◌-◌, ◌⊎◌, inl, inr, true, false, List, [], ◌∷◌, ◌++◌, length, Some, refl, sym, ap, subst, ◌∙◌, arith, Blocks, Disk, HasEitherTree as IsLeftOf, with_blocks, Gstate, gstate_xor, zero_gstate, same_pair, Pair, pairs_gstate, is_hard_tail, count_before_root, Path, IsAccepted, IsWritable, LeadsTo, disk_tree, SameSlots, alike_append, alike_itself, HasNoMove, gstate_assoc, gstate_cons, gstate_right, gstate_self, HasSite, site_of_number, AllReached, AllReachedBut, IsStep, step_writable, site_gstate_moved, Site, thread_at, stays_shape, IsWritableChange, within_at, IsReady, IsUnthreaded, KeptThread, LossLeavesPair, IsPairWritten, complete_after, within_same, gstate_changes, delta_reaching_gstate, content_reaching_gstate, LeftByDrop, content_after_drop, Unthreads, SameFileBlocks, all_unmoved_slots, CallEvent, CanClearSync, CleanLossLeaves, HoldsAtLosses-weaker, IsPairCommitted, IsSyncCleared, SurvivesLossSince, anchor_address, chain_may_continue, cond, has_superblock, AreLinked, Bool, ◌&&◌, All, subst₂, ContentChange}
+use Rattle.lfs_operations.proofs.Common.{ℕ, ◌≡◌, ◌<◌, ◌+◌, ◌-◌, ◌⊎◌, inl, inr, true, false, List, [], ◌∷◌, ◌++◌, length, Some, refl, sym, ap, subst, ◌∙◌, arith, Blocks, Disk, HasEitherTree as IsLeftOf, with_blocks, Gstate, gstate_xor, zero_gstate, same_pair, Pair, pairs_gstate, is_hard_tail, count_before_root, Path, IsAccepted, IsWritable, IsDirectoryAtPath, disk_tree, SameSlots, alike_append, alike_itself, HasNoMove, gstate_assoc, gstate_cons, gstate_right, gstate_self, HasSite, site_of_number, AllReached, AllReachedBut, IsStep, step_writable, site_gstate_moved, Site, thread_at, stays_shape, IsWritableChange, within_at, IsReady, IsUnthreaded, KeptThread, LossLeavesPair, IsPairWritten, complete_after, within_same, gstate_changes, delta_reaching_gstate, content_reaching_gstate, LeftByDrop, content_after_drop, Unthreads, SameFileBlocks, all_unmoved_slots, CallEvent, CanClearSync, CleanLossLeaves, HoldsAtLosses-weaker, IsPairCommitted, IsSyncCleared, SurvivesLossSince, superblock_pair_address, chain_may_continue, cond, has_superblock, AreLinkedByTails, Bool, ◌&&◌, All, subst₂, ContentChange}
 use Rattle.lfs_model.proofs.Rests.{slots_stay}
 use Rattle.lfs_model.proofs.Unthreaded.{unthread}
 use Rattle.lfs_model.proofs.Placing.{device, left_still, left_after}
@@ -15,7 +15,7 @@ use Rattle.lfs_operations.proofs.AtSite.{site_pair, site_place}
 pub record IsUnled (t : KeptThread) (g : Gstate) (before x : Pair) : Type 0 where
   pub none : HasNoMove g
   pub soft : is_hard_tail before.content.tail ≡ false
-  pub unled : (path : Path) (a : ℕ × ℕ) → LeadsTo t.pairs path a → same_pair x.at a ≡ true → ⊥
+  pub unled : (path : Path) (a : ℕ × ℕ) → IsDirectoryAtPath t.pairs path a → same_pair x.at a ≡ true → ⊥
   pub reached : g.sync ≡ false → (is_hard_tail x.content.tail ≡ false) × AllReachedBut t.pairs x.at
 
 -- the pairs in front of two, and those behind them
@@ -35,7 +35,7 @@ module _ (t : KeptThread) (chain front : List Pair) (before x : Pair) (todo : Li
     at = refl;
     slots = slots_left k;
     tail = tail_left k ∙ over_soft before.content.tail x.content.tail u.soft;
-    unled = λ path a l s. u.unled path a (subst (λ z. LeadsTo z path a) (sym k.there) l) s;
+    unled = λ path a l s. u.unled path a (subst (λ z. IsDirectoryAtPath z path a) (sym k.there) l) s;
     reached = λ off. let r = u.reached (ap (λ (z : Gstate). z.sync) (sym (state_left k)) ∙ off) in (r.0, subst (λ z. AllReachedBut z x.at) k.there r.1);
   }
 
@@ -56,7 +56,7 @@ fewer p (q ∷ ps) = go (has_superblock (q ∷ ps) && chain_may_continue p) (few
     go true l = omega arith
     go false l = omega arith
 
-some_pairs : (ps : List Pair) → AreLinked (Some anchor_address) ps → count_before_root ps < length ps
+some_pairs : (ps : List Pair) → AreLinkedByTails (Some superblock_pair_address) ps → count_before_root ps < length ps
 some_pairs [] h = absurd (cc)
 some_pairs (p ∷ ps) h = fewer p ps
 

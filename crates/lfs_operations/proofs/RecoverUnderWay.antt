@@ -1,5 +1,5 @@
 -- How far a recovery is, from its beginning to its end.
-use Rattle.lfs_operations.proofs.Common.{ℕ, suc, ◌≡◌, ◌≢◌, ◌+◌, ◌-◌, ◌<◌, ◌≤◌, ◌⊎◌, inl, inr, true, false, cond, nat_eq, eq-eqb, List, [], ◌∷◌, ◌++◌, length, take, drop, Option, Some, None, refl, sym, ap, ap₂, subst, ◌∙◌, arith, append_assoc, length-append, slice_get, ne_eqb, Blocks, Disk, directory_address, continued_address, AllCallsSince, HasEitherTree as IsLeftOf, SurvivesLossSince, with_blocks, Gstate, zero_gstate, same_pair, Pair, pairs_blocks, pairs_from_root, first_address, pairs_gstate, count_before_root, address_blocks, IsAccepted, IsReachedBySome, disk_tree, used_blocks, IsWritable, survives_then, number_occurrences, count_append, once_from_distinct, HasDirectory, chain_of_thread, led_directory, HasNoMove, HoldsAtLosses-weaker, joined_singles, onward_all, Ends, pair_back, pair_itself, pair_on, same_number, file_blocks, all_slots, IsReady, IsUnthreaded, same_parts, CleanLossLeaves, KeptThread, SameGeometryAs, ChangesThreadBlocks, empty_anchor, thread_pair, is_some, slice_index_or, recovery_begins, AreUnreachedNumbers, AreUnreachedFrom, CanDropPairs, numbered_list_blocks, gstate_while_dropping, SameInFlight, CanDropAt, LeftByDrop, IsPairDropped, content_after_drop}
+use Rattle.lfs_operations.proofs.Common.{ℕ, suc, ◌≡◌, ◌≢◌, ◌+◌, ◌-◌, ◌<◌, ◌≤◌, ◌⊎◌, inl, inr, true, false, cond, nat_eq, eq-eqb, List, [], ◌∷◌, ◌++◌, length, take, drop, Option, Some, None, refl, sym, ap, ap₂, subst, ◌∙◌, arith, append_assoc, length-append, slice_get, ne_eqb, Blocks, Disk, directory_address, continued_directory_address, AllCallsSince, HasEitherTree as IsLeftOf, SurvivesLossSince, with_blocks, Gstate, zero_gstate, same_pair, Pair, pairs_blocks, pairs_from_root, first_address, pairs_gstate, count_before_root, address_blocks, IsAccepted, IsReachedDirectory, disk_tree, used_blocks, IsWritable, survives_then, occurrence_count, count_append, once_from_distinct, HasDirectory, chain_of_thread, led_directory, HasNoMove, HoldsAtLosses-weaker, joined_singles, onward_all, Ends, pair_back, pair_itself, pair_on, same_number, file_blocks, all_slots, IsReady, IsUnthreaded, same_parts, CleanLossLeaves, KeptThread, SameGeometryAs, ChangesThreadBlocks, empty_anchor, thread_pair, is_some, slice_index_or, recovery_begins, AreUnreachedNumbers, AreUnreachedFrom, CanDropPairs, list_blocks_of_pairs, gstate_while_dropping, HasSameBlocksInFlight, CanDropAt, LeftByDrop, IsPairDropped, content_after_drop}
 use Rattle.lfs_model.proofs.Histories.{AllCallsSince-weaker, goes_on_by}
 use Rattle.lfs_operations.proofs.RecoverLists.{lists_kept, lists_more, numbered}
 use Rattle.lfs_model.proofs.RecoveryWay.{FirstsOnly, IsAtDrop, IsAtEnd, IsOnWay, all_but, drops, goes_to, ready, soft, stands, sync_set, unled}
@@ -46,7 +46,7 @@ survives_behind old now new h k shows before after = survives_then old.disk old.
 
 ends_on : (from : Option (ℕ × ℕ)) (p : Pair) (ps : List Pair) → Ends (p ∷ ps) → onward_all from (p ∷ ps) ≡ None
 ends_on from p [] h = ap (λ b. cond b (Some (directory_address from p)) None) h
-ends_on from p (q ∷ ps) h = ends_on (continued_address from p) q ps h
+ends_on from p (q ∷ ps) h = ends_on (continued_directory_address from p) q ps h
 
 ends_none : (before : List Pair) → Ends before → onward_all None before ≡ None
 ends_none [] h = refl
@@ -60,7 +60,7 @@ module _ (disk : Disk) (ps : List Pair) (ok : IsAccepted disk ps) where
   whole = (chain_of_thread ps).0
 
   -- no path leads to a pair that a hard tail leads to
-  not_led : (xs : List Pair) (y : Pair) (ys : List Pair) → pairs_from_root ps ≡ xs ++ y ∷ ys → is_some (onward_all None xs) ≡ true → IsReachedBySome ps y.at → ⊥
+  not_led : (xs : List Pair) (y : Pair) (ys : List Pair) → pairs_from_root ps ≡ xs ++ y ∷ ys → is_some (onward_all None xs) ≡ true → IsReachedDirectory ps y.at → ⊥
   not_led xs y ys parts hard (path, a, (l, s)) =
       let d : HasDirectory (pairs_from_root ps) a = led_directory disk ps path a ok l in
       let one : ps ≡ (chain ++ d.before) ++ d.first ∷ (d.run ++ d.after) = whole ∙ ap (λ z. chain ++ z) d.is ∙ sym (append_assoc chain d.before (d.first ∷ (d.run ++ d.after))) in
@@ -71,18 +71,18 @@ module _ (disk : Disk) (ps : List Pair) (ok : IsAccepted disk ps) where
       let same = same_parts d.before d.first (d.run ++ d.after) xs y ys (let e = length-append chain d.before in let f = length-append chain xs in omega arith) (sym d.is ∙ parts) in
       absurd (let none = ap (onward_all None) (sym same.front) ∙ ends_none d.before d.ends in let z = sym hard ∙ ap is_some none in cc)
 
-  firsts_from : (xs ys : List Pair) → pairs_from_root ps ≡ xs ++ ys → FirstsOnly (IsReachedBySome ps) (onward_all None xs) ys
+  firsts_from : (xs ys : List Pair) → pairs_from_root ps ≡ xs ++ ys → FirstsOnly (IsReachedDirectory ps) (onward_all None xs) ys
   firsts_from xs [] parts = tt
   firsts_from xs (y ∷ ys) parts = (
     not_led xs y ys parts,
-    subst (λ z. FirstsOnly (IsReachedBySome ps) z ys) (end_at None xs) (firsts_from (xs ++ y ∷ []) ys (parts ∙ sym (append_assoc xs (y ∷ []) ys))),
+    subst (λ z. FirstsOnly (IsReachedDirectory ps) z ys) (end_at None xs) (firsts_from (xs ++ y ∷ []) ys (parts ∙ sym (append_assoc xs (y ∷ []) ys))),
   )
     where
-      end_at : (from : Option (ℕ × ℕ)) (xs : List Pair) → onward_all from (xs ++ y ∷ []) ≡ continued_address (onward_all from xs) y
+      end_at : (from : Option (ℕ × ℕ)) (xs : List Pair) → onward_all from (xs ++ y ∷ []) ≡ continued_directory_address (onward_all from xs) y
       end_at from [] = refl
-      end_at from (x ∷ xs) = end_at (continued_address from x) xs
+      end_at from (x ∷ xs) = end_at (continued_directory_address from x) xs
 
-  root_reached : (x : Pair) (xs : List Pair) → pairs_from_root ps ≡ x ∷ xs → IsReachedBySome ps x.at
+  root_reached : (x : Pair) (xs : List Pair) → pairs_from_root ps ≡ x ∷ xs → IsReachedDirectory ps x.at
   root_reached x xs e = ([], first_address (pairs_from_root ps), (refl, subst (λ z. same_pair x.at (first_address z) ≡ true) (sym e) (pair_itself x.at)))
 
 -- ---- on the way
@@ -100,10 +100,10 @@ pub record IsUnderWay (old now : KeptThread) (dropped : ℕ) (numbers : List ℕ
   pub was : IsAccepted old.disk old.pairs
   pub took : List ℕ
   pub reported : AreUnreachedNumbers old.pairs (took ++ numbers)
-  pub gone_are : gone ≡ numbered_list_blocks old took
-  pub lost : (b : ℕ) → number_occurrences b gone + number_occurrences b (file_blocks now.disk (all_slots now.pairs)) ≡ number_occurrences b (file_blocks old.disk (all_slots old.pairs))
-  pub flying : SameInFlight old.map now.map
-  pub fewer : (b : ℕ) → number_occurrences b (pairs_blocks now.pairs) ≤ number_occurrences b (pairs_blocks old.pairs)
+  pub gone_are : gone ≡ list_blocks_of_pairs old took
+  pub lost : (b : ℕ) → occurrence_count b gone + occurrence_count b (file_blocks now.disk (all_slots now.pairs)) ≡ occurrence_count b (file_blocks old.disk (all_slots old.pairs))
+  pub flying : HasSameBlocksInFlight old.map now.map
+  pub fewer : (b : ℕ) → occurrence_count b (pairs_blocks now.pairs) ≤ occurrence_count b (pairs_blocks old.pairs)
   pub writes : ChangesThreadBlocks (pairs_blocks old.pairs) old now
   pub survives : SurvivesLossSince old.disk old.history now.history (disk_tree old.disk old.pairs) (disk_tree old.disk old.pairs)
 
@@ -114,7 +114,7 @@ begins t numbers can =
     let none = can.none in
     let reported = can.reported in
     let e = chain_of_thread t.pairs in
-    let number_occurrences : count_before_root t.pairs ≡ length (take (count_before_root t.pairs) t.pairs) + 0 + 0 = let a = ap count_before_root e.0 in let b = e.1 in omega arith in
+    let occurrence_count : count_before_root t.pairs ≡ length (take (count_before_root t.pairs) t.pairs) + 0 + 0 = let a = ap count_before_root e.0 in let b = e.1 in omega arith in
     record {
       seen = [];
       todo = pairs_from_root t.pairs;
@@ -125,7 +125,7 @@ begins t numbers can =
         there = e.0;
         counted = refl;
         no_move = none;
-        reported = subst (λ n. AreUnreachedFrom (IsReachedBySome t.pairs) n None (pairs_from_root t.pairs) numbers) number_occurrences reported;
+        reported = subst (λ n. AreUnreachedFrom (IsReachedDirectory t.pairs) n None (pairs_from_root t.pairs) numbers) occurrence_count reported;
         firsts = firsts_from t.disk t.pairs ok [] (pairs_from_root t.pairs) refl;
         filled = fits.no_empty_pair;
         begins = tt;
@@ -194,8 +194,8 @@ module _ {old now : KeptThread} {dropped number : ℕ} {rest : List ℕ} {g : Gs
   abbrev C : List Pair
   C = take (count_before_root old.pairs) old.pairs
 
-  more : AreUnreachedFrom (IsReachedBySome old.pairs) (suc (length C + length n.goes.kept + dropped)) (continued_address (onward_all None n.goes.seen) n.goes.x) n.goes.todo rest
-  more = subst (AreUnreachedFrom (IsReachedBySome old.pairs) (suc (length C + length n.goes.kept + dropped)) (continued_address (onward_all None n.goes.seen) n.goes.x) n.goes.todo) (tail n.goes.is) n.goes.more
+  more : AreUnreachedFrom (IsReachedDirectory old.pairs) (suc (length C + length n.goes.kept + dropped)) (continued_directory_address (onward_all None n.goes.seen) n.goes.x) n.goes.todo rest
+  more = subst (AreUnreachedFrom (IsReachedDirectory old.pairs) (suc (length C + length n.goes.kept + dropped)) (continued_directory_address (onward_all None n.goes.seen) n.goes.x) n.goes.todo) (tail n.goes.is) n.goes.more
     where
       tail : {a b : ℕ} {us vs : List ℕ} → a ∷ us ≡ b ∷ vs → vs ≡ us
       tail e = cc
@@ -225,7 +225,7 @@ module _ {old now : KeptThread} {dropped number : ℕ} {rest : List ℕ} {g : Gs
     soft = soft n.goes.way n.goes.unreached n.front n.before n.split;
     unled = unled n.goes.way n.goes.unreached n.front n.before n.split;
     reached = λ off. all_but n.goes.way n.goes.unreached n.front n.before n.split
-        (subst (λ z. AreUnreachedFrom (IsReachedBySome old.pairs) (suc (length C + length n.goes.kept + dropped)) (continued_address (onward_all None n.goes.seen) n.goes.x) n.goes.todo z) (cases.1 off) more);
+        (subst (λ z. AreUnreachedFrom (IsReachedDirectory old.pairs) (suc (length C + length n.goes.kept + dropped)) (continued_directory_address (onward_all None n.goes.seen) n.goes.x) n.goes.todo z) (cases.1 off) more);
   }
 
   dropping : IsToBeDropped now behind g (site_of C n.front n.goes.todo) n.before n.goes.x

@@ -1,5 +1,5 @@
 -- The removal of a file whose pair stays, as a step of the thread.
-use Rattle.lfs_operations.proofs.Common.{Err, Result, append_assoc, nat_eq, slice_get, ℕ, ◌≡◌, ◌≢◌, ◌⊎◌, inl, inr, ◌+◌, ◌<◌, ◌&&◌, not, Bool, true, false, eqb-true, List, [], ◌∷◌, ◌++◌, length, Some, refl, sym, ap, subst, ◌∙◌, arith, append-nil, length-append, eqb-false, tree_removing, Free, InFlight, Delete, Disk, CallEvent, SurvivesLossSince, Slot, same_pair, Pair, pairs_blocks, first_address, Tree, struct_blocks, disk_tree, Name, IsChangedImage, CompletesOperation, commit_step, recovered_from, count_append, HoldsAtLosses-weaker, Ends, file_goes, same, same_number, site, pair_back, pair_on, IsPairAt, IsDistinct, Site, thread_at, ends_joined, CleanLossLeaves, KeptThread, ThreadView, ThreadReportsErrors, IsPairCommitted, LossLeavesPair, thread_pair, is_err, Error, remove_completed, CanEditIn, editable_slot, ShowsDroppedTree, ShowsUnsettledTree, CanRemoveIn, IsFileRemoved, ReportsCommit, drops_emptied_pair, tree_without_entry}
+use Rattle.lfs_operations.proofs.Common.{Err, Result, append_assoc, nat_eq, slice_get, ℕ, ◌≡◌, ◌≢◌, ◌⊎◌, inl, inr, ◌+◌, ◌<◌, ◌&&◌, not, Bool, true, false, eqb-true, List, [], ◌∷◌, ◌++◌, length, Some, refl, sym, ap, subst, ◌∙◌, arith, append-nil, length-append, eqb-false, tree_removing, Free, InFlight, Delete, Disk, CallEvent, SurvivesLossSince, Slot, same_pair, Pair, pairs_blocks, first_address, Tree, struct_blocks, disk_tree, Name, IsChangedImage, CompletesOperation, commit_step, recovered_from, count_append, HoldsAtLosses-weaker, Ends, file_goes, same, same_number, site, pair_back, pair_on, IsPairAt, IsDistinct, Site, thread_at, last_tail_is_hard, CleanLossLeaves, KeptThread, ThreadView, ThreadReportsErrors, IsPairCommitted, LossLeavesPair, thread_pair, is_err, Error, remove_completed, CanEditIn, editable_slot, HasTreeAfterDrops, HasTreeBeforeMapUpdate, CanRemoveIn, IsFileRemoved, ReportsCommit, drops_pair_after_removal, tree_without_entry}
 use Rattle.lfs_model.specs.session.Operations as ops
 use Rattle.lfs_operations.proofs.Held.{here}
 use Rattle.lfs_operations.proofs.Splicing.{Commits, IsSplicing}
@@ -11,7 +11,7 @@ use Rattle.lfs_operations.proofs.MovTurned.{content_with}
 use Rattle.lfs_operations.proofs.Unlinked.{delta_stays, going_made, pair_there}
 
 -- no hard tail leads to the first pair of a directory
-pub flag_ends : (before : List Pair) → Ends before → ends_joined false before ≡ false
+pub flag_ends : (before : List Pair) → Ends before → last_tail_is_hard false before ≡ false
 flag_ends [] h = refl
 flag_ends (p ∷ []) h = h
 flag_ends (p ∷ q ∷ ps) h = flag_ends (q ∷ ps) h
@@ -31,7 +31,7 @@ alone chain before (x ∷ left) tail p a first distinct h b n =
     absurd (omega arith)
 
 -- where no block comes, and none becomes free
-pub shrunk_from : (t new : KeptThread) (tree : Tree) (gone : List ℕ) → ShowsUnsettledTree t new tree gone [] → ShowsDroppedTree t new tree gone
+pub shrunk_from : (t new : KeptThread) (tree : Tree) (gone : List ℕ) → HasTreeBeforeMapUpdate t new tree gone [] → HasTreeAfterDrops t new tree gone
 shrunk_from t new tree gone h = record {
   ready = h.ready;
   shows = h.shows;
@@ -40,7 +40,7 @@ shrunk_from t new tree gone h = record {
 }
 
 -- a pair that doesn't go with its slot is the first of its directory, or has another one
-pub stays_there : (t : KeptThread) (index id first : ℕ) (can : CanEditIn t index id) → can.first ≡ first → drops_emptied_pair t index first ≡ false → (index ≡ can.first) ⊎ (1 < length (thread_pair t index).content.slots)
+pub stays_there : (t : KeptThread) (index id first : ℕ) (can : CanEditIn t index id) → can.first ≡ first → drops_pair_after_removal t index first ≡ false → (index ≡ can.first) ⊎ (1 < length (thread_pair t index).content.slots)
 stays_there t index id first can begins goes = by (nat_eq index first) (nat_eq (length (thread_pair t index).content.slots) 1) refl refl goes
   where
     by : (x y : Bool) → nat_eq index first ≡ x → nat_eq (length (thread_pair t index).content.slots) 1 ≡ y → not x && y ≡ false → (index ≡ can.first) ⊎ (1 < length (thread_pair t index).content.slots)
@@ -60,16 +60,16 @@ entry_site {t = t} {index = index} can = site t.disk t.pairs can.path can.at can
 pub entry_stands : {t : KeptThread} {index id : ℕ} (can : CanEditIn t index id) → HasPairAt t index can.path can.at (entry_site can) can.stands.pair
 entry_stands {t = t} {index = index} can = pair_at t can.ready can.path can.at can.leads can.first index can.stands.pair can.stands.rest can.stands.place can.begins
 
-module _ (t : KeptThread) (index id first : ℕ) (can : CanEditIn t index id) (begins : can.first ≡ first) (goes : drops_emptied_pair t index first ≡ false) where
+module _ (t : KeptThread) (index id first : ℕ) (can : CanEditIn t index id) (begins : can.first ≡ first) (goes : drops_pair_after_removal t index first ≡ false) where
   -- so it stays filled where a hard tail leads to it
-  pub stays_filled : ends_joined false ((entry_site can).before ++ (entry_site can).left) ≡ true → can.stands.stands.left ++ can.stands.stands.right ≢ []
+  pub stays_filled : last_tail_is_hard false ((entry_site can).before ++ (entry_site can).left) ≡ true → can.stands.stands.left ++ can.stands.stands.right ≢ []
   stays_filled hard none = go (stays_there t index id first can begins goes) (entry_site can) (entry_stands can) hard
     where
-      go : (index ≡ can.first) ⊎ (1 < length (thread_pair t index).content.slots) → (w : Site) → HasPairAt t index can.path can.at w can.stands.pair → ends_joined false (w.before ++ w.left) ≡ true → ⊥
+      go : (index ≡ can.first) ⊎ (1 < length (thread_pair t index).content.slots) → (w : Site) → HasPairAt t index can.path can.at w can.stands.pair → last_tail_is_hard false (w.before ++ w.left) ≡ true → ⊥
       go (inl e) w stand hard =
           let none_before = alone w.chain w.before w.left (w.right ++ w.after) can.stands.pair can.at can.first (subst (λ z. IsDistinct nat_eq (pairs_blocks z)) stand.there can.ready.accepted.thread.distinct) stand.begin
           (subst (λ z. IsPairAt z can.at can.first) stand.there can.begins) (sym e ∙ stand.number) in
-          let soft = ap (λ z. ends_joined false (w.before ++ z)) none_before ∙ ap (ends_joined false) (append-nil w.before) ∙ flag_ends w.before stand.site.ends in
+          let soft = ap (λ z. last_tail_is_hard false (w.before ++ z)) none_before ∙ ap (last_tail_is_hard false) (append-nil w.before) ∙ flag_ends w.before stand.site.ends in
           absurd (let z = sym hard ∙ soft in cc)
       go (inr many) w stand hard =
           let e = ap (λ (z : Pair). length z.content.slots) (pair_there can) in
@@ -79,7 +79,7 @@ module _ (t : KeptThread) (index id first : ℕ) (can : CanEditIn t index id) (b
           let k = length-append can.stands.stands.left can.stands.stands.right in
           absurd (omega arith)
 
-module _ (t : KeptThread) (index id first : ℕ) (take : CanRemoveIn t index id first) (goes : drops_emptied_pair t index first ≡ false) where
+module _ (t : KeptThread) (index id first : ℕ) (take : CanRemoveIn t index id first) (goes : drops_pair_after_removal t index first ≡ false) where
   abbrev can : CanEditIn t index id
   can = take.can
 
@@ -122,7 +122,7 @@ module _ (t : KeptThread) (index id first : ℕ) (take : CanRemoveIn t index id 
     blocks = λ disk geometry files come b. let e = count_append b (struct_blocks t.disk u.struct) [] in omega arith;
   }
 
-  filled : ends_joined false (w.before ++ w.left) ≡ true → l ++ ([] ++ r) ≢ []
+  filled : last_tail_is_hard false (w.before ++ w.left) ≡ true → l ++ ([] ++ r) ≢ []
   filled = stays_filled t index id first take.can take.begins goes
 
   abbrev turn : Tree → Tree

@@ -1,5 +1,5 @@
 -- The removal of a file with its pair, which has no other slot and isn't the first of its directory, as a step of the thread.
-use Rattle.lfs_operations.proofs.Common.{ℕ, ◌≡◌, inl, inr, ◌+◌, ◌-◌, ◌&&◌, not, true, false, nat_eq, eqb-true, List, [], ◌∷◌, ◌++◌, length, Option, Some, None, refl, sym, ap, subst, ◌∙◌, arith, IsDistinct, tree_removing, Blocks, Disk, CallEvent, IsPairAt, HasEitherTree as IsLeftOf, SurvivesLossSince, with_blocks, PairContent, Slot, Tail, zero_gstate, same_pair, Pair, pairs_blocks, pairs_gstate, is_hard_tail, Tree, branch_address, IsAccepted, IsWritable, LeadsTo, struct_blocks, disk_tree, used_blocks, IsChangedImage, CompletesOperation, no_move_from, recovered_from, number_occurrences, count_append, once_from_distinct, HasNoMove, HoldsAtLosses-weaker, file_goes, IsSite, Site, begin_of, thread_at, file_blocks, ends_joined, CleanLossLeaves, KeptThread, IsPairWritten, thread_pair, CanDropAt, IsPairDropped, LeftByDrop, tail_past_drop, content_after_drop, CanEditIn, editable_slot, IsFileRemoved, drops_emptied_pair, tree_without_entry, subst₂, IsWritableChange, and_parts, eq-eqb, Gstate, MoveStateFits}
+use Rattle.lfs_operations.proofs.Common.{ℕ, ◌≡◌, inl, inr, ◌+◌, ◌-◌, ◌&&◌, not, true, false, nat_eq, eqb-true, List, [], ◌∷◌, ◌++◌, length, Option, Some, None, refl, sym, ap, subst, ◌∙◌, arith, IsDistinct, tree_removing, Blocks, Disk, CallEvent, IsPairAt, HasEitherTree as IsLeftOf, SurvivesLossSince, with_blocks, PairContent, Slot, Tail, zero_gstate, same_pair, Pair, pairs_blocks, pairs_gstate, is_hard_tail, Tree, struct_directory_address, IsAccepted, IsWritable, IsDirectoryAtPath, struct_blocks, disk_tree, used_blocks, IsChangedImage, CompletesOperation, no_move_from, recovered_from, occurrence_count, count_append, once_from_distinct, HasNoMove, HoldsAtLosses-weaker, file_goes, IsSite, Site, begin_of, thread_at, file_blocks, last_tail_is_hard, CleanLossLeaves, KeptThread, IsPairWritten, thread_pair, CanDropAt, IsPairDropped, LeftByDrop, predecessor_tail_after_drop, content_after_drop, CanEditIn, editable_slot, IsFileRemoved, drops_pair_after_removal, tree_without_entry, subst₂, IsWritableChange, and_parts, eq-eqb, Gstate, MoveStateFits}
 use Rattle.lfs_model.specs.session.Operations as ops
 use Rattle.lfs_model.proofs.Dropped.{IsDrop, drop_completed, drop_step, drop_writable}
 use Rattle.lfs_operations.proofs.Dropped.{IsToBeDropped, can_drop_pair, device_left, left_dropped, pairs_left, slots_left, state_left, tail_left, used_left, shows_after}
@@ -11,7 +11,7 @@ use Rattle.lfs_operations.proofs.Unlinked.{pair_there}
 use Rattle.lfs_operations.proofs.Removed.{entry_site, entry_stands}
 
 -- a hard tail takes over what comes
-pub over_hard : (f g : Option Tail) → is_hard_tail f ≡ true → tail_past_drop f g ≡ g
+pub over_hard : (f g : Option Tail) → is_hard_tail f ≡ true → predecessor_tail_after_drop f g ≡ g
 over_hard f None h = refl
 over_hard f (Some t) h = ap (λ b. Some (record { hard = b && t.hard; to = t.to })) h
 
@@ -36,7 +36,7 @@ pub record StandsWhole (t : KeptThread) (index id : ℕ) (can : CanEditIn t inde
 pub dropping_whole : {t : KeptThread} {index id : ℕ} {can : CanEditIn t index id} (s : StandsWhole t index id can) (state : Gstate) → MoveStateFits state → IsToBeDropped t index state s.w s.x can.stands.pair
 dropping_whole {can = can} s state fits = record { accepted = can.ready.accepted; writable = can.ready.writable; storable = fits; there = s.there; number = s.number }
 
-module _ (t : KeptThread) (index id first : ℕ) (can : CanEditIn t index id) (begins : can.first ≡ first) (goes : drops_emptied_pair t index first ≡ true) where
+module _ (t : KeptThread) (index id first : ℕ) (can : CanEditIn t index id) (begins : can.first ≡ first) (goes : drops_pair_after_removal t index first ≡ true) where
   abbrev o : Pair
   o = can.stands.pair
 
@@ -68,7 +68,7 @@ module _ (t : KeptThread) (index id first : ℕ) (can : CanEditIn t index id) (b
       (subst (λ z. IsPairAt z can.at can.first) stand.there can.begins) (λ e. alone_there.0 (stand.number ∙ e)))
 
   -- a hard tail leads to the pair
-  pub flag_whole : ends_joined false (v.before ++ v.left) ≡ true
+  pub flag_whole : last_tail_is_hard false (v.before ++ v.left) ≡ true
   flag_whole = behind.led
 
   pub stands_whole : StandsWhole t index id can
@@ -117,12 +117,12 @@ module _ (t : KeptThread) (index id first : ℕ) (can : CanEditIn t index id) (b
 
   -- ---- a file
 
-  module _ (file : branch_address can.stands.stands.slot.struct ≡ None) where
+  module _ (file : struct_directory_address can.stands.stands.slot.struct ≡ None) where
     abbrev turn : Tree → Tree
     turn = tree_removing (can.path ++ can.name ∷ [])
 
-    leads_now : LeadsTo (thread_at w (x ∷ o ∷ [])) can.path can.at
-    leads_now = subst (λ z. LeadsTo z can.path can.at) there can.leads
+    leads_now : IsDirectoryAtPath (thread_at w (x ∷ o ∷ [])) can.path can.at
+    leads_now = subst (λ z. IsDirectoryAtPath z can.path can.at) there can.leads
 
     follows : (disk : Disk) → IsPairWritten t (index - 1) c disk → IsChangedImage t.disk (thread_at w (x ∷ o ∷ [])) disk (thread_at w (q ∷ [])) turn (λ d. d)
     follows disk written = subst (λ n. IsChangedImage t.disk (thread_at w (x ∷ o ∷ [])) disk (thread_at w (q ∷ [])) (tree_removing (can.path ++ n ∷ [])) (λ d. d)) can.stands.stands.named
@@ -132,8 +132,8 @@ module _ (t : KeptThread) (index id first : ℕ) (can : CanEditIn t index id) (b
     taken : (disk : Disk) → IsPairWritten t (index - 1) c disk → IsWritableChange t.disk (thread_at w (x ∷ o ∷ [])) disk (thread_at w (q ∷ [])) turn (λ d. d)
     taken disk written = record { follows = follows disk written; writable = drop_writable t.disk disk w x o q u (drop_on disk written) }
 
-    list_is : (b : ℕ) → number_occurrences b (struct_blocks t.disk u.struct) ≡ number_occurrences b (file_blocks t.disk o.content.slots)
-    list_is b = let m = ap (λ z. number_occurrences b (file_blocks t.disk z)) held in let n = count_append b (struct_blocks t.disk u.struct) [] in omega arith
+    list_is : (b : ℕ) → occurrence_count b (struct_blocks t.disk u.struct) ≡ occurrence_count b (file_blocks t.disk o.content.slots)
+    list_is b = let m = ap (λ z. occurrence_count b (file_blocks t.disk z)) held in let n = count_append b (struct_blocks t.disk u.struct) [] in omega arith
 
     module _ (new : KeptThread) (h : IsPairDropped t (index - 1) zero_gstate new) where
       none : HasNoMove (pairs_gstate t.pairs)

@@ -1,5 +1,5 @@
 -- A slot of a block, as it was read.
-use Rattle.lfs_operations.proofs.Common.{ℕ, zero, suc, ◌≡◌, ◌<◌, List, [], ◌∷◌, length, map, Option, Some, None, refl, sym, ap, ◌∙◌, arith, get_or, same_Some, RawContent, RawSlot, complete_slot, complete_slots, content_after, empty_slot, kind_of_type, empty_raw_content, slot_of_id, decoded_struct, block_entries, PairContent, Slot, complete_length, complete_parts, completed_parts, length-map, IsSome, option_and_then, option_map, attribute_view}
+use Rattle.lfs_operations.proofs.Common.{ℕ, zero, suc, ◌≡◌, ◌<◌, List, [], ◌∷◌, length, map, Option, Some, None, refl, sym, ap, ◌∙◌, arith, get_or, same_Some, RawContent, RawSlot, decoded_slot, decoded_slots, content_after, empty_slot, kind_of_type, empty_raw_content, slot_of_id, decoded_struct, block_entries, PairContent, Slot, complete_length, complete_parts, completed_parts, length-map, IsSome, option_and_then, option_map, attribute_view}
 use Rattle.lfs_tag.specs.ContentView.{content_view, part_view, slot_view}
 use Rattle.lfs_tag.specs.declared.content.Content as code
 use Rattle.lfs_tag.specs.declared.content.NameOrStruct.{NameOrStruct}
@@ -13,14 +13,14 @@ at_id f (y ∷ xs) (suc i) x d l e = at_id f xs i x d (omega arith) e
 
 record IsComplete (s : RawSlot) : Type 0 where
   slot : Slot
-  is : complete_slot s ≡ Some slot
+  is : decoded_slot s ≡ Some slot
 
-complete_at_id : (xs : List RawSlot) (us : List Slot) (i : ℕ) → complete_slots xs ≡ Some us → i < length xs → IsComplete (slot_of_id xs i)
+complete_at_id : (xs : List RawSlot) (us : List Slot) (i : ℕ) → decoded_slots xs ≡ Some us → i < length xs → IsComplete (slot_of_id xs i)
 complete_at_id [] us i h l = absurd (omega arith)
 complete_at_id (x ∷ xs) us zero h l = let p = complete_parts x xs us h in record { slot = p.first; is = p.is_first }
 complete_at_id (x ∷ xs) us (suc i) h l = let p = complete_parts x xs us h in complete_at_id xs p.others i p.are_others (omega arith)
 
-has_parts : (s : slots.Slot) (u : Slot) → complete_slot (slot_view s) ≡ Some u → IsSome s.name × IsSome s.structure
+has_parts : (s : slots.Slot) (u : Slot) → decoded_slot (slot_view s) ≡ Some u → IsSome s.name × IsSome s.structure
 has_parts s u h = go s.name s.structure h
   where
     go : (n p : Option NameOrStruct) → option_and_then (λ name. option_map (λ struct. record {
@@ -40,7 +40,7 @@ module _ (block : List ℕ) (content : PairContent) (is : IsContentLog block con
   slots_are : map slot_view read.slots.items ≡ is.raw.slots
   slots_are = ap (λ (r : RawContent). r.slots) same_raw
 
-  all : complete_slots is.raw.slots ≡ Some content.slots
+  all : decoded_slots is.raw.slots ≡ Some content.slots
   all = (completed_parts is.raw content is.complete).slots
 
   pub read_below : id < length read.slots.items
@@ -53,7 +53,7 @@ module _ (block : List ℕ) (content : PairContent) (is : IsContentLog block con
     both : IsSome slot.name × IsSome slot.structure
     both =
         let k = complete_at_id is.raw.slots content.slots id all (let a = complete_length is.raw.slots content.slots all in omega arith) in
-        has_parts slot k.slot (ap complete_slot (sym there_read) ∙ k.is)
+        has_parts slot k.slot (ap decoded_slot (sym there_read) ∙ k.is)
 
     pub is_named : IsSome slot.name
     is_named = both.0

@@ -1,5 +1,5 @@
 -- A pair from which slots are deleted, and in which one is created under another name.
-use Rattle.lfs_operations.proofs.Common.{ℕ, ◌≡◌, ◌⊎◌, inl, inr, ◌<◌, zero, suc, true, List, [], ◌∷◌, ◌++◌, length, Option, Some, refl, sym, ap, ap₂, subst, ◌∙◌, arith, append_assoc, insert, remove, length-append, sum_by, sum_by-append, sum_by-cons, ContentChange, content_with_changes, RawContent, RawSlot, complete_slots, complete_content, empty_raw_content, raw_content, slot_of_id, AreSplittable, IsDirectoryPair, HasName, IsFormedSlot, Name, is_valid_name, PairContent, FitsInPair, Slot, slot_size, Pair, tail_target, IsWritableEntry, complete_insert, complete_length, complete_remove, completed_from, completed_parts, deletes, does_first, content_cut, entry_small, insert_here, remove_here, logged_changed, changed_pair_content, KeptThread, complete_after, thread_pair, unwrap_or, option_and_then, AreWellFormed, CanPut, IsRawFormed, IsReadyImage, NamelessSlot, nameless_at, nameless_of, slot_changes, None, is_some, append-nil, Delete, PutMove, IsPlaceOf, CanEditIn, IsTreeEntry, Site, site, each_right, MoveStateFits, Gstate, IsCompleted, puts_move, CanChangePair, target_slots, removal_changes, Each}
+use Rattle.lfs_operations.proofs.Common.{ℕ, ◌≡◌, ◌⊎◌, inl, inr, ◌<◌, zero, suc, true, List, [], ◌∷◌, ◌++◌, length, Option, Some, refl, sym, ap, ap₂, subst, ◌∙◌, arith, append_assoc, insert, remove, length-append, sum_by, sum_by-append, sum_by-cons, ContentChange, content_with_changes, RawContent, RawSlot, decoded_slots, decoded_content, empty_raw_content, raw_content, slot_of_id, AreSplittable, IsDirectoryPair, HasName, IsWellFormedSlot, Name, is_valid_name, PairContent, FitsInPair, Slot, slot_size, Pair, tail_target, IsWritableEntry, complete_insert, complete_length, complete_remove, completed_from, completed_parts, deletes, does_first, content_cut, entry_small, insert_here, remove_here, logged_changed, changed_pair_content, KeptThread, complete_after, thread_pair, unwrap_or, option_and_then, AreWellFormed, CanCommitOrSplit, IsLogContentDecodable, IsRecoveredWritableImage, NamelessSlot, slot_without_name_at, slot_without_name, slot_creation_changes, None, is_some, append-nil, Delete, PutMove, IsPositionOfName, CanEditIn, IsFileOrDirectory, Site, site, each_right, MoveStateFits, Gstate, IsCompleted, puts_move, CanChangePair, target_slots, removal_changes, Each}
 use Rattle.lfs_operations.proofs.Held.{CompletesTo, below, fits_there, here, raw_there, IsEntryIfOther, each_pair, other_entries}
 use Rattle.lfs_model.proofs.RawSlots.{IsRaw, is_raw}
 use Rattle.lfs_model.proofs.SlotParts.{IsOf, is_of, name_length, slot_comes, slot_of_parts, with_slot}
@@ -61,7 +61,7 @@ fits_left block_size page c xs (Some g) ys e f = fits_without block_size page c 
 pub record Leaves (c : RawContent) (changes : List ContentChange) (slots : List Slot) (delta : Gstate) : Type 0 where
   pub left : RawContent
   pub does : (rest : List ContentChange) (e : RawContent) → content_with_changes left rest ≡ Some e → content_with_changes c (changes ++ rest) ≡ Some e
-  pub are : complete_slots left.slots ≡ Some slots
+  pub are : decoded_slots left.slots ≡ Some slots
   pub tail : left.tail ≡ c.tail
   pub move : left.move ≡ delta
 
@@ -88,28 +88,28 @@ leaves_target xs (Some g) ys k at small number = leaves_without xs g ys k at sma
 
 -- The pair has that number, and what its log comes to is well formed.
 pub record IsLoggedPair (t : KeptThread) (index : ℕ) (p : Pair) : Type 0 where
-  pub ready : IsReadyImage t
+  pub ready : IsRecoveredWritableImage t
   pub first : ℕ
   pub rest : List Pair
   pub place : IsDirectoryPair t.pairs first index p rest
-  pub logged : IsRawFormed t.disk (thread_pair t index).at
+  pub logged : IsLogContentDecodable t.disk (thread_pair t index).at
 
 -- what the log of a pair says of a slot
 pub record Source (t : KeptThread) (pair id : ℕ) (u : Slot) : Type 0 where
   pub raw : RawSlot
-  pub is : nameless_at t pair id ≡ nameless_of raw
+  pub is : slot_without_name_at t pair id ≡ slot_without_name raw
   pub of : IsOf raw u
 
 -- ---- where an entry stands
 
 -- an entry at a place is one of the tree
-pub entry_at : {t : KeptThread} {first index id : ℕ} {name : Name} → IsReadyImage t → (to : IsPlaceOf t.pairs first name index id) → IsTreeEntry to.stands.slot
+pub entry_at : {t : KeptThread} {first index id : ℕ} {name : Name} → IsRecoveredWritableImage t → (to : IsPositionOfName t.pairs first name index id) → IsFileOrDirectory to.stands.slot
 entry_at {t = t} {first = first} {index = index} ready to =
     let all = each_pair t ready first index to.pair to.rest to.place (λ x. Each IsEntryIfOther x.content.slots) (other_entries t.disk t.pairs ready.accepted) in
     (each_right IsEntryIfOther to.stands.left (to.stands.slot ∷ to.stands.right) (subst (Each IsEntryIfOther) to.stands.held all)).0 to.stands.entry
 
 -- so another one may have its name
-pub name_at : {t : KeptThread} {first index id : ℕ} {name : Name} → IsReadyImage t → IsPlaceOf t.pairs first name index id → is_valid_name name ≡ true
+pub name_at : {t : KeptThread} {first index id : ℕ} {name : Name} → IsRecoveredWritableImage t → IsPositionOfName t.pairs first name index id → is_valid_name name ≡ true
 name_at ready to = ap is_valid_name (sym to.stands.named) ∙ (entry_at ready to).name
 
 abbrev pub logged_of : {t : KeptThread} {index id : ℕ} (can : CanEditIn t index id) → IsLoggedPair t index can.stands.pair
@@ -123,7 +123,7 @@ stand_of {t = t} {index = index} can = pair_at t can.ready can.path can.at can.l
 
 -- ---- what the changes make
 
-parts_in : (xs : List RawSlot) (i : ℕ) → AreWellFormed xs → i < length xs → IsFormedSlot (slot_of_id xs i)
+parts_in : (xs : List RawSlot) (i : ℕ) → AreWellFormed xs → i < length xs → IsWellFormedSlot (slot_of_id xs i)
 parts_in [] i h l = absurd (omega arith)
 parts_in (x ∷ xs) zero h l = h.0
 parts_in (x ∷ xs) (suc i) h l = parts_in xs i h.1 (omega arith)
@@ -166,9 +166,9 @@ module _ {t : KeptThread} {index : ℕ} {p : Pair} (k : IsLoggedPair t index p) 
       let there : slot_of_id c.raw.slots id ≡ raw.here = ap (slot_of_id c.raw.slots) (sym s.number) ∙ raw.there in
       record {
         raw = raw.here;
-        is = ap (λ (o : Option RawContent). nameless_of (slot_of_id (unwrap_or o empty_raw_content).slots id)) c.is ∙ ap nameless_of there;
+        is = ap (λ (o : Option RawContent). slot_without_name (slot_of_id (unwrap_or o empty_raw_content).slots id)) c.is ∙ ap slot_without_name there;
         of = is_of raw.here s.slot
-            (subst IsFormedSlot there (parts_in c.raw.slots id (k.logged c.raw c.is).slots (let l = complete_length c.raw.slots p.content.slots parts.slots in let w = within s in omega arith))) raw.is s.entry;
+            (subst IsWellFormedSlot there (parts_in c.raw.slots id (k.logged c.raw c.is).slots (let l = complete_length c.raw.slots p.content.slots parts.slots in let w = within s in omega arith))) raw.is s.entry;
       }
 
   -- the slots that are left are cut where one comes
@@ -176,13 +176,13 @@ module _ {t : KeptThread} {index : ℕ} {p : Pair} (k : IsLoggedPair t index p) 
       (fits_rest : FitsInPair t.disk.block_size t.disk.page (record p.content { slots = a ++ b })) (at : ℕ) (number : length a ≡ at) (name : Name) (named : is_valid_name name ≡ true)
       (fits : IsWritableEntry t.disk.profile t.disk.block_size t.disk.page (record u { name = name })) where
     abbrev changes : List ContentChange
-    changes = front ++ slot_changes at name (nameless_at t pair id)
+    changes = front ++ slot_creation_changes at name (slot_without_name_at t pair id)
 
     abbrev moved : Slot
     moved = record u { name = name }
 
     abbrev raw_now : RawContent
-    raw_now = with_slot left.left at (slot_of_parts name (nameless_of from.raw))
+    raw_now = with_slot left.left at (slot_of_parts name (slot_without_name from.raw))
 
     abbrev now : PairContent
     now = content_with p (a ++ moved ∷ b) delta
@@ -192,22 +192,22 @@ module _ {t : KeptThread} {index : ℕ} {p : Pair} (k : IsLoggedPair t index p) 
         let n = fits_rest.count in
         let m = length-append a b in
         let l = complete_length left.left.slots (a ++ b) left.are in
-        left.does (slot_changes at name (nameless_at t pair id)) raw_now
-        (ap (λ (z : NamelessSlot). content_with_changes left.left (slot_changes at name z)) from.is
-        ∙ slot_comes left.left at name (nameless_of from.raw) (omega arith) (omega arith) (name_length name named) from.of.are)
+        left.does (slot_creation_changes at name (slot_without_name_at t pair id)) raw_now
+        (ap (λ (z : NamelessSlot). content_with_changes left.left (slot_creation_changes at name z)) from.is
+        ∙ slot_comes left.left at name (slot_without_name from.raw) (omega arith) (omega arith) (name_length name named) from.of.are)
 
     made_raw : changed_pair_content t.disk (thread_pair t index).at changes ≡ Some raw_now
     made_raw = ap (λ o. option_and_then (λ (x : RawContent). content_with_changes x changes) o) c.is ∙ changed_now
 
-    slots_now : complete_slots raw_now.slots ≡ Some (a ++ moved ∷ b)
-    slots_now = complete_insert left.left.slots (a ++ b) at (slot_of_parts name (nameless_of from.raw)) moved left.are (from.of.complete name) ∙ ap (λ (i : ℕ). Some (insert (a ++ b) i moved)) (sym number)
+    slots_now : decoded_slots raw_now.slots ≡ Some (a ++ moved ∷ b)
+    slots_now = complete_insert left.left.slots (a ++ b) at (slot_of_parts name (slot_without_name from.raw)) moved left.are (from.of.complete name) ∙ ap (λ (i : ℕ). Some (insert (a ++ b) i moved)) (sym number)
         ∙ ap Some (insert_here a b moved)
 
-    now_complete : complete_content raw_now ≡ Some now
+    now_complete : decoded_content raw_now ≡ Some now
     now_complete = completed_from raw_now (a ++ moved ∷ b) slots_now ∙ ap₂ (λ t m. Some (record { slots = a ++ moved ∷ b; tail = t; move = m })) (left.tail ∙ sym parts.tail) left.move
 
-    pub made : complete_after t index (front ++ slot_changes at name (nameless_at t pair id)) ≡ Some (content_with p (a ++ record u { name = name } ∷ b) delta)
-    made = ap (λ o. option_and_then complete_content o) made_raw ∙ now_complete
+    pub made : complete_after t index (front ++ slot_creation_changes at name (slot_without_name_at t pair id)) ≡ Some (content_with p (a ++ record u { name = name } ∷ b) delta)
+    made = ap (λ o. option_and_then decoded_content o) made_raw ∙ now_complete
 
     cut : AreSplittable t.disk.block_size t.disk.page raw_now.slots
     cut = content_cut t.disk.block_size t.disk.page raw_now now a moved b (logged_changed c.raw changes raw_now (k.logged c.raw c.is) changed_now) now_complete refl
@@ -215,7 +215,7 @@ module _ {t : KeptThread} {index : ℕ} {p : Pair} (k : IsLoggedPair t index p) 
         (let f = fits_rest.size in let m = sum_by-append slot_size a b in omega arith)
         (let n = fits_rest.count in let m = length-append a b in omega arith)
 
-    pub can_change : CanChangePair t index (front ++ slot_changes at name (nameless_at t pair id))
+    pub can_change : CanChangePair t index (front ++ slot_creation_changes at name (slot_without_name_at t pair id))
     can_change = record {
       below = below t k.ready k.first index p k.rest k.place;
       content = now;
@@ -223,5 +223,5 @@ module _ {t : KeptThread} {index : ℕ} {p : Pair} (k : IsLoggedPair t index p) 
       next = ap (λ (z : Pair). tail_target z.content.tail) (sym pair_here);
     }
 
-    pub can_put : CanPut t index (front ++ slot_changes at name (nameless_at t pair id))
+    pub can_put : CanCommitOrSplit t index (front ++ slot_creation_changes at name (slot_without_name_at t pair id))
     can_put = record { can = can_change; raw = raw_now; made = made_raw; cut = cut }

@@ -1,5 +1,5 @@
 -- An entry that replaces a directory while the sync bit is flipped, as a step of the thread.
-use Rattle.lfs_operations.proofs.Common.{subst₂, ℕ, ◌≡◌, ◌+◌, ◌≤◌, List, [], ◌∷◌, ◌++◌, length, Some, sym, ap, subst, ◌∙◌, arith, length-append, sum_by, sum_by-append, sum_by-cons, same_Some, tree_renaming, PutMove, Disk, CallEvent, HasName, MoveStateFits, Name, SurvivesLossSince, PairContent, FitsInPair, Gstate, Slot, gstate_xor, slot_size, Pair, pairs_gstate, disk_tree, IsChangedImage, gstate_comm, sync_bit_delta, turned_is, HoldsAtLosses-weaker, IsStep, renamed_addresses, Site, thread_at, IsWritableChange, CleanLossLeaves, KeptThread, CanChangePair, IsPairCommitted, LossLeavesPair, RefusesChanges, IsPairWritten, complete_after, thread_pair, struct_len, CanEditIn, tree_renamed, CanReplaceDirectory, IsDirectoryReplaced, replace_directory_changes}
+use Rattle.lfs_operations.proofs.Common.{subst₂, ℕ, ◌≡◌, ◌+◌, ◌≤◌, List, [], ◌∷◌, ◌++◌, length, Some, sym, ap, subst, ◌∙◌, arith, length-append, sum_by, sum_by-append, sum_by-cons, same_Some, tree_renaming, PutMove, Disk, CallEvent, HasName, MoveStateFits, Name, SurvivesLossSince, PairContent, FitsInPair, Gstate, Slot, gstate_xor, slot_size, Pair, pairs_gstate, disk_tree, IsChangedImage, gstate_comm, sync_bit_delta, turned_is, HoldsAtLosses-weaker, IsStep, renamed_addresses, Site, thread_at, IsWritableChange, CleanLossLeaves, KeptThread, CanChangePair, IsPairCommitted, LossLeavesPair, RefusesChanges, IsPairWritten, complete_after, thread_pair, struct_len, CanEditIn, tree_with_entry_renamed, CanReplaceDirectory, IsDirectoryReplaced, replace_directory_changes}
 use Rattle.lfs_operations.proofs.RenameMade as made
 use Rattle.lfs_operations.proofs.RenameMade.{Leaves, delta_fits, fits_whole, leaves_turned, pair_here, site_of}
 use Rattle.lfs_operations.proofs.RenamePlaced.{IsPlaced, blocks_now, entries_now, fit_now, lists_now, with_name}
@@ -149,6 +149,6 @@ module _ (t : KeptThread) (index id place : ℕ) (name : Name) (rename : CanRepl
   -- ---- at a power loss
 
   pub over_survives : (new : List CallEvent) → CleanLossLeaves t.history new (LossLeavesPair t index (replace_directory_changes t index id place name))
-      → SurvivesLossSince t.disk t.history new (disk_tree t.disk t.pairs) (tree_renamed t rename.can.path rename.can.name name)
+      → SurvivesLossSince t.disk t.history new (disk_tree t.disk t.pairs) (tree_with_entry_renamed t rename.can.path rename.can.name name)
   over_survives new stops clean = HoldsAtLosses-weaker
       (left_turned (turning has_over) (tree_renaming (can.path ++ can.name ∷ []) (can.path ++ name ∷ [])) (renamed_addresses (can.path ++ can.name ∷ []) (can.path ++ name ∷ [])) (over_follows has_over)) (stops clean)

@@ -1,5 +1,5 @@
 -- Slots that are replaced by the same ones, of which one has another name, or for fewer.
-use Rattle.lfs_operations.proofs.Common.{ℕ, ◌≡◌, ◌+◌, false, List, [], ◌∷◌, ◌++◌, length, Some, sym, ap, subst, ◌∙◌, arith, take, drop, take-append-drop, recursion_from_All, ContentChange, Disk, SameGeometry, PairContent, Slot, is_superblock, Pair, pairs_gstate, superblock_first, count_before_root, IsWritableEntry, IsWritableSlot, BeginsWithSuperblock, IsAccepted, IsTreeEntry, IsFormedList, all_unmoved_slots, struct_blocks, SameFiles, slots_files, no_move_from, Each, number_occurrences, count_append, each_append, each_left, each_pieces, each_right, each_weaker, SameFileBlocks, is_list_same, Site, IsSite, dirs_at, thread_at, count_files, file_blocks, unmoved_in, KeptThread, complete_after, All, IsReadyImage}
+use Rattle.lfs_operations.proofs.Common.{ℕ, ◌≡◌, ◌+◌, false, List, [], ◌∷◌, ◌++◌, length, Some, sym, ap, subst, ◌∙◌, arith, take, drop, take-append-drop, recursion_from_All, ContentChange, Disk, SameGeometry, PairContent, Slot, is_superblock, Pair, pairs_gstate, begins_with_superblock, count_before_root, IsWritableEntry, IsWritableSlot, BeginsWithSuperblock, IsAccepted, IsFileOrDirectory, IsWellFormedList, all_unmoved_slots, struct_blocks, SameFiles, slots_files, no_move_from, Each, occurrence_count, count_append, each_append, each_left, each_pieces, each_right, each_weaker, SameFileBlocks, is_list_same, Site, IsSite, dirs_at, thread_at, count_files, file_blocks, unmoved_in, KeptThread, complete_after, All, IsRecoveredWritableImage}
 use Rattle.lfs_model.specs.declared.limits.AcceptedVersions.{AcceptedVersions}
 use Rattle.lfs_model.proofs.Counts.{each_both}
 use Rattle.lfs_operations.proofs.Splicing.{IsSplicing}
@@ -9,7 +9,7 @@ use Rattle.lfs_operations.proofs.Splicing.{IsSplicing}
 -- What holds of the old slots holds of the new ones. They name the same files but for those of the slots that are gone.
 pub record MovesSlots (olds news gone : List Slot) (u moved : Slot) : Type 1 where
   pub each : (P : Slot → Type 0) → (P u → P moved) → Each P olds → Each P news
-  pub files : (disk : Disk) (b : ℕ) → number_occurrences b (file_blocks disk news) + number_occurrences b (file_blocks disk gone) ≡ number_occurrences b (file_blocks disk olds)
+  pub files : (disk : Disk) (b : ℕ) → occurrence_count b (file_blocks disk news) + occurrence_count b (file_blocks disk gone) ≡ occurrence_count b (file_blocks disk olds)
 
 -- the same struct
 abbrev pub with_name : Slot → List ℕ → Slot
@@ -41,33 +41,33 @@ carries_ahead u name gone passed = record {
 
 -- slots from one on that isn't a superblock's are entries
 abbrev HasRests : List Slot → Type 0
-HasRests slots = (l xs : List Slot) → slots ≡ l ++ xs → superblock_first xs ≡ false → Each IsTreeEntry xs
+HasRests slots = (l xs : List Slot) → slots ≡ l ++ xs → begins_with_superblock xs ≡ false → Each IsFileOrDirectory xs
 
 headed_rests : (versions : AcceptedVersions) (bytes : List ℕ) (slots : List Slot) → BeginsWithSuperblock versions bytes slots → HasRests slots
-headed_rests versions bytes [] h [] xs e f = subst (Each IsTreeEntry) e tt
+headed_rests versions bytes [] h [] xs e f = subst (Each IsFileOrDirectory) e tt
 headed_rests versions bytes [] h (x ∷ l) xs e f = absurd (cc)
-headed_rests versions bytes (s ∷ slots) h [] xs e f = absurd (let z = sym f ∙ ap superblock_first (sym e) ∙ h.0 in cc)
-headed_rests versions bytes (s ∷ slots) h (x ∷ l) xs e f = each_right IsTreeEntry l xs (subst (Each IsTreeEntry) (rest e) (recursion_from_All IsTreeEntry slots h.2))
+headed_rests versions bytes (s ∷ slots) h [] xs e f = absurd (let z = sym f ∙ ap begins_with_superblock (sym e) ∙ h.0 in cc)
+headed_rests versions bytes (s ∷ slots) h (x ∷ l) xs e f = each_right IsFileOrDirectory l xs (subst (Each IsFileOrDirectory) (rest e) (recursion_from_All IsFileOrDirectory slots h.2))
   where
     rest : {a b : Slot} {us vs : List Slot} → a ∷ us ≡ b ∷ vs → us ≡ vs
     rest k = cc
 
-all_rests : (slots : List Slot) → All IsTreeEntry slots → HasRests slots
-all_rests slots h l xs e f = each_right IsTreeEntry l xs (subst (Each IsTreeEntry) e (recursion_from_All IsTreeEntry slots h))
+all_rests : (slots : List Slot) → All IsFileOrDirectory slots → HasRests slots
+all_rests slots h l xs e f = each_right IsFileOrDirectory l xs (subst (Each IsFileOrDirectory) e (recursion_from_All IsFileOrDirectory slots h))
 
 each_rests : (disk : Disk) (ps : List Pair) → IsAccepted disk ps → Each (λ p. HasRests p.content.slots) ps
 each_rests disk ps ok = subst (Each (λ p. HasRests p.content.slots)) (take-append-drop (count_before_root ps + 1) ps)
     (each_append (λ p. HasRests p.content.slots) (take (count_before_root ps + 1) ps) (drop (count_before_root ps + 1) ps)
     (each_weaker (λ (p : Pair). BeginsWithSuperblock disk.profile.versions ok.superblock.0 p.content.slots) (λ (p : Pair). HasRests p.content.slots) (λ p h. headed_rests disk.profile.versions ok.superblock.0 p.content.slots h)
     (take (count_before_root ps + 1) ps) (recursion_from_All (λ (p : Pair). BeginsWithSuperblock disk.profile.versions ok.superblock.0 p.content.slots) (take (count_before_root ps + 1) ps) ok.superblock.1.1))
-    (each_weaker (λ (p : Pair). All IsTreeEntry p.content.slots) (λ (p : Pair). HasRests p.content.slots) (λ p h. all_rests p.content.slots h) (drop (count_before_root ps + 1) ps)
-    (recursion_from_All (λ (p : Pair). All IsTreeEntry p.content.slots) (drop (count_before_root ps + 1) ps) ok.slots)))
+    (each_weaker (λ (p : Pair). All IsFileOrDirectory p.content.slots) (λ (p : Pair). HasRests p.content.slots) (λ p h. all_rests p.content.slots h) (drop (count_before_root ps + 1) ps)
+    (recursion_from_All (λ (p : Pair). All IsFileOrDirectory p.content.slots) (drop (count_before_root ps + 1) ps) ok.slots)))
 
 -- ---- the commit
 
 -- At the site stands the pair of that number, whose slots are replaced; what the changes make of it is known.
 pub record IsPlaced (t : KeptThread) (index : ℕ) (changes : List ContentChange) (w : Site) (p : Pair) (l olds news r gone : List Slot) (u moved : Slot) : Type 1 where
-  pub ready : IsReadyImage t
+  pub ready : IsRecoveredWritableImage t
   pub there : t.pairs ≡ thread_at w (p ∷ [])
   pub place : index ≡ length w.chain + length (w.before ++ w.left)
   pub site : IsSite w (p ∷ [])
@@ -76,9 +76,9 @@ pub record IsPlaced (t : KeptThread) (index : ℕ) (changes : List ContentChange
   pub tail : content.tail ≡ p.content.tail
   pub was : p.content.slots ≡ l ++ (olds ++ r)
   pub now : content.slots ≡ l ++ (news ++ r)
-  pub front : superblock_first (olds ++ r) ≡ false
+  pub front : begins_with_superblock (olds ++ r) ≡ false
   pub carries : MovesSlots olds news gone u moved
-  pub entry : IsTreeEntry u → IsTreeEntry moved
+  pub entry : IsFileOrDirectory u → IsFileOrDirectory moved
   pub struct : moved.struct ≡ u.struct
   pub other : is_superblock moved ≡ false
   pub fits : IsWritableEntry t.disk.profile t.disk.block_size t.disk.page moved
@@ -97,30 +97,30 @@ module _ (t : KeptThread) (index : ℕ) (changes : List ContentChange) (w : Site
       let on = subst (Each P) (unmoved_in (pairs_gstate t.pairs) (no_move_from t.pairs k.ready.settled) t.pairs) h in
       of_slots P (at_site (λ (x : Pair). Each P x.content.slots) (each_pieces P (λ (x : Pair). x.content.slots) t.pairs on))
 
-  entries_were : Each IsTreeEntry olds
-  entries_were = each_left IsTreeEntry olds r (at_site (λ (x : Pair). HasRests x.content.slots) (each_rests t.disk t.pairs k.ready.accepted) l (olds ++ r) k.was k.front)
+  entries_were : Each IsFileOrDirectory olds
+  entries_were = each_left IsFileOrDirectory olds r (at_site (λ (x : Pair). HasRests x.content.slots) (each_rests t.disk t.pairs k.ready.accepted) l (olds ++ r) k.was k.front)
 
   fit_were : Each (IsWritableSlot t.disk.profile t.disk.block_size t.disk.page) olds
   fit_were = of_slots (IsWritableSlot t.disk.profile t.disk.block_size t.disk.page) (recursion_from_All (IsWritableSlot t.disk.profile t.disk.block_size t.disk.page) p.content.slots
       (at_site (λ (x : Pair). All (IsWritableSlot t.disk.profile t.disk.block_size t.disk.page) x.content.slots) (recursion_from_All (λ (x : Pair). All (IsWritableSlot t.disk.profile t.disk.block_size t.disk.page) x.content.slots) t.pairs k.ready.writable.slots)))
 
-  pub entries_now : Each IsTreeEntry news
-  entries_now = k.carries.each IsTreeEntry k.entry entries_were
+  pub entries_now : Each IsFileOrDirectory news
+  entries_now = k.carries.each IsFileOrDirectory k.entry entries_were
 
   pub fit_now : Each (IsWritableSlot t.disk.profile t.disk.block_size t.disk.page) news
   fit_now = k.carries.each (IsWritableSlot t.disk.profile t.disk.block_size t.disk.page) (λ f. ((λ e. absurd (let z = sym k.other ∙ e in cc)), (λ e. k.fits))) fit_were
 
-  pub lists_now : (disk : Disk) → SameGeometry t.disk disk → SameFiles t.disk disk (all_unmoved_slots t.pairs) → Each (λ s. IsFormedList disk s.struct) news
-  lists_now disk geometry files = k.carries.each (λ (s : Slot). IsFormedList disk s.struct) (λ h. subst (IsFormedList disk) (sym k.struct) h)
-      (each_both (λ (s : Slot). SameFileBlocks t.disk disk s.struct) (λ (s : Slot). IsFormedList t.disk s.struct) (λ (s : Slot). IsFormedList disk s.struct) (λ s f h. is_list_same t.disk disk s.struct geometry f h) olds
+  pub lists_now : (disk : Disk) → SameGeometry t.disk disk → SameFiles t.disk disk (all_unmoved_slots t.pairs) → Each (λ s. IsWellFormedList disk s.struct) news
+  lists_now disk geometry files = k.carries.each (λ (s : Slot). IsWellFormedList disk s.struct) (λ h. subst (IsWellFormedList disk) (sym k.struct) h)
+      (each_both (λ (s : Slot). SameFileBlocks t.disk disk s.struct) (λ (s : Slot). IsWellFormedList t.disk s.struct) (λ (s : Slot). IsWellFormedList disk s.struct) (λ s f h. is_list_same t.disk disk s.struct geometry f h) olds
       (of_olds (λ (s : Slot). SameFileBlocks t.disk disk s.struct) files)
-      (of_olds (λ (s : Slot). IsFormedList t.disk s.struct) (recursion_from_All (λ (s : Slot). IsFormedList t.disk s.struct) (all_unmoved_slots t.pairs) k.ready.accepted.lists)))
+      (of_olds (λ (s : Slot). IsWellFormedList t.disk s.struct) (recursion_from_All (λ (s : Slot). IsWellFormedList t.disk s.struct) (all_unmoved_slots t.pairs) k.ready.accepted.lists)))
 
-  pub blocks_now : (disk : Disk) → SameGeometry t.disk disk → SameFiles t.disk disk (all_unmoved_slots t.pairs) → (b : ℕ) → number_occurrences b (file_blocks disk news) + number_occurrences b (file_blocks t.disk gone) ≡ number_occurrences b (file_blocks t.disk olds)
+  pub blocks_now : (disk : Disk) → SameGeometry t.disk disk → SameFiles t.disk disk (all_unmoved_slots t.pairs) → (b : ℕ) → occurrence_count b (file_blocks disk news) + occurrence_count b (file_blocks t.disk gone) ≡ occurrence_count b (file_blocks t.disk olds)
   blocks_now disk geometry files b =
       let same = of_olds (λ (s : Slot). SameFileBlocks t.disk disk s.struct) files in
       let kept = k.carries.each (λ (s : Slot). SameFileBlocks t.disk disk s.struct) (λ h. subst (SameFileBlocks t.disk disk) (sym k.struct) h) same in
-      let e = ap (number_occurrences b) (slots_files t.disk disk news geometry kept) in
+      let e = ap (occurrence_count b) (slots_files t.disk disk news geometry kept) in
       let f = k.carries.files t.disk b in
       omega arith
 

@@ -1,5 +1,5 @@
 -- A pair that is changed after it was read.
-use Rattle.lfs_operations.proofs.Common.{ℕ, ◌≡◌, ◌⊎◌, inl, inr, false, Some, List, Result, Err, refl, sym, ap, subst, ◌∙◌, arith, Blocks, ContentChange, CallEvent, OnlyReadsSince, fault_count, with_blocks, Pair, LossLeavesAtWorst-read, AllCallsSince-behind, HoldsAtLosses-read_count, HoldsAtLosses-trans, HoldsAtLosses-weaker, OnlyReadsSince-trans, StayUnprogrammed-read_count, StayUnprogrammed-trans, LeftByLoss-read, CleanLossLeaves, KeptThread, ThreadView, CanChangePair, ThreadReportsErrors, IsPairCommitted, LossLeavesPair, OnlyReadsThread, RefusesChanges, ChangesThreadBlocks, thread_pair, IfErr, Error, Io, NoMemory, ReportsReadCommit, ReportsCommit, CanEditIn, Disk, IsPairWritten, PairContent}
+use Rattle.lfs_operations.proofs.Common.{ℕ, ◌≡◌, ◌⊎◌, inl, inr, false, Some, List, Result, Err, refl, sym, ap, subst, ◌∙◌, arith, Blocks, ContentChange, CallEvent, OnlyReadsSince, fault_count, with_blocks, Pair, LossLeavesAtWorst-read, AllCallsSince-behind, HoldsAtLosses-read_count, HoldsAtLosses-trans, HoldsAtLosses-weaker, OnlyReadsSince-trans, OthersStayUnprogrammed-read_count, OthersStayUnprogrammed-trans, LeftByLoss-read, CleanLossLeaves, KeptThread, ThreadView, CanChangePair, ThreadReportsErrors, IsPairCommitted, LossLeavesPair, OnlyReadsThread, RefusesChanges, ChangesThreadBlocks, thread_pair, IfErr, Error, Io, NoMemory, ReportsReadCommit, ReportsCommit, CanEditIn, Disk, IsPairWritten, PairContent}
 use Rattle.lfs_operations.proofs.Held.{here, holds}
 use Rattle.lfs_operations.proofs.Putting.{read_is, with_history, same_err}
 
@@ -37,7 +37,7 @@ refused_after_read t mid new index changes only is = refused_earlier t mid.histo
 pub writes_earlier : (t : KeptThread) (h : List CallEvent) (new : KeptThread) (bs : List ℕ) → OnlyReadsSince t.disk.blocks t.history h → ChangesThreadBlocks bs (with_history t h) new → ChangesThreadBlocks bs t new
 writes_earlier t h new bs reads w = record {
   others = w.others;
-  elsewhere = StayUnprogrammed-trans (StayUnprogrammed-read_count bs reads) w.elsewhere;
+  elsewhere = OthersStayUnprogrammed-trans (OthersStayUnprogrammed-read_count bs reads) w.elsewhere;
   shape = w.shape;
   at_worst = HoldsAtLosses-trans (HoldsAtLosses-read_count LossLeavesAtWorst-read reads (record { count = refl; sizes = λ b. refl; others = λ b apart. refl })) w.at_worst;
 }
@@ -48,7 +48,7 @@ blocks_after_read t mid new bs only w = writes_earlier t mid.history new bs only
 pub only_read_writes : (t mid : KeptThread) (bs : List ℕ) → OnlyReadsThread t mid → ChangesThreadBlocks bs t mid
 only_read_writes t mid bs only = subst (λ (k : KeptThread). ChangesThreadBlocks bs t k) (sym (read_is t mid only)) (record {
   others = record { count = refl; sizes = λ b. refl; others = λ b apart. refl };
-  elsewhere = StayUnprogrammed-read_count bs only.reads;
+  elsewhere = OthersStayUnprogrammed-read_count bs only.reads;
   shape = record { block_size = refl; page = refl; order = refl; profile = refl; count = refl };
   at_worst = HoldsAtLosses-read_count LossLeavesAtWorst-read only.reads (record { count = refl; sizes = λ b. refl; others = λ b apart. refl });
 })

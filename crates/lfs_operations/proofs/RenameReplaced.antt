@@ -1,5 +1,5 @@
 -- A rename within one pair over an entry: which slots are replaced, and the result if that entry is a file.
-use Rattle.lfs_operations.proofs.Common.{ℕ, ◌≡◌, true, List, [], ◌∷◌, ◌++◌, sym, ap, subst, ◌∙◌, append_assoc, append-nil, tree_renaming, Disk, CallEvent, HasName, Name, SurvivesLossSince, Slot, Pair, pairs_blocks, struct_blocks, disk_tree, IsChangedImage, IsCommit, commit_step, recovered_from, renamed_addresses, Site, thread_at, CleanLossLeaves, KeptThread, LeftByPut, ArePut, CanEditIn, tree_renamed, ◌≢◌, false, Some, None, ContentChange, IsPlaceOf, Session, path_or_root, Gstate, Path, pairs_gstate, branch_address, IsStep, IsWritableEntry, AllReached, CompletesOperation, renaming_changes, Bool, CanRenameInPair, IsRenamedInPair, refl}
+use Rattle.lfs_operations.proofs.Common.{ℕ, ◌≡◌, true, List, [], ◌∷◌, ◌++◌, sym, ap, subst, ◌∙◌, append_assoc, append-nil, tree_renaming, Disk, CallEvent, HasName, Name, SurvivesLossSince, Slot, Pair, pairs_blocks, struct_blocks, disk_tree, IsChangedImage, IsCommit, commit_step, recovered_from, renamed_addresses, Site, thread_at, CleanLossLeaves, KeptThread, LeftByCommitOrSplit, AreCommittedOrSplit, CanEditIn, tree_with_entry_renamed, ◌≢◌, false, Some, None, ContentChange, IsPositionOfName, Session, path_or_root, Gstate, Path, pairs_gstate, struct_directory_address, IsStep, IsWritableEntry, AllReached, CompletesOperation, renaming_changes, Bool, CanRenameInPair, IsRenamedInPair, refl}
 use Rattle.lfs_operations.proofs.RenameWithin.{moves_within}
 use Rattle.lfs_model.proofs.RenameOntoFile.{onto_file_ahead_completed, onto_file_behind_completed}
 use Rattle.lfs_operations.proofs.Held.{here}
@@ -13,7 +13,7 @@ use Rattle.lfs_operations.proofs.PairAt.{HasPairAt}
 use Rattle.lfs_model.specs.session.Operations as ops
 
 -- the premises of a rename onto an entry of the same pair and directory
-module _ (t : KeptThread) (index id place : ℕ) (name : Name) (can : CanEditIn t index id) (to : IsPlaceOf t.pairs can.first name index place) (apart : name ≢ can.name)
+module _ (t : KeptThread) (index id place : ℕ) (name : Name) (can : CanEditIn t index id) (to : IsPositionOfName t.pairs can.first name index place) (apart : name ≢ can.name)
     (fits : IsWritableEntry t.disk.profile t.disk.block_size t.disk.page (record can.stands.stands.slot { name = name })) where
   abbrev s : HasName can.stands.pair.content.slots can.name id
   s = can.stands.stands
@@ -62,8 +62,8 @@ module _ (t : KeptThread) (index id place : ℕ) (name : Name) (can : CanEditIn 
   -- is a file.
   pub record RenamesOnto (l olds news r : List Slot) : Type 0 where
     pub follows : (disk : Disk) (q : Pair) (more : List Pair) (extra : List ℕ) → IsStep t.disk disk w p [] q more extra [] l olds news r
-        → ((pairs_gstate (thread_at w (q ∷ more))).sync ≡ false → (branch_address g.slot.struct ≡ None) × AllReached (thread_at w (p ∷ []))) → FollowsAs disk q more can.name name
-    pub completed : branch_address g.slot.struct ≡ None → (disk : Disk) (q : Pair) (more : List Pair) → IsCommit t.disk disk w p q more [] l olds news r → (s : Session) (given to_given : List ℕ) → s.tree ≡ disk_tree t.disk (thread_at w (p ∷ []))
+        → ((pairs_gstate (thread_at w (q ∷ more))).sync ≡ false → (struct_directory_address g.slot.struct ≡ None) × AllReached (thread_at w (p ∷ []))) → FollowsAs disk q more can.name name
+    pub completed : struct_directory_address g.slot.struct ≡ None → (disk : Disk) (q : Pair) (more : List Pair) → IsCommit t.disk disk w p q more [] l olds news r → (s : Session) (given to_given : List ℕ) → s.tree ≡ disk_tree t.disk (thread_at w (p ∷ []))
         → path_or_root given ≡ can.path ++ can.name ∷ [] → path_or_root to_given ≡ can.path ++ name ∷ [] → CompletesOperation t.disk (thread_at w (p ∷ [])) s (ops.Rename given to_given) disk (thread_at w (q ∷ more))
 
   other_names : (disk : Disk) (q : Pair) (more : List Pair) → FollowsAs disk q more s.slot.name g.slot.name → FollowsAs disk q more can.name name
@@ -106,7 +106,7 @@ module _ (t : KeptThread) (index id place : ℕ) (name : Name) (can : CanEditIn 
 
   -- ---- onto a file
 
-  module _ (file : branch_address g.slot.struct ≡ None) where
+  module _ (file : struct_directory_address g.slot.struct ≡ None) where
     onto_file : (l olds news r : List Slot) → RenamesOnto l olds news r → Renames t w p can.path can.name name l olds news r
     onto_file l olds news r h = record {
       follows = λ disk q more k. h.follows disk q more (pairs_blocks more) (commit_step t.disk disk w p q more [] l olds news r k) (λ e. (file, (recovered_from t.disk (thread_at w (p ∷ [])) k.accepted k.settled).reached));
@@ -138,11 +138,11 @@ moves_here false t index id place name rename = moves_within t index id place na
 moves_here true t index id place name rename = moves_onto t index id place name rename
 
 module _ (replaces : Bool) (t : KeptThread) (index id place : ℕ) (name : Name) (rename : CanRenameInPair replaces t index id place name) where
-  pub renamed_here : (new : KeptThread) → ArePut t index (renaming_changes replaces t index id place name) new → IsRenamedInPair t new rename.can.path rename.can.name name rename.gone
+  pub renamed_here : (new : KeptThread) → AreCommittedOrSplit t index (renaming_changes replaces t index id place name) new → IsRenamedInPair t new rename.can.path rename.can.name name rename.gone
   renamed_here new is =
       let m = moves_here replaces t index id place name rename in
       subst (IsRenamedInPair t new rename.can.path rename.can.name name) m.blocks (record { now = moved_becomes m.moves new is; once = moved_once m.moves new is; completed = moved_completed m.moves new is })
 
-  pub survives_here : (new : List CallEvent) → CleanLossLeaves t.history new (LeftByPut t index (renaming_changes replaces t index id place name))
-      → SurvivesLossSince t.disk t.history new (disk_tree t.disk t.pairs) (tree_renamed t rename.can.path rename.can.name name)
+  pub survives_here : (new : List CallEvent) → CleanLossLeaves t.history new (LeftByCommitOrSplit t index (renaming_changes replaces t index id place name))
+      → SurvivesLossSince t.disk t.history new (disk_tree t.disk t.pairs) (tree_with_entry_renamed t rename.can.path rename.can.name name)
   survives_here new stops = moved_survives (moves_here replaces t index id place name rename).moves new stops

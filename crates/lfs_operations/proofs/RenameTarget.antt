@@ -1,6 +1,6 @@
 -- An entry that moves within its pair, and may replace another one: the content of the pair after the changes, and the slots
 -- that they replace.
-use Rattle.lfs_operations.proofs.Common.{ℕ, ◌≡◌, true, List, [], ◌∷◌, ◌++◌, length, Some, sym, ap, subst, ◌∙◌, arith, append_assoc, length-append, refl, Delete, HasName, Name, is_valid_name, FitsInPair, Slot, Pair, IsTreeEntry, Each, KeptThread, ◌≢◌, CanEditIn, id_after_removal, HasSlot, ◌⊎◌, inl, inr, ◌-◌, ◌<◌, ◌≤◌, cond, false, Option, is_some, le-ltb, lt-ltb, ContentChange, Gstate, superblock_first, IsWritableEntry, some_filled, Site, CanChangePair, CanPut, complete_after, PairContent, nameless_at, slot_changes, target_slots, removal_changes}
+use Rattle.lfs_operations.proofs.Common.{ℕ, ◌≡◌, true, List, [], ◌∷◌, ◌++◌, length, Some, sym, ap, subst, ◌∙◌, arith, append_assoc, length-append, refl, Delete, HasName, Name, is_valid_name, FitsInPair, Slot, Pair, IsFileOrDirectory, Each, KeptThread, ◌≢◌, CanEditIn, id_after_removal, PairHasSlotId, ◌⊎◌, inl, inr, ◌-◌, ◌<◌, ◌≤◌, cond, false, Option, is_some, le-ltb, lt-ltb, ContentChange, Gstate, begins_with_superblock, IsWritableEntry, some_filled, Site, CanChangePair, CanCommitOrSplit, complete_after, PairContent, slot_without_name_at, slot_creation_changes, target_slots, removal_changes}
 use Rattle.lfs_operations.proofs.Held.{below, here}
 use Rattle.lfs_operations.proofs.RenameMade.{ComesBehind, Leaves, fits_without, leaves_without, ComesAhead, IsLoggedPair, Source, behind_or_ahead, fits_left, fits_whole, leaves_target, source}
 use Rattle.lfs_operations.proofs.RenameMade as pair
@@ -14,7 +14,7 @@ place_behind_is id place less = ap (λ b. cond b (place - 1) place) (lt-ltb id p
 place_ahead_is : (id place : ℕ) → place ≤ id → id_after_removal id place ≡ place
 place_ahead_is id place le = ap (λ b. cond b (place - 1) place) (le-ltb id place le)
 
-pub has_slot : {t : KeptThread} {index id : ℕ} → CanEditIn t index id → HasSlot t index id
+pub has_slot : {t : KeptThread} {index id : ℕ} → CanEditIn t index id → PairHasSlotId t index id
 has_slot {t = t} {index = index} can =
     let s = can.stands.stands in
     let e = ap (λ (z : Pair). length z.content.slots) (here t can.ready can.first index can.stands.pair can.stands.rest can.stands.place) in
@@ -31,7 +31,7 @@ pub record IsPlaceInPair (t : KeptThread) (index id place : ℕ) (can : CanEditI
   pub held : p.content.slots ≡ can.stands.stands.left ++ can.stands.stands.slot ∷ can.stands.stands.right
   pub was : p.content.slots ≡ l ++ (target_slots target ++ r)
   pub number : length l ≡ place
-  pub front : superblock_first (target_slots target ++ r) ≡ false
+  pub front : begins_with_superblock (target_slots target ++ r) ≡ false
   pub apart : Each (λ s. s ≡ can.stands.stands.slot → ⊥) (target_slots target)
   pub named : is_valid_name name ≡ true
   pub fits : IsWritableEntry t.disk.profile t.disk.block_size t.disk.page (record can.stands.stands.slot { name = name })
@@ -56,7 +56,7 @@ pub record IsMoving (t : KeptThread) (index id place : ℕ) (can : CanEditIn t i
 
 -- the changes: a delta or none, the slots are removed, and the entry's comes again
 abbrev pub moved_changes : Option Slot → List ContentChange → KeptThread → ℕ → ℕ → ℕ → Name → List ContentChange
-moved_changes target turn t index id place name = ((turn ++ Delete id ∷ []) ++ removal_changes (is_some target) (id_after_removal id place)) ++ slot_changes (id_after_removal id place) name (nameless_at t index id)
+moved_changes target turn t index id place name = ((turn ++ Delete id ∷ []) ++ removal_changes (is_some target) (id_after_removal id place)) ++ slot_creation_changes (id_after_removal id place) name (slot_without_name_at t index id)
 
 module _ {t : KeptThread} {index id place : ℕ} {can : CanEditIn t index id} {w : Site} {p : Pair} {l : List Slot} {target : Option Slot} {r : List Slot} {name : Name} (k : IsPlaceInPair t index id place can w p l target r name)
     {turn : List ContentChange} {move : Gstate} (whole : Leaves (pair.c k.logged).raw turn p.content.slots move) where
@@ -101,10 +101,10 @@ module _ {t : KeptThread} {index id place : ℕ} {can : CanEditIn t index id} {w
     pub can_change_over : CanChangePair t index (moved_changes target turn t index id place name)
     can_change_over = pair.can_change k.logged from x y left_both fits_both at over.1 name k.named k.fits
 
-    pub can_put_over : CanPut t index (moved_changes target turn t index id place name)
+    pub can_put_over : CanCommitOrSplit t index (moved_changes target turn t index id place name)
     can_put_over = pair.can_put k.logged from x y left_both fits_both at over.1 name k.named k.fits
 
-  entry_again : IsTreeEntry s.slot → IsTreeEntry v
+  entry_again : IsFileOrDirectory s.slot → IsFileOrDirectory v
   entry_again e = record { name = k.named; struct = e.struct }
 
   -- ---- the slots that are replaced
@@ -176,7 +176,7 @@ module _ {t : KeptThread} {index id place : ℕ} {can : CanEditIn t index id} {w
         tail = refl;
         was = k.was ∙ ap (λ z. l ++ z) whole_is;
         now = refl;
-        front = ap superblock_first (sym whole_is) ∙ k.front;
+        front = ap begins_with_superblock (sym whole_is) ∙ k.front;
         carries = carries_ahead s.slot name gone d.passed;
         entry = entry_again;
         struct = refl;

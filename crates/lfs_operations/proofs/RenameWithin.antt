@@ -1,5 +1,5 @@
 -- A rename within one pair to a name that is new.
-use Rattle.lfs_operations.proofs.Common.{ℕ, ◌≡◌, List, [], ◌∷◌, ◌++◌, sym, ap, subst, ◌∙◌, append-nil, tree_renaming, BelongsAt, HasName, Name, Slot, Pair, all_entries, IsChangedImage, no_move_from, place_at, IsPlace, renamed_addresses, place_of_belongs, site, Site, thread_at, KeptThread, CanEditIn, false, None, Path, Disk, IsCommit, renaming_changes, CanRenameInPair}
+use Rattle.lfs_operations.proofs.Common.{ℕ, ◌≡◌, List, [], ◌∷◌, ◌++◌, sym, ap, subst, ◌∙◌, append-nil, tree_renaming, IsInsertionPosition, HasName, Name, Slot, Pair, all_entries, IsChangedImage, no_move_from, place_at, IsPlace, renamed_addresses, place_of_belongs, site, Site, thread_at, KeptThread, CanEditIn, false, None, Path, Disk, IsCommit, renaming_changes, CanRenameInPair}
 use Rattle.lfs_model.proofs.RenameSteps.{ahead_follows, behind_follows, renamed_ahead_completed, renamed_behind_completed}
 use Rattle.lfs_operations.proofs.Held.{here}
 use Rattle.lfs_operations.proofs.RenameMade.{leaves_all}
@@ -12,7 +12,7 @@ module _ (t : KeptThread) (index id place : ℕ) (name : Name) (rename : CanRena
   abbrev can : CanEditIn t index id
   can = rename.can
 
-  abbrev b : BelongsAt t.disk.order t.pairs can.first name index place
+  abbrev b : IsInsertionPosition t.disk.order t.pairs can.first name index place
   b = rename.target.belongs
 
   abbrev p : Pair

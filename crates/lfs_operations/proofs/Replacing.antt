@@ -1,5 +1,5 @@
 -- An entry that becomes another of the same name, as a step of the thread.
-use Rattle.lfs_operations.proofs.Common.{nat_eq, ℕ, ◌≡◌, ◌+◌, ◌<◌, ◌≤◌, false, List, [], ◌∷◌, ◌++◌, length, Some, refl, sym, ap, ap₂, subst, ◌∙◌, arith, length-append, set, sum_by, same_Some, sum_by-append, sum_by-cons, ContentChange, content_with_changes, RawContent, RawSlot, raw_content, complete_slot, complete_content, slot_changed_at, slot_of_id, Disk, SameGeometry, disk_block, IsPlaceOf, Slot, PairContent, FitsInPair, is_superblock, slot_size, Pair, pairs_gstate, tail_target, IsTreeEntry, IsFormedList, IsWritableEntry, all_unmoved_slots, struct_blocks, used_blocks, no_move_from, completed_parts, completed_from, Each, each_pieces, each_right, number_occurrences, count_append, Does, does_first, does_nothing, SameFileBlocks, entry_small, site, same, IsDistinct, IsInFlight, Site, thread_at, unmoved_in, logged_changed, changed_pair_content, KeptThread, RefusesChanges, thread_pair, complete_after, is_some, option_and_then, IsNamed, set_here, CanPut, CanEditIn, editable_slot, subst₂, All, AllReached, ArePut, CallEvent, CleanLossLeaves, CompletesOperation, IsChangedImage, IsStep, IsWritableSlot, LeftByPut, Name, Operation, Session, ShowsUnsettledTree, SurvivesLossSince, commit_step, disk_tree, pairs_blocks, recovered_from, recursion_from_All, some_filled, tree_with_change}
+use Rattle.lfs_operations.proofs.Common.{nat_eq, ℕ, ◌≡◌, ◌+◌, ◌<◌, ◌≤◌, false, List, [], ◌∷◌, ◌++◌, length, Some, refl, sym, ap, ap₂, subst, ◌∙◌, arith, length-append, set, sum_by, same_Some, sum_by-append, sum_by-cons, ContentChange, content_with_changes, RawContent, RawSlot, raw_content, decoded_slot, decoded_content, slot_changed_at, slot_of_id, Disk, SameGeometry, disk_block, IsPositionOfName, Slot, PairContent, FitsInPair, is_superblock, slot_size, Pair, pairs_gstate, tail_target, IsFileOrDirectory, IsWellFormedList, IsWritableEntry, all_unmoved_slots, struct_blocks, used_blocks, no_move_from, completed_parts, completed_from, Each, each_pieces, each_right, occurrence_count, count_append, Does, does_first, does_nothing, SameFileBlocks, entry_small, site, same, IsDistinct, IsInFlight, Site, thread_at, unmoved_in, logged_changed, changed_pair_content, KeptThread, RefusesChanges, thread_pair, complete_after, is_some, option_and_then, IsNamed, set_here, CanCommitOrSplit, CanEditIn, editable_slot, subst₂, All, AllReached, AreCommittedOrSplit, CallEvent, CleanLossLeaves, CompletesOperation, IsChangedImage, IsStep, IsWritableSlot, LeftByCommitOrSplit, Name, Operation, Session, HasTreeBeforeMapUpdate, SurvivesLossSince, commit_step, disk_tree, pairs_blocks, recovered_from, recursion_from_All, some_filled, tree_with_change}
 use Rattle.lfs_model.proofs.Completed.{complete_set}
 use Rattle.lfs_model.proofs.Halves.{set_cut}
 use Rattle.lfs_model.proofs.Superblocks.{entry_is_other}
@@ -16,7 +16,7 @@ Makes change id g = (c : RawContent) → id < 0x3ff → IsNamed c.slots id → D
 
 -- of what is complete it makes something complete
 abbrev pub Turns : (RawSlot → RawSlot) → Slot → Slot → Type 0
-Turns g u v = (x : RawSlot) → complete_slot x ≡ Some u → complete_slot (g x) ≡ Some v
+Turns g u v = (x : RawSlot) → decoded_slot x ≡ Some u → decoded_slot (g x) ≡ Some v
 
 -- where some slots come in place of others and take no more, the pair fits as it did
 pub fits_replaced : (block_size page : ℕ) (c d : PairContent) (left olds news right : List Slot) → c.slots ≡ left ++ (olds ++ right) → d.slots ≡ left ++ (news ++ right) → sum_by slot_size news ≤ sum_by slot_size olds → length news ≤ length olds
@@ -37,7 +37,7 @@ fits_replaced block_size page c d left olds news right was now small few f =
 -- ---- the entry in the image
 
 module _ {t : KeptThread} {index id : ℕ} (can : CanEditIn t index id) where
-  abbrev pub s : IsPlaceOf t.pairs can.first can.name index id
+  abbrev pub s : IsPositionOfName t.pairs can.first can.name index id
   s = can.stands
 
   abbrev pub p : Pair
@@ -68,7 +68,7 @@ module _ {t : KeptThread} {index id : ℕ} (can : CanEditIn t index id) where
   pub other : is_superblock u ≡ false
   other = s.stands.entry
 
-  pub entry : IsTreeEntry u
+  pub entry : IsFileOrDirectory u
   entry =
       let here = each_pair t can.ready can.first index p s.rest s.place (λ x. Each IsEntryIfOther x.content.slots) (other_entries t.disk t.pairs can.ready.accepted) in
       (each_right IsEntryIfOther l (u ∷ r) (subst (Each IsEntryIfOther) s.stands.held here)).0 other
@@ -83,12 +83,12 @@ module _ {t : KeptThread} {index id : ℕ} (can : CanEditIn t index id) where
 
   -- The slot in its place, and the blocks that the two name. Some that only the old one names are gone, and some came.
   pub record Names (v : Slot) (gone come : List ℕ) : Type 0 where
-    pub entry : IsTreeEntry v
+    pub entry : IsFileOrDirectory v
     pub flying : Each (IsInFlight t.map) come
     pub apart : IsDistinct nat_eq (come ++ used_blocks t.disk t.pairs)
-    pub lists : (disk : Disk) → SameGeometry t.disk disk → SameFileBlocks t.disk disk u.struct → Each (λ b. disk_block disk b ≡ disk_block t.disk b) come → IsFormedList disk v.struct
+    pub lists : (disk : Disk) → SameGeometry t.disk disk → SameFileBlocks t.disk disk u.struct → Each (λ b. disk_block disk b ≡ disk_block t.disk b) come → IsWellFormedList disk v.struct
     pub blocks : (disk : Disk) → SameGeometry t.disk disk → SameFileBlocks t.disk disk u.struct → Each (λ b. disk_block disk b ≡ disk_block t.disk b) come
-        → (b : ℕ) → number_occurrences b (struct_blocks disk v.struct) + number_occurrences b gone ≡ number_occurrences b come + number_occurrences b (struct_blocks t.disk u.struct)
+        → (b : ℕ) → occurrence_count b (struct_blocks disk v.struct) + occurrence_count b gone ≡ occurrence_count b come + occurrence_count b (struct_blocks t.disk u.struct)
 
 -- ---- what the change makes
 
@@ -133,15 +133,15 @@ module _ {t : KeptThread} {index id : ℕ} {can : CanEditIn t index id} {v : Slo
   slots_now : set can.stands.pair.content.slots id v ≡ l can ++ (v ∷ [] ++ r can)
   slots_now = ap₂ (λ (z : List Slot) (i : ℕ). set z i v) can.stands.stands.held (sym can.stands.stands.number) ∙ set_here (l can) (r can) (u can) v
 
-  now_complete : complete_content raw_now ≡ Some now
+  now_complete : decoded_content raw_now ≡ Some now
   now_complete =
       let parts = completed_parts c.raw can.stands.pair.content c.complete in
       completed_from raw_now (set can.stands.pair.content.slots id v) (complete_set c.raw.slots can.stands.pair.content.slots id (k.g (slot_of_id c.raw.slots id)) v parts.slots
-      (ap (λ (z : RawSlot). complete_slot (k.g z)) there_raw ∙ k.turns raw.here raw.is))
+      (ap (λ (z : RawSlot). decoded_slot (k.g z)) there_raw ∙ k.turns raw.here raw.is))
       ∙ ap₂ (λ t m. Some (record { slots = set can.stands.pair.content.slots id v; tail = t; move = m })) (sym parts.tail) (sym parts.move)
 
   made : complete_after t index (change ∷ []) ≡ Some now
-  made = ap (λ o. option_and_then complete_content o) made_raw ∙ now_complete
+  made = ap (λ o. option_and_then decoded_content o) made_raw ∙ now_complete
 
   -- where it takes no more than it did, what the change makes fits the pair, as what it held did
   fits_as_before : slot_size v ≤ slot_size (editable_slot can) → FitsInPair t.disk.block_size t.disk.page now
@@ -151,7 +151,7 @@ module _ {t : KeptThread} {index id : ℕ} {can : CanEditIn t index id} {v : Slo
   pub not_refused : slot_size v ≤ slot_size (editable_slot can) → (new : KeptThread) → RefusesChanges t index (change ∷ []) new → ⊥
   not_refused less new is = is.too_large (subst (FitsInPair t.disk.block_size t.disk.page) (sym (same_Some is.content now (sym is.made ∙ made))) (fits_as_before less))
 
-  pub can_put : CanPut t index (change ∷ [])
+  pub can_put : CanCommitOrSplit t index (change ∷ [])
   can_put = record {
     can = record {
       below = below t can.ready can.first index can.stands.pair can.stands.rest can.stands.place;
@@ -199,7 +199,7 @@ module _ {t : KeptThread} {index id : ℕ} {can : CanEditIn t index id} {v : Slo
     abbrev pub HasReplaced : KeptThread → Type 0
     HasReplaced new = HasStep t (w can) can.stands.pair (l can) (u can ∷ []) (v ∷ []) (r can) gone come new
 
-    pub replaced : (new : KeptThread) → ArePut t index (change ∷ []) new → HasReplaced new
+    pub replaced : (new : KeptThread) → AreCommittedOrSplit t index (change ∷ []) new → HasReplaced new
     replaced new is = put_step t index (change ∷ []) (w can) can.stands.pair (l can) (u can ∷ []) (v ∷ []) (r can) gone come splicing new is
 
     -- the file that the old slot names is as it was
@@ -228,10 +228,10 @@ module _ {t : KeptThread} {index id : ℕ} {can : CanEditIn t index id} {v : Slo
         subst (λ (n : Name). IsChangedImage t.disk (thread_at (w can) (can.stands.pair ∷ [])) disk (thread_at (w can) (q ∷ more)) (tree_with_change (can.path ++ n ∷ []) turn) (λ d. d)) can.stands.stands.named (follows disk q more c),
       )
 
-      pub shows_turned : (new : KeptThread) → HasReplaced new → ShowsUnsettledTree t new (tree_with_change (can.path ++ can.name ∷ []) turn (disk_tree t.disk t.pairs)) gone come
+      pub shows_turned : (new : KeptThread) → HasReplaced new → HasTreeBeforeMapUpdate t new (tree_with_change (can.path ++ can.name ∷ []) turn (disk_tree t.disk t.pairs)) gone come
       shows_turned new x = becomes t index (change ∷ []) (w can) can.stands.pair (l can) (u can ∷ []) (v ∷ []) (r can) gone come splicing (tree_with_change (can.path ++ can.name ∷ []) turn) all_follow
           (λ e. some_filled (l can) (r can) v) new x
 
-      pub survives_turn : (new : List CallEvent) → CleanLossLeaves t.history new (LeftByPut t index (change ∷ [])) → SurvivesLossSince t.disk t.history new (disk_tree t.disk t.pairs) (tree_with_change (can.path ++ can.name ∷ []) turn (disk_tree t.disk t.pairs))
+      pub survives_turn : (new : List CallEvent) → CleanLossLeaves t.history new (LeftByCommitOrSplit t index (change ∷ [])) → SurvivesLossSince t.disk t.history new (disk_tree t.disk t.pairs) (tree_with_change (can.path ++ can.name ∷ []) turn (disk_tree t.disk t.pairs))
       survives_turn new stops = survives t index (change ∷ []) (w can) can.stands.pair (l can) (u can ∷ []) (v ∷ []) (r can) gone come splicing (tree_with_change (can.path ++ can.name ∷ []) turn) all_follow
           (λ e. some_filled (l can) (r can) v) new stops

@@ -1,5 +1,5 @@
 -- The removal of an empty directory's entry from a pair that stays, as the first of two steps of the thread.
-use Rattle.lfs_operations.proofs.Common.{ℕ, ◌≡◌, ◌≢◌, inl, ◌-◌, true, false, List, [], ◌∷◌, ◌++◌, length, None, refl, sym, ap, subst, ◌∙◌, arith, append-nil, length-append, IsPairCommitted, LossLeavesPair, tree_removing, tree_with_subtree, Blocks, AreUsed, Disk, HasEitherTree as IsLeftOf, with_blocks, Gstate, Slot, gstate_xor, Pair, pairs_gstate, count_before_root, disk_tree, used_blocks, CompletesOperation, no_move_from, IsChangedImage, number_occurrences, HasNoMove, sync_bit_delta, IsStep, directory_goes, step_chain, Site, dirs_at, thread_at, IsWritableChange, ends_joined, KeptThread, thread_pair, IsChain, Path, SameInFlight, CanEditIn, drops_emptied_pair, tree_without_entry, CanRemoveDirectory, unlink_changes, subst₂, file_blocks}
+use Rattle.lfs_operations.proofs.Common.{ℕ, ◌≡◌, ◌≢◌, inl, ◌-◌, true, false, List, [], ◌∷◌, ◌++◌, length, None, refl, sym, ap, subst, ◌∙◌, arith, append-nil, length-append, IsPairCommitted, LossLeavesPair, tree_removing, tree_with_subtree, Blocks, AreUsed, Disk, HasEitherTree as IsLeftOf, with_blocks, Gstate, Slot, gstate_xor, Pair, pairs_gstate, count_before_root, disk_tree, used_blocks, CompletesOperation, no_move_from, IsChangedImage, occurrence_count, HasNoMove, sync_bit_delta, IsStep, directory_goes, step_chain, Site, dirs_at, thread_at, IsWritableChange, last_tail_is_hard, KeptThread, thread_pair, IsChain, Path, HasSameBlocksInFlight, CanEditIn, drops_pair_after_removal, tree_without_entry, CanRemoveDirectory, unlink_changes, subst₂, file_blocks}
 use Rattle.lfs_model.specs.session.Operations as ops
 use Rattle.lfs_operations.proofs.Removed.{entry_site, entry_stands, stays_filled}
 use Rattle.lfs_model.proofs.DirectoryGone.{HasPlace, Unlinks, place_of}
@@ -13,7 +13,7 @@ use Rattle.lfs_operations.proofs.TurnedSync.{left_turned, turn_of, IsSyncTurn, T
 use Rattle.lfs_operations.proofs.PairAt.{HasPairAt}
 use Rattle.lfs_operations.proofs.UnlinkedSteps.{IsUnlinked, at_there}
 
-module _ (t : KeptThread) (index id first gone : ℕ) (take : CanRemoveDirectory t index id first gone) (goes : drops_emptied_pair t index first ≡ false) where
+module _ (t : KeptThread) (index id first gone : ℕ) (take : CanRemoveDirectory t index id first gone) (goes : drops_pair_after_removal t index first ≡ false) where
   abbrev can : CanEditIn t index id
   can = take.can
 
@@ -53,7 +53,7 @@ module _ (t : KeptThread) (index id first gone : ℕ) (take : CanRemoveDirectory
   abbrev front : HasFront (dirs_at w (p ∷ [])) take.to
   front = own.front
 
-  filled : ends_joined false (w.before ++ w.left) ≡ true → l ++ ([] ++ r) ≢ []
+  filled : last_tail_is_hard false (w.before ++ w.left) ≡ true → l ++ ([] ++ r) ≢ []
   filled = stays_filled t index id first take.can take.begins goes
 
   -- ---- the first step
@@ -118,16 +118,16 @@ module _ (t : KeptThread) (index id first gone : ℕ) (take : CanRemoveDirectory
     pairs_middle = x.pairs
 
     -- a directory's entry has no list, so the image uses the same
-    no_list : (b : ℕ) → number_occurrences b (file_blocks t.disk (u ∷ [])) ≡ 0
-    no_list b = ap (λ z. number_occurrences b (file_blocks t.disk (record u { struct = z } ∷ []))) take.branch
+    no_list : (b : ℕ) → occurrence_count b (file_blocks t.disk (u ∷ [])) ≡ 0
+    no_list b = ap (λ z. occurrence_count b (file_blocks t.disk (record u { struct = z } ∷ []))) take.branch
 
-    used_middle : (b : ℕ) → number_occurrences b (used_blocks m.disk m.pairs) ≡ number_occurrences b (used_blocks t.disk t.pairs)
+    used_middle : (b : ℕ) → occurrence_count b (used_blocks m.disk m.pairs) ≡ occurrence_count b (used_blocks t.disk t.pairs)
     used_middle b =
         let turn : IsTurnOf t.disk m.disk w p q [] l (u ∷ []) [] r
         = record { none = no_move_from (thread_at w (p ∷ [])) stand.settled; still = no_move_turned turning; device = x.turned.device; at = refl; was = held; is = append-nil (l ++ r) } in
         let same = turned_count t.disk m.disk w p q [] l (u ∷ []) [] r [] [] turn (λ b. let e = no_list b in omega arith) b in
-        let now = ap (λ z. number_occurrences b (used_blocks m.disk z)) pairs_middle in
-        let was = ap (λ z. number_occurrences b (used_blocks t.disk z)) stand.there in
+        let now = ap (λ z. occurrence_count b (used_blocks m.disk z)) pairs_middle in
+        let was = ap (λ z. occurrence_count b (used_blocks t.disk z)) stand.there in
         omega arith
 
     chain_middle : IsChain w.chain (dirs_at w (q ∷ []))
@@ -151,7 +151,7 @@ module _ (t : KeptThread) (index id first gone : ℕ) (take : CanRemoveDirectory
       empty = take.empty;
       used = subst (λ s. AreUsed s (used_blocks m.disk m.pairs)) (sym h.map) (used_same t.map (used_blocks t.disk t.pairs) (used_blocks m.disk m.pairs) used_middle can.ready.used);
       size = ap length h.map ∙ can.ready.size ∙ sym h.written.shape.count;
-      flying = subst (SameInFlight t.map) (sym h.map) (λ b. ((λ f. f), (λ f. f)));
+      flying = subst (HasSameBlocksInFlight t.map) (sym h.map) (λ b. ((λ f. f), (λ f. f)));
       root = ap count_before_root pairs_middle ∙ chain_middle ∙ sym (ap count_before_root stand.there ∙ stand.site.chain);
       shape = h.written.shape;
     }

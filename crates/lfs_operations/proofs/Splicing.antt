@@ -1,5 +1,5 @@
 -- A pair of an accepted image in which some slots are replaced by others, as a commit of the laws.
-use Rattle.lfs_operations.proofs.Common.{ℕ, zero, suc, ◌≡◌, ◌+◌, ◌<◌, ◌≤◌, false, nat_eq, List, [], ◌∷◌, ◌++◌, length, Some, refl, sym, ap, subst, ◌∙◌, arith, ◌⊎◌, inl, inr, IsDistinct, flat_map, recursion_from_All, BlockStates, IsFree, IsInFlight, Free, InFlight, ContentChange, Disk, disk_block, SameGeometry, Slot, PairContent, gstate_xor, Pair, pairs_blocks, pairs_gstate, superblock_first, struct_blocks, all_unmoved_slots, used_blocks, IsAccepted, IsTreeEntry, IsFormedList, IsWritable, IsWritableSlot, SameFiles, IsCommit, Each, each_counted, each_from_counted, number_occurrences, count_append, once_from_distinct, distinct_from_once, SameFileBlocks, gstate_append, gstate_cons, gstate_kept, gstate_right, Site, thread_at, IsSite, file_blocks, KeptThread, complete_after, BeginWithSuperblock, cases_lt, IsReadyImage}
+use Rattle.lfs_operations.proofs.Common.{ℕ, zero, suc, ◌≡◌, ◌+◌, ◌<◌, ◌≤◌, false, nat_eq, List, [], ◌∷◌, ◌++◌, length, Some, refl, sym, ap, subst, ◌∙◌, arith, ◌⊎◌, inl, inr, IsDistinct, flat_map, recursion_from_All, BlockStates, IsFree, IsInFlight, Free, InFlight, ContentChange, Disk, disk_block, SameGeometry, Slot, PairContent, gstate_xor, Pair, pairs_blocks, pairs_gstate, begins_with_superblock, struct_blocks, all_unmoved_slots, used_blocks, IsAccepted, IsFileOrDirectory, IsWellFormedList, IsWritable, IsWritableSlot, SameFiles, IsCommit, Each, each_counted, each_from_counted, occurrence_count, count_append, once_from_distinct, distinct_from_once, SameFileBlocks, gstate_append, gstate_cons, gstate_kept, gstate_right, Site, thread_at, IsSite, file_blocks, KeptThread, complete_after, BeginWithSuperblock, cases_lt, IsRecoveredWritableImage}
 use Rattle.lfs_operations.proofs.MovTurned.{IsTurn}
 use Rattle.lfs_model.proofs.SetMoves.{HasTurned}
 use Rattle.lfs_model.proofs.UsedCounts.{count_pairs}
@@ -10,7 +10,7 @@ pub use Rattle.lfs_model.proofs.UsedCounts.{not_used}
 -- At the site stands the pair of that number. The changes make a content of it with the same tail and the same delta of the
 -- global state, in which `news` stand where `olds` did.
 pub record IsSplicing (t : KeptThread) (index : ℕ) (changes : List ContentChange) (w : Site) (p : Pair) (l olds news r : List Slot) (gone come : List ℕ) : Type 0 where
-  pub ready : IsReadyImage t
+  pub ready : IsRecoveredWritableImage t
   pub there : t.pairs ≡ thread_at w (p ∷ [])
   pub place : index ≡ length w.chain + length (w.before ++ w.left)
   pub site : IsSite w (p ∷ [])
@@ -20,15 +20,15 @@ pub record IsSplicing (t : KeptThread) (index : ℕ) (changes : List ContentChan
   pub move : content.move ≡ p.content.move
   pub was : p.content.slots ≡ l ++ (olds ++ r)
   pub now : content.slots ≡ l ++ (news ++ r)
-  pub front : l ≡ [] → superblock_first (olds ++ r) ≡ false
-  pub entries : Each IsTreeEntry news
+  pub front : l ≡ [] → begins_with_superblock (olds ++ r) ≡ false
+  pub entries : Each IsFileOrDirectory news
   pub fit : Each (IsWritableSlot t.disk.profile t.disk.block_size t.disk.page) news
   -- blocks that come are in flight; they name these now, and those that are gone no more
   pub flying : Each (IsInFlight t.map) come
   pub apart : IsDistinct nat_eq (come ++ used_blocks t.disk t.pairs)
-  pub lists : (disk : Disk) → SameGeometry t.disk disk → SameFiles t.disk disk (all_unmoved_slots t.pairs) → Each (λ b. disk_block disk b ≡ disk_block t.disk b) come → Each (λ s. IsFormedList disk s.struct) news
+  pub lists : (disk : Disk) → SameGeometry t.disk disk → SameFiles t.disk disk (all_unmoved_slots t.pairs) → Each (λ b. disk_block disk b ≡ disk_block t.disk b) come → Each (λ s. IsWellFormedList disk s.struct) news
   pub blocks : (disk : Disk) → SameGeometry t.disk disk → SameFiles t.disk disk (all_unmoved_slots t.pairs) → Each (λ b. disk_block disk b ≡ disk_block t.disk b) come
-      → (b : ℕ) → number_occurrences b (file_blocks disk news) + number_occurrences b gone ≡ number_occurrences b come + number_occurrences b (file_blocks t.disk olds)
+      → (b : ℕ) → occurrence_count b (file_blocks disk news) + occurrence_count b gone ≡ occurrence_count b come + occurrence_count b (file_blocks t.disk olds)
 
 -- a commit, on a disk where the blocks that come are as they were
 pub record Commits (t : KeptThread) (w : Site) (p : Pair) (l olds news r : List Slot) (come : List ℕ) (disk : Disk) (q : Pair) (more : List Pair) : Type 0 where
@@ -37,10 +37,10 @@ pub record Commits (t : KeptThread) (w : Site) (p : Pair) (l olds news r : List 
   pub files : SameFiles t.disk disk (all_unmoved_slots t.pairs)
 
 -- nor is it in flight
-not_flying : (sets : BlockStates) (bs : List ℕ) → Each (IsInFlight sets) bs → (b : ℕ) → IsFree sets b → number_occurrences b bs ≡ 0
-not_flying sets bs flying b free = go (number_occurrences b bs) refl
+not_flying : (sets : BlockStates) (bs : List ℕ) → Each (IsInFlight sets) bs → (b : ℕ) → IsFree sets b → occurrence_count b bs ≡ 0
+not_flying sets bs flying b free = go (occurrence_count b bs) refl
   where
-    go : (n : ℕ) → number_occurrences b bs ≡ n → n ≡ 0
+    go : (n : ℕ) → occurrence_count b bs ≡ n → n ≡ 0
     go zero e = refl
     go (suc n) e = absurd (let wrong : Some Free ≡ Some InFlight = sym free ∙ each_counted (IsInFlight sets) bs flying b (omega arith) in cc)
 
@@ -60,13 +60,13 @@ module _ (t : KeptThread) (index : ℕ) (changes : List ContentChange) (w : Site
   }
     where
       -- the superblock stays in slot 0
-      go : (l : List Slot) → (l ≡ [] → superblock_first (olds ++ r) ≡ false) → BeginWithSuperblock (l ++ (olds ++ r)) → BeginWithSuperblock (l ++ (news ++ r))
+      go : (l : List Slot) → (l ≡ [] → begins_with_superblock (olds ++ r) ≡ false) → BeginWithSuperblock (l ++ (olds ++ r)) → BeginWithSuperblock (l ++ (news ++ r))
       go [] f e = absurd (let z = sym (f refl) ∙ e.0 in cc)
       go (s ∷ l) f e = e
 
   -- ---- the commit
 
-  pub commits : (disk : Disk) (q : Pair) (more : List Pair) → HasTurned t.disk w p (l ++ (news ++ r)) p.content.move disk q more → ((b : ℕ) → 1 ≤ number_occurrences b (pairs_blocks more) → IsFree t.map b)
+  pub commits : (disk : Disk) (q : Pair) (more : List Pair) → HasTurned t.disk w p (l ++ (news ++ r)) p.content.move disk q more → ((b : ℕ) → 1 ≤ occurrence_count b (pairs_blocks more) → IsFree t.map b)
       → Commits t w p l olds news r come disk q more
   commits disk q more x fresh = record {
     commit = record {
@@ -97,9 +97,9 @@ module _ (t : KeptThread) (index : ℕ) (changes : List ContentChange) (w : Site
     where
       -- a free block is neither used nor one of those that come
       distinct : IsDistinct nat_eq ((pairs_blocks more ++ come) ++ used_blocks t.disk (thread_at w (p ∷ [])))
-      distinct = distinct_from_once ((pairs_blocks more ++ come) ++ used_blocks t.disk (thread_at w (p ∷ []))) (λ b. go b (cases_lt 0 (number_occurrences b (pairs_blocks more))))
+      distinct = distinct_from_once ((pairs_blocks more ++ come) ++ used_blocks t.disk (thread_at w (p ∷ []))) (λ b. go b (cases_lt 0 (occurrence_count b (pairs_blocks more))))
         where
-          go : (b : ℕ) → (0 < number_occurrences b (pairs_blocks more)) ⊎ (number_occurrences b (pairs_blocks more) ≤ 0) → number_occurrences b ((pairs_blocks more ++ come) ++ used_blocks t.disk (thread_at w (p ∷ []))) ≤ 1
+          go : (b : ℕ) → (0 < occurrence_count b (pairs_blocks more)) ⊎ (occurrence_count b (pairs_blocks more) ≤ 0) → occurrence_count b ((pairs_blocks more ++ come) ++ used_blocks t.disk (thread_at w (p ∷ []))) ≤ 1
           go b (inl some) =
               let n = not_flying t.map come k.flying b (fresh b some) in
               let o = once_from_distinct ((pairs_blocks more ++ []) ++ used_blocks t.disk (thread_at w (p ∷ []))) x.free.distinct b in

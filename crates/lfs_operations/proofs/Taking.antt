@@ -1,5 +1,5 @@
 -- Two free blocks that are taken.
-use Rattle.lfs_operations.proofs.Common.{ℕ, zero, suc, ◌≡◌, ◌≢◌, ◌<◌, Bool, true, false, nat_eq, [], ◌∷◌, length, Some, refl, sym, ap, subst, ◌∙◌, arith, set, slice_get, eqb-true, eq-eqb, same_Some, BlockState, BlockStates, IsFree, Free, InFlight, slice_get-set_same, slice_get-set_other, AreTwoFree, map_taking_two}
+use Rattle.lfs_operations.proofs.Common.{ℕ, zero, suc, ◌≡◌, ◌≢◌, ◌<◌, Bool, true, false, nat_eq, [], ◌∷◌, length, Some, refl, sym, ap, subst, ◌∙◌, arith, set, slice_get, eqb-true, eq-eqb, same_Some, BlockState, BlockStates, IsFree, Free, InFlight, slice_get-set_same, slice_get-set_other, AreTwoFreeBlocks, map_allocating_two}
 
 pub within : (sets : BlockStates) (b : ℕ) (s : BlockState) → slice_get sets b ≡ Some s → b < length sets
 within [] b s e = absurd (cc)
@@ -16,7 +16,7 @@ flies : Free ≡ InFlight → ⊥
 flies e = absurd (cc)
 
 -- the second one is another
-pub two_free : (sets : BlockStates) (a b : ℕ) → IsFree sets a → IsFree (set sets a InFlight) b → AreTwoFree sets (a, b)
+pub two_free : (sets : BlockStates) (a b : ℕ) → IsFree sets a → IsFree (set sets a InFlight) b → AreTwoFreeBlocks sets (a, b)
 two_free sets a b first second = record {
   apart = apart;
   first = first;
@@ -27,7 +27,7 @@ two_free sets a b first second = record {
     apart e = flies (sym (same_Some InFlight Free (sym (slice_get-set_same sets a InFlight (within sets a Free first)) ∙ subst (λ z. slice_get (set sets a InFlight) z ≡ Some Free) (sym e) second)))
 
 -- where the second isn't there, no two are
-pub not_two : (sets : BlockStates) (a : ℕ) → ((b : ℕ) → IsFree (set sets a InFlight) b → ⊥) → (fresh : ℕ × ℕ) → AreTwoFree sets fresh → ⊥
+pub not_two : (sets : BlockStates) (a : ℕ) → ((b : ℕ) → IsFree (set sets a InFlight) b → ⊥) → (fresh : ℕ × ℕ) → AreTwoFreeBlocks sets fresh → ⊥
 not_two sets a none fresh two = go (nat_eq fresh.0 a) refl
   where
     go : (t : Bool) → nat_eq fresh.0 a ≡ t → ⊥
@@ -35,7 +35,7 @@ not_two sets a none fresh two = go (nat_eq fresh.0 a) refl
     go true e = none fresh.1 (slice_get-set_other sets a fresh.1 InFlight (λ k. two.apart (eqb-true fresh.0 a e ∙ sym k)) ∙ two.second)
 
 -- both are made free again, the last one first
-pub both_back : (sets : BlockStates) (fresh : ℕ × ℕ) → AreTwoFree sets fresh → set (set (map_taking_two sets fresh) fresh.1 Free) fresh.0 Free ≡ sets
+pub both_back : (sets : BlockStates) (fresh : ℕ × ℕ) → AreTwoFreeBlocks sets fresh → set (set (map_allocating_two sets fresh) fresh.1 Free) fresh.0 Free ≡ sets
 both_back sets fresh two =
     ap (λ z. set z fresh.0 Free) (put_back (set sets fresh.0 InFlight) fresh.1 InFlight Free (slice_get-set_other sets fresh.0 fresh.1 InFlight (λ e. two.apart (sym e)) ∙ two.second))
     ∙ put_back sets fresh.0 InFlight Free two.first

@@ -1,18 +1,18 @@
 -- A pair of an image with nothing to recover, whose commit flips the sync bit: the step, and what a power loss leaves.
-use Rattle.lfs_operations.proofs.Common.{ℕ, ◌≡◌, ◌≢◌, ◌⊎◌, inl, inr, ◌+◌, true, false, List, [], ◌∷◌, ◌++◌, length, Some, refl, sym, ap, subst, ◌∙◌, arith, append-nil, recursion_from_All, Blocks, ContentChange, Disk, SameGeometry, HasEitherTree as IsLeftOf, with_blocks, IsWritableSlot, IsWritable, all_unmoved_slots, disk_tree, pair_with_slots, FitsInPair, Slot, gstate_xor, zero_gstate, PathAddresses, Pair, pairs_gstate, superblock_first, Tree, IsAccepted, fits_same, IsChangedImage, SameFiles, no_move_from, Each, SameFileBlocks, HasNoMove, sync_bit_delta, IsStep, IsSite, Site, thread_at, IsDevice, stays_shape, IsWritableChange, ends_joined, KeptThread, LossLeavesPair, BeginWithSuperblock, complete_after, IsSplice, commit_taken, IsReadyImage}
+use Rattle.lfs_operations.proofs.Common.{ℕ, ◌≡◌, ◌≢◌, ◌⊎◌, inl, inr, ◌+◌, true, false, List, [], ◌∷◌, ◌++◌, length, Some, refl, sym, ap, subst, ◌∙◌, arith, append-nil, recursion_from_All, Blocks, ContentChange, Disk, SameGeometry, HasEitherTree as IsLeftOf, with_blocks, IsWritableSlot, IsWritable, all_unmoved_slots, disk_tree, pair_with_slots, FitsInPair, Slot, gstate_xor, zero_gstate, PathAddresses, Pair, pairs_gstate, begins_with_superblock, Tree, IsAccepted, fits_same, IsChangedImage, SameFiles, no_move_from, Each, SameFileBlocks, HasNoMove, sync_bit_delta, IsStep, IsSite, Site, thread_at, IsDevice, stays_shape, IsWritableChange, last_tail_is_hard, KeptThread, LossLeavesPair, BeginWithSuperblock, complete_after, IsSplice, commit_taken, IsRecoveredWritableImage}
 use Rattle.lfs_model.proofs.SetMoves.{HasTurned}
 use Rattle.lfs_operations.proofs.MovTurned.{IsTurn, content_with, left_alone}
 use Rattle.lfs_model.proofs.Placing.{left_after, left_still}
 use Rattle.lfs_operations.proofs.Threads.{sync_turned}
 
 -- slots that begin with a superblock begin with it when others are replaced
-pub first_kept : (l olds news r : List Slot) → (l ≡ [] → superblock_first (olds ++ r) ≡ false) → BeginWithSuperblock (l ++ (olds ++ r)) → BeginWithSuperblock (l ++ (news ++ r))
+pub first_kept : (l olds news r : List Slot) → (l ≡ [] → begins_with_superblock (olds ++ r) ≡ false) → BeginWithSuperblock (l ++ (olds ++ r)) → BeginWithSuperblock (l ++ (news ++ r))
 first_kept [] olds news r f e = absurd (let z = sym (f refl) ∙ e.0 in cc)
 first_kept (s ∷ l) olds news r f e = e
 
 -- The changes give the pair these slots, in which `news` stand where `olds` did, and flip the sync bit. What they make fits.
 pub record IsSyncTurn (t : KeptThread) (index : ℕ) (changes : List ContentChange) (w : Site) (p : Pair) (slots l olds news r : List Slot) : Type 0 where
-  pub ready : IsReadyImage t
+  pub ready : IsRecoveredWritableImage t
   pub there : t.pairs ≡ thread_at w (p ∷ [])
   pub place : index ≡ length w.chain + length (w.before ++ w.left)
   pub site : IsSite w (p ∷ [])
@@ -20,9 +20,9 @@ pub record IsSyncTurn (t : KeptThread) (index : ℕ) (changes : List ContentChan
   pub fits : FitsInPair t.disk.block_size t.disk.page (content_with p slots (gstate_xor p.content.move sync_bit_delta))
   pub was : p.content.slots ≡ l ++ (olds ++ r)
   pub now : slots ≡ l ++ (news ++ r)
-  pub front : l ≡ [] → superblock_first (olds ++ r) ≡ false
+  pub front : l ≡ [] → begins_with_superblock (olds ++ r) ≡ false
   pub fit : Each (IsWritableSlot t.disk.profile t.disk.block_size t.disk.page) news
-  pub filled : ends_joined false (w.before ++ w.left) ≡ true → l ++ (news ++ r) ≢ []
+  pub filled : last_tail_is_hard false (w.before ++ w.left) ≡ true → l ++ (news ++ r) ≢ []
   pub splice : (disk : Disk) → SameGeometry t.disk disk → SameFiles t.disk disk (all_unmoved_slots t.pairs) → IsSplice t.disk disk [] l olds news r
 
 module _ {t : KeptThread} {index : ℕ} {changes : List ContentChange} {w : Site} {p : Pair} {slots l olds news r : List Slot} (k : IsSyncTurn t index changes w p slots l olds news r) where
@@ -51,10 +51,10 @@ module _ {t : KeptThread} {index : ℕ} {changes : List ContentChange} {w : Site
   pub turn_of : IsTurn t index changes w p slots (gstate_xor p.content.move sync_bit_delta)
   turn_of = record { accepted = k.ready.accepted; there = k.there; place = k.place; site = k.site; made = k.made; first = λ h. subst BeginWithSuperblock (sym k.now) (first_kept l olds news r k.front (subst BeginWithSuperblock k.was (h.kind, h.name))) }
 
-  starts : superblock_first p.content.slots ≡ true → superblock_first slots ≡ true
-  starts e = ap superblock_first k.now ∙ go l k.front (sym (ap superblock_first k.was) ∙ e)
+  starts : begins_with_superblock p.content.slots ≡ true → begins_with_superblock slots ≡ true
+  starts e = ap begins_with_superblock k.now ∙ go l k.front (sym (ap begins_with_superblock k.was) ∙ e)
     where
-      go : (l : List Slot) → (l ≡ [] → superblock_first (olds ++ r) ≡ false) → superblock_first (l ++ (olds ++ r)) ≡ true → superblock_first (l ++ (news ++ r)) ≡ true
+      go : (l : List Slot) → (l ≡ [] → begins_with_superblock (olds ++ r) ≡ false) → begins_with_superblock (l ++ (olds ++ r)) ≡ true → begins_with_superblock (l ++ (news ++ r)) ≡ true
       go [] f e = absurd (let z = sym (f refl) ∙ e in cc)
       go (s ∷ l) f e = e
 

@@ -1,5 +1,5 @@
 -- The removal of an entry, which may flip the sync bit, as a change of its pair.
-use Rattle.lfs_operations.proofs.Common.{ℕ, ◌≡◌, List, [], ◌∷◌, ◌++◌, length, Some, sym, ap, ap₂, subst, ◌∙◌, arith, length-append, remove, sum_by, same_Some, sum_by-append, sum_by-cons, Delete, PutMove, content_with_changes, RawContent, complete_content, raw_content, MoveStateFits, FitsInPair, Gstate, Slot, gstate_xor, slot_size, Pair, complete_length, complete_remove, completed_from, completed_parts, deletes, does_first, does_nothing, puts_move, sync_bit_delta, remove_here, KeptThread, complete_after, thread_pair, option_and_then, CanEditIn, tail_target, CanCommit, ContentChange}
+use Rattle.lfs_operations.proofs.Common.{ℕ, ◌≡◌, List, [], ◌∷◌, ◌++◌, length, Some, sym, ap, ap₂, subst, ◌∙◌, arith, length-append, remove, sum_by, same_Some, sum_by-append, sum_by-cons, Delete, PutMove, content_with_changes, RawContent, decoded_content, raw_content, MoveStateFits, FitsInPair, Gstate, Slot, gstate_xor, slot_size, Pair, complete_length, complete_remove, completed_from, completed_parts, deletes, does_first, does_nothing, puts_move, sync_bit_delta, remove_here, KeptThread, complete_after, thread_pair, option_and_then, CanEditIn, tail_target, CanCommit, ContentChange}
 use Rattle.lfs_operations.proofs.DroppedTails.{move_xor}
 use Rattle.lfs_operations.proofs.Held.{CompletesTo, below, fits_there, here, raw_there}
 use Rattle.lfs_operations.proofs.MovTurned.{content_with}
@@ -78,8 +78,8 @@ module _ {t : KeptThread} {index id : ℕ} (can : CanEditIn t index id) where
     going_made =
         let parts = completed_parts c.raw p.content c.complete in
         let gone = ap₂ (λ (z : List Slot) (i : ℕ). remove z i) can.stands.stands.held (sym can.stands.stands.number) ∙ remove_here l r u in
-        ap (λ o. option_and_then complete_content (option_and_then (λ (x : RawContent). content_with_changes x (Delete id ∷ more)) o)) c.is
-        ∙ ap (λ o. option_and_then complete_content o) changed_now
+        ap (λ o. option_and_then decoded_content (option_and_then (λ (x : RawContent). content_with_changes x (Delete id ∷ more)) o)) c.is
+        ∙ ap (λ o. option_and_then decoded_content o) changed_now
         ∙ completed_from raw_now (remove p.content.slots id) (complete_remove c.raw.slots p.content.slots id parts.slots)
         ∙ ap₂ (λ s z. Some (record { slots = s; tail = z; move = move })) gone (sym parts.tail)
 

@@ -1,5 +1,5 @@
 -- Two steps of the thread that remove an empty directory: the blocks that they write, and their errors.
-use Rattle.lfs_operations.proofs.Common.{◌⊎◌, ℕ, zero, suc, ◌≡◌, ◌≢◌, ◌-◌, ◌<◌, Result, Ok, List, [], ◌∷◌, get_or, set, refl, sym, ap, subst, ◌∙◌, true, cond, inl, inr, IsPairCommitted, ContentChange, All-from_recursion, recursion_from_All, fault_count, PairContent, Pair, address_blocks, addresses_blocks, KeptThread, ThreadView, ChangesThreadBlocks, empty_anchor, thread_pair, sync_bit_delta, All, Error, IsPairDropped, ReportsCommit, drops_emptied_pair, removal_written_address, CanRemoveDirectory, ReportsCommits, ◌++◌, Disk, Session, Blocks, HasEitherTree, with_blocks, tree_removing, tree_with_subtree, None, Path, disk_tree, path_or_root, CompletesOperation, IsGone, tree_without_entry, IsDirectoryRemoved, ArePairsBeforeTouched, ShowsDroppedTree, LeftByDrop, zero_gstate, CanDropAt, arith}
+use Rattle.lfs_operations.proofs.Common.{◌⊎◌, ℕ, zero, suc, ◌≡◌, ◌≢◌, ◌-◌, ◌<◌, Result, Ok, List, [], ◌∷◌, get_or, set, refl, sym, ap, subst, ◌∙◌, true, cond, inl, inr, IsPairCommitted, ContentChange, All-from_recursion, recursion_from_All, fault_count, PairContent, Pair, address_blocks, addresses_blocks, KeptThread, ThreadView, ChangesThreadBlocks, empty_anchor, thread_pair, sync_bit_delta, All, Error, IsPairDropped, ReportsCommit, drops_pair_after_removal, removal_written_address, CanRemoveDirectory, ReportsCommits, ◌++◌, Disk, Session, Blocks, HasEitherTree, with_blocks, tree_removing, tree_with_subtree, None, Path, disk_tree, path_or_root, CompletesOperation, IsGone, tree_without_entry, IsDirectoryRemoved, ArePredecessorsChangedOrDropped, HasTreeAfterDrops, LeftByDrop, zero_gstate, CanDropAt, arith}
 use Rattle.lfs_operations.proofs.Putting.{writes_trans, writes_wider}
 use Rattle.lfs_model.specs.session.Operations as ops
 use Rattle.lfs_operations.proofs.AlteredBehind.{gone_alters}
@@ -63,7 +63,7 @@ pub record IsUnlinked (t m : KeptThread) {index id first gone : ℕ} (take : Can
       → CompletesOperation t.disk t.pairs s (ops.Remove path) new (last.chain ++ (last.front ++ y ∷ last.back))
   pub written : ((thread_pair m (now - 1)).at ≡ (thread_pair t (gone - 1)).at) ⊎ ((thread_pair m (now - 1)).at ≡ removal_written_address t index first)
   pub above : 0 < gone
-  pub entry : drops_emptied_pair t index first ≡ true → CanDropAt t index sync_bit_delta × IsPairDropped t (index - 1) sync_bit_delta m
+  pub entry : drops_pair_after_removal t index first ≡ true → CanDropAt t index sync_bit_delta × IsPairDropped t (index - 1) sync_bit_delta m
 
 module _ {t m : KeptThread} {index id first gone : ℕ} {take : CanRemoveDirectory t index id first gone} {now : ℕ} (k : IsUnlinked t m take now) where
   turned : tree_removing (unlinked_path take) (disk_tree t.disk t.pairs) ≡ tree_without_entry t take.can.path take.can.name
@@ -86,13 +86,13 @@ module _ {t m : KeptThread} {index id first gone : ℕ} {take : CanRemoveDirecto
     module _ (d : IsPairDropped m (now - 1) zero_gstate new) where
       pub directory_removed : IsDirectoryRemoved t new take.can.path take.can.name
       directory_removed = record {
-        now = subst (λ z. ShowsDroppedTree t new z []) turned (shows_dropped k.last new d);
+        now = subst (λ z. HasTreeAfterDrops t new z []) turned (shows_dropped k.last new d);
         completed = λ z given tree is_path. subst (λ s. CompletesOperation t.disk t.pairs z (ops.Remove given) new.disk s) (sym (pairs_end k.last new d))
             (k.completed new.disk (y k.last) (is_gone k.last new.disk d.written) z given tree (is_path ∙ ap (λ n. take.can.path ++ n ∷ []) (sym take.can.stands.stands.named)));
       }
 
       -- the pairs in front of those that go are changed or dropped
-      pub directory_alters : ArePairsBeforeTouched t index first gone new
+      pub directory_alters : ArePredecessorsChangedOrDropped t index first gone new
       directory_alters = record {
         front = gone_alters t new gone k.above take.below take.can.ready.accepted (taken_end k.last new d).follows.accepted (end_gone k.last new d);
         entry = λ whole.
@@ -101,5 +101,5 @@ module _ {t m : KeptThread} {index id first gone : ℕ} {take : CanRemoveDirecto
       }
 
 -- the first step writes the pair in front of an entry's pair that goes
-pub written_whole : (t : KeptThread) (index first : ℕ) → drops_emptied_pair t index first ≡ true → removal_written_address t index first ≡ (thread_pair t (index - 1)).at
+pub written_whole : (t : KeptThread) (index first : ℕ) → drops_pair_after_removal t index first ≡ true → removal_written_address t index first ≡ (thread_pair t (index - 1)).at
 written_whole t index first goes = ap (λ b. cond b (thread_pair t (index - 1)).at (thread_pair t index).at) goes

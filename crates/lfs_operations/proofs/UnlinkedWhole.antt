@@ -1,5 +1,5 @@
 -- The removal of an empty directory's entry with its pair, as the first of two steps of the thread.
-use Rattle.lfs_operations.proofs.Common.{ℕ, ◌≡◌, ◌⊎◌, inl, inr, ◌+◌, ◌-◌, ◌<◌, Bool, true, false, cond, List, [], ◌∷◌, ◌++◌, length, refl, sym, ap, ap₂, subst, ◌∙◌, arith, append_assoc, append-nil, length-append, None, tree_removing, tree_with_subtree, Blocks, Disk, HasEitherTree as IsLeftOf, with_blocks, PairContent, Gstate, Slot, zero_gstate, Pair, pairs_gstate, superblock_first, count_before_root, Path, IsAccepted, IsWritable, LeadsTo, disk_tree, used_blocks, CompletesOperation, no_move_from, number_occurrences, HasNoMove, sync_bit_delta, IsStep, directory_goes, step_chain, Site, dirs_at, thread_at, drop_shape, file_blocks, IsWritableChange, KeptThread, IsPairWritten, thread_pair, IsChain, drop_taken, CanDropAt, IsPairDropped, LeftByDrop, content_after_drop, CanEditIn, tree_without_entry, CanRemoveDirectory, number_after_drop, le-ltb, lt-ltb, subst₂, drops_emptied_pair, removal_written_address}
+use Rattle.lfs_operations.proofs.Common.{ℕ, ◌≡◌, ◌⊎◌, inl, inr, ◌+◌, ◌-◌, ◌<◌, Bool, true, false, cond, List, [], ◌∷◌, ◌++◌, length, refl, sym, ap, ap₂, subst, ◌∙◌, arith, append_assoc, append-nil, length-append, None, tree_removing, tree_with_subtree, Blocks, Disk, HasEitherTree as IsLeftOf, with_blocks, PairContent, Gstate, Slot, zero_gstate, Pair, pairs_gstate, begins_with_superblock, count_before_root, Path, IsAccepted, IsWritable, IsDirectoryAtPath, disk_tree, used_blocks, CompletesOperation, no_move_from, occurrence_count, HasNoMove, sync_bit_delta, IsStep, directory_goes, step_chain, Site, dirs_at, thread_at, drop_shape, file_blocks, IsWritableChange, KeptThread, IsPairWritten, thread_pair, IsChain, drop_taken, CanDropAt, IsPairDropped, LeftByDrop, content_after_drop, CanEditIn, tree_without_entry, CanRemoveDirectory, pair_index_after_drop, le-ltb, lt-ltb, subst₂, drops_pair_after_removal, removal_written_address}
 use Rattle.lfs_model.specs.session.Operations as ops
 use Rattle.lfs_operations.proofs.Dropped.{HasMapWithout, IsToBeDropped, can_drop_pair, device_left, front_there, left_dropped, map_dropped, pairs_left, slots_left, state_left, tail_left}
 use Rattle.lfs_operations.proofs.DroppedTails.{front_is}
@@ -9,12 +9,12 @@ use Rattle.lfs_model.proofs.EmptyDirectories.{HasFront}
 use Rattle.lfs_operations.proofs.OwnPair.{HasOwnPair, led_to, own_pair}
 use Rattle.lfs_model.proofs.GoneWhole.{HasPlaceWhole, UnlinksWhole, place_whole}
 use Rattle.lfs_operations.proofs.LastDrop.{IsAllButDropped, x_there}
-use Rattle.lfs_operations.specs.Unlinking.{IsEntryUnlinked, LeftByUnlink, number_after_unlink}
+use Rattle.lfs_operations.specs.Unlinking.{IsEntryUnlinked, LeftByUnlink, pair_index_after_unlink}
 use Rattle.lfs_operations.proofs.RmdirThread.{left_beside, unlinked_beside}
 use Rattle.lfs_operations.proofs.Unlinked.{sync_small}
 use Rattle.lfs_operations.proofs.UnlinkedSteps.{IsUnlinked, written_whole}
 
-module _ (t : KeptThread) (index id first gone : ℕ) (take : CanRemoveDirectory t index id first gone) (goes : drops_emptied_pair t index first ≡ true) where
+module _ (t : KeptThread) (index id first gone : ℕ) (take : CanRemoveDirectory t index id first gone) (goes : drops_pair_after_removal t index first ≡ true) where
   abbrev can : CanEditIn t index id
   can = take.can
 
@@ -51,8 +51,8 @@ module _ (t : KeptThread) (index id first gone : ℕ) (take : CanRemoveDirectory
   settled : pairs_gstate old ≡ zero_gstate
   settled = ap pairs_gstate (sym s.there) ∙ can.ready.settled
 
-  leads : LeadsTo old can.path can.at
-  leads = subst (λ z. LeadsTo z can.path can.at) s.there can.leads
+  leads : IsDirectoryAtPath old can.path can.at
+  leads = subst (λ z. IsDirectoryAtPath z can.path can.at) s.there can.leads
 
   -- ---- the pair that is dropped
 
@@ -94,7 +94,7 @@ module _ (t : KeptThread) (index id first gone : ℕ) (take : CanRemoveDirectory
     still_none = no_move_middle;
     device = device_left dropping disk h;
     free = record { distinct = accepted.owned_once; in_range = λ k d x. absurd (omega arith) };
-    shape = drop_shape x0 e q refl tail_same (λ k. ap superblock_first (slots_left dropping) ∙ k);
+    shape = drop_shape x0 e q refl tail_same (λ k. ap begins_with_superblock (slots_left dropping) ∙ k);
     was = ap (λ z. x0.content.slots ++ (z ++ [])) s.held;
     is = append-nil q.content.slots ∙ (slots_left dropping) ∙ sym (append-nil x0.content.slots);
     splice = record { front = λ k. can.stands.stands.entry; entries = tt; lists = tt; blocks = λ b. omega arith };
@@ -131,7 +131,7 @@ module _ (t : KeptThread) (index id first gone : ℕ) (take : CanRemoveDirectory
 
   -- the number that the pair has then
   abbrev now : ℕ
-  now = number_after_drop index gone
+  now = pair_index_after_drop index gone
 
   module _ (m : KeptThread) (h : IsPairDropped t (index - 1) sync_bit_delta m) where
     abbrev k : HasPlaceWhole t.disk m.disk w x0 e q u can.path o (length front.front) front.before
@@ -141,7 +141,7 @@ module _ (t : KeptThread) (index id first gone : ℕ) (take : CanRemoveDirectory
     pairs_middle = pairs_left dropping m h
 
     -- it stands behind one pair fewer where it stood behind the entry's
-    number_now : length (w.chain ++ k.front) + 1 ≡ number_after_drop index gone
+    number_now : length (w.chain ++ k.front) + 1 ≡ pair_index_after_drop index gone
     number_now = go k.number
       where
         index_is : index ≡ length w.chain + length (w.before ++ w.left) + 1
@@ -151,7 +151,7 @@ module _ (t : KeptThread) (index id first gone : ℕ) (take : CanRemoveDirectory
         gone_is = let f = length-append w.chain front.front in let g = own.number in omega arith
 
         go : ((length (w.before ++ w.left) + 1 < length front.front + 1) × (length k.front + 1 ≡ length front.front)) ⊎ ((length front.front + 1 < length (w.before ++ w.left) + 1) × (length k.front ≡ length front.front))
-            → length (w.chain ++ k.front) + 1 ≡ number_after_drop index gone
+            → length (w.chain ++ k.front) + 1 ≡ pair_index_after_drop index gone
         go (inl (less, one)) =
             let a = length-append w.chain k.front in
             let same : length (w.chain ++ k.front) + 1 ≡ gone - 1 = omega (arith, a, one, gone_is) in
@@ -163,8 +163,8 @@ module _ (t : KeptThread) (index id first gone : ℕ) (take : CanRemoveDirectory
 
     map_middle : HasMapWithout t.map m.map (used_blocks m.disk m.pairs)
     map_middle = map_dropped dropping m h (no_move_from t.pairs can.ready.settled) (record { kind = refl; id = refl; pair = refl }) can.ready.used (used_blocks m.disk m.pairs) (λ b.
-        let f3 = ap (λ z. number_occurrences b (file_blocks t.disk z)) s.held in
-        let f4 : number_occurrences b (file_blocks t.disk (u ∷ [])) ≡ 0 = ap (λ z. number_occurrences b (file_blocks t.disk (record u { struct = z } ∷ []))) take.branch in
+        let f3 = ap (λ z. occurrence_count b (file_blocks t.disk z)) s.held in
+        let f4 : occurrence_count b (file_blocks t.disk (u ∷ [])) ≡ 0 = ap (λ z. occurrence_count b (file_blocks t.disk (record u { struct = z } ∷ []))) take.branch in
         omega arith)
 
     chain_middle : IsChain w.chain (dirs_at w (q ∷ []))
@@ -211,7 +211,7 @@ module _ (t : KeptThread) (index id first gone : ℕ) (take : CanRemoveDirectory
         go (inl z) = inl (ap (λ (v : Pair). v.at) x_now ∙ z ∙ ap (λ (v : Pair). v.at) (sym old_front))
         go (inr z) = inr (ap (λ (v : Pair). v.at) x_now ∙ z ∙ ap (λ (v : Pair). v.at) (sym (front_there dropping)) ∙ sym (written_whole t index first goes))
 
-    pub unlinked_whole : IsUnlinked t m take (number_after_drop index gone)
+    pub unlinked_whole : IsUnlinked t m take (pair_index_after_drop index gone)
     unfolding may_go
     unlinked_whole = record {
       last = may_go;
@@ -229,16 +229,16 @@ module _ (t : KeptThread) (index id first gone : ℕ) (take : CanRemoveDirectory
 -- ---- either way
 
 module _ (t : KeptThread) (index id first gone : ℕ) (take : CanRemoveDirectory t index id first gone) where
-  pub unlinked : (m : KeptThread) → IsEntryUnlinked t index id first m → IsUnlinked t m take (number_after_unlink t index first gone)
-  unlinked m is = by (drops_emptied_pair t index first) refl
+  pub unlinked : (m : KeptThread) → IsEntryUnlinked t index id first m → IsUnlinked t m take (pair_index_after_unlink t index first gone)
+  unlinked m is = by (drops_pair_after_removal t index first) refl
     where
-      by : (b : Bool) → drops_emptied_pair t index first ≡ b → IsUnlinked t m take (number_after_unlink t index first gone)
-      by true e = subst (λ b. IsUnlinked t m take (cond b (number_after_drop index gone) gone)) (sym e) (unlinked_whole t index id first gone take e m (is.goes e))
-      by false e = subst (λ b. IsUnlinked t m take (cond b (number_after_drop index gone) gone)) (sym e) (unlinked_beside t index id first gone take e m (is.stays e))
+      by : (b : Bool) → drops_pair_after_removal t index first ≡ b → IsUnlinked t m take (pair_index_after_unlink t index first gone)
+      by true e = subst (λ b. IsUnlinked t m take (cond b (pair_index_after_drop index gone) gone)) (sym e) (unlinked_whole t index id first gone take e m (is.goes e))
+      by false e = subst (λ b. IsUnlinked t m take (cond b (pair_index_after_drop index gone) gone)) (sym e) (unlinked_beside t index id first gone take e m (is.stays e))
 
   pub left_first : (left : Blocks) → LeftByUnlink t index id first left → IsLeftOf (with_blocks left t.disk) (disk_tree t.disk t.pairs) (tree_without_entry t take.can.path take.can.name)
-  left_first left is = by (drops_emptied_pair t index first) refl
+  left_first left is = by (drops_pair_after_removal t index first) refl
     where
-      by : (b : Bool) → drops_emptied_pair t index first ≡ b → IsLeftOf (with_blocks left t.disk) (disk_tree t.disk t.pairs) (tree_without_entry t take.can.path take.can.name)
+      by : (b : Bool) → drops_pair_after_removal t index first ≡ b → IsLeftOf (with_blocks left t.disk) (disk_tree t.disk t.pairs) (tree_without_entry t take.can.path take.can.name)
       by true e = whole_first t index id first gone take e left (is.goes e)
       by false e = left_beside t index id first gone take e left (is.stays e)

@@ -1,12 +1,12 @@
 -- A worn pair behind a hard tail is relocated to two other blocks: the image has the same tree, also in a power loss.
 use Rattle.std.proofs.Common.{ℕ, suc, ◌≡◌, ◌+◌, ◌-◌, ◌%◌, ◌^◌, ◌⊎◌, inl, inr, true, cond, List, [], ◌∷◌, ◌++◌, length, Some, refl, sym, ap, ap₂, subst, subst₂, ◌∙◌, arith, set, ◌&&◌}
-use Rattle.lfs_operations.proofs.Common.{All-from_recursion, once_from_distinct, Blocks, AreUsed, BlockStates, content_at, Disk, HasEitherTree, with_blocks, FitsInPair, Pair, pairs_gstate, is_hard_tail, addresses_blocks, has_superblock, count_before_root, disk_tree, used_blocks, Each, HasNoMove, Site, KeepsOutsideBoth, KeptThread, HasOldPair, ChangesThreadBlocks, map_freeing, map_using, thread_pair, option_map, has_no_entry, is_worn, pair_joined_to, device_from, IsSameWritable, CanMoveNext, IsNextMoved, LossLeavesNextMoved, pair_revision, KeepsSuperblockFirst, AreTwoFree, map_taking_two, SameInFlight, CallEvent, CleanLossLeaves, SurvivesLossSince, AreFree}
-use Rattle.lfs_model.specs.format.Thread.{superblock_or_later}
+use Rattle.lfs_operations.proofs.Common.{All-from_recursion, once_from_distinct, Blocks, AreUsed, BlockStates, content_at, Disk, HasEitherTree, with_blocks, FitsInPair, Pair, pairs_gstate, is_hard_tail, addresses_blocks, has_superblock, count_before_root, disk_tree, used_blocks, Each, HasNoMove, Site, KeepsOutsideBoth, KeptThread, HasOldPair, ChangesThreadBlocks, map_freeing, map_using, thread_pair, option_map, has_no_entry, is_worn, pair_joined_to, device_from, IsSameWritable, CanMoveNext, IsNextMoved, LossLeavesNextMoved, pair_revision, KeepsSuperblockFirst, AreTwoFreeBlocks, map_allocating_two, HasSameBlocksInFlight, CallEvent, CleanLossLeaves, SurvivesLossSince, AreFree}
+use Rattle.lfs_model.specs.format.Thread.{superblock_first_or_empty}
 use Rattle.lfs_model.proofs.MovedBlocks.{relocated_blocks, relocated_length}
 use Rattle.lfs_model.proofs.Relocated.{IsRelocated}
 use Rattle.lfs_model.proofs.Worn.{pair_moves}
 use Rattle.lfs_thread.specs.Moves.{BeginsWithAnySuperblock, NextMovedOnDisk}
-use Rattle.lfs_operations.specs.Wear.{CanMovePair, IsWornMoved}
+use Rattle.lfs_operations.specs.Wear.{CanRelocateWornPair, IsWornPairRelocated}
 use Rattle.lfs_operations.proofs.Dropped.{HasMapWithout, map_without}
 use Rattle.lfs_operations.proofs.DroppedTails.{TwoAt, gone_is, two_at}
 use Rattle.lfs_operations.proofs.Owning.{length_now, used_more}
@@ -27,8 +27,8 @@ set_next (z ∷ xs) q x ys y =
 -- as many pairs come before the root directory's first one
 module _ (p x : Pair) (to : ℕ × ℕ) (back : List Pair) (hard : is_hard_tail p.content.tail ≡ true) where
   superblock_same : (ahead : List Pair) → has_superblock (ahead ++ pair_joined_to to p.content.slots p ∷ record x { at = to } ∷ back) ≡ has_superblock (ahead ++ p ∷ x ∷ back)
-  superblock_same [] = ap (λ b. superblock_or_later p.content.slots (b && has_superblock (x ∷ back))) (sym hard)
-  superblock_same (z ∷ ahead) = ap (λ b. superblock_or_later z.content.slots (is_hard_tail z.content.tail && b)) (superblock_same ahead)
+  superblock_same [] = ap (λ b. superblock_first_or_empty p.content.slots (b && has_superblock (x ∷ back))) (sym hard)
+  superblock_same (z ∷ ahead) = ap (λ b. superblock_first_or_empty z.content.slots (is_hard_tail z.content.tail && b)) (superblock_same ahead)
 
   count_same : (ahead : List Pair) → count_before_root (ahead ++ pair_joined_to to p.content.slots p ∷ record x { at = to } ∷ back) ≡ count_before_root (ahead ++ p ∷ x ∷ back)
   count_same [] = ap (λ b. cond (has_superblock (x ∷ back) && (has_no_entry p.content.slots && b)) (1 + count_before_root (x ∷ back)) 0) (sym hard)
@@ -41,12 +41,12 @@ record IsThere (t : KeptThread) (front : ℕ) (p x : Pair) (fresh : ℕ × ℕ) 
   written : IsWrittenBeside t front fresh (pair_joined_to fresh p.content.slots p).content x.content disk
   anew : BeginsWithAnySuperblock (record x { at = fresh }) disk
 
-module _ (t : KeptThread) (index : ℕ) (fresh : ℕ × ℕ) (can : CanMovePair t index fresh) where
+module _ (t : KeptThread) (index : ℕ) (fresh : ℕ × ℕ) (can : CanRelocateWornPair t index fresh) where
   -- the pair before the worn one, and the worn one
   at : TwoAt t.pairs (index - 1)
   at = two_at t.pairs (index - 1) (let a = can.above in let b = can.below in omega arith)
 
-  abbrev two : AreTwoFree t.map fresh
+  abbrev two : AreTwoFreeBlocks t.map fresh
   two = can.free
 
   abbrev front : ℕ
@@ -98,7 +98,7 @@ module _ (t : KeptThread) (index : ℕ) (fresh : ℕ × ℕ) (can : CanMovePair 
   fit : Each (λ (z : Pair). FitsInPair t.disk.block_size t.disk.page z.content) (at.one ∷ at.other ∷ at.back)
   fit = beside.fit t can.ready front w p at.is place fresh two
 
-  pub can_move : {s : KeptThread} → s ≡ with_map t (map_taking_two t.map fresh) → CanMoveNext s (index - 1) fresh
+  pub can_move : {s : KeptThread} → s ≡ with_map t (map_allocating_two t.map fresh) → CanMoveNext s (index - 1) fresh
   can_move taken = subst (λ (s : KeptThread). CanMoveNext s (index - 1) fresh) (sym taken) (record {
     below = let a = can.above in let b = can.below in omega arith;
     joined = can.joined;
@@ -134,24 +134,24 @@ module _ (t : KeptThread) (index : ℕ) (fresh : ℕ × ℕ) (can : CanMovePair 
 
   -- ---- at a power loss
 
-  left_moved : (left : Blocks) → LossLeavesNextMoved (with_map t (map_taking_two t.map fresh)) (index - 1) fresh left → HasEitherTree (with_blocks left t.disk) (disk_tree t.disk t.pairs) (disk_tree t.disk t.pairs)
+  left_moved : (left : Blocks) → LossLeavesNextMoved (with_map t (map_allocating_two t.map fresh)) (index - 1) fresh left → HasEitherTree (with_blocks left t.disk) (disk_tree t.disk t.pairs) (disk_tree t.disk t.pairs)
   left_moved left l = go l.content
     where
-      go : HasOldPair (with_map t (map_taking_two t.map fresh)) (index - 1) (with_blocks left t.disk) ⊎ NextMovedOnDisk (with_map t (map_taking_two t.map fresh)) (index - 1) fresh (with_blocks left t.disk)
+      go : HasOldPair (with_map t (map_allocating_two t.map fresh)) (index - 1) (with_blocks left t.disk) ⊎ NextMovedOnDisk (with_map t (map_allocating_two t.map fresh)) (index - 1) fresh (with_blocks left t.disk)
           → HasEitherTree (with_blocks left t.disk) (disk_tree t.disk t.pairs) (disk_tree t.disk t.pairs)
       go (inl b) = beside.left_old t can.ready front w p at.is place fresh two left l.others b
       go (inr n) = beside.shows_tree t can.ready front w p at.is place fresh two (with_blocks left t.disk) qs (same_writable (with_blocks left t.disk)
           (subst₂ (λ (a b : Pair). IsThere t (index - 1) a b fresh (with_blocks left t.disk)) front_there next_there
           (record { written = record { shape = shape_left t left l.others.count; others = l.others; here = n.leads; behind = n.moved; first = n.first }; anew = n.anew })))
 
-  pub move_survives : {s : KeptThread} {new : List CallEvent} → s ≡ with_map t (map_taking_two t.map fresh) → CleanLossLeaves s.history new (LossLeavesNextMoved s (index - 1) fresh)
+  pub move_survives : {s : KeptThread} {new : List CallEvent} → s ≡ with_map t (map_allocating_two t.map fresh) → CleanLossLeaves s.history new (LossLeavesNextMoved s (index - 1) fresh)
       → SurvivesLossSince t.disk t.history new (disk_tree t.disk t.pairs) (disk_tree t.disk t.pairs)
   move_survives {new = new} taken stops = survives_step t.disk left_moved (subst (λ (s : KeptThread). CleanLossLeaves s.history new (LossLeavesNextMoved s (index - 1) fresh)) taken stops)
 
   -- ---- it was done
 
-  module _ (new : KeptThread) (is : IsNextMoved (with_map t (map_taking_two t.map fresh)) (index - 1) fresh new)
-      (writes : ChangesThreadBlocks (addresses_blocks (thread_pair t (index - 1)).at fresh) (with_map t (map_taking_two t.map fresh)) new) where
+  module _ (new : KeptThread) (is : IsNextMoved (with_map t (map_allocating_two t.map fresh)) (index - 1) fresh new)
+      (writes : ChangesThreadBlocks (addresses_blocks (thread_pair t (index - 1)).at fresh) (with_map t (map_allocating_two t.map fresh)) new) where
     pairs : new.pairs ≡ qs
     pairs = is.pairs ∙ ap₂ (λ (a b : Pair). set (set t.pairs front (pair_joined_to fresh a.content.slots a)) (front + 1) (record b { at = fresh })) front_there next_there
         ∙ ap₂ (λ (z : List Pair) (i : ℕ). set (set z i q) (i + 1) y) at.is (sym at.number)
@@ -170,7 +170,7 @@ module _ (t : KeptThread) (index : ℕ) (fresh : ℕ × ℕ) (can : CanMovePair 
     us = fresh.0 ∷ fresh.1 ∷ used_blocks t.disk ps
 
     abbrev using : BlockStates
-    using = map_using (map_taking_two t.map fresh) fresh
+    using = map_using (map_allocating_two t.map fresh) fresh
 
     now : HasMapWithout using new.map (used_blocks new.disk qs)
     now = map_without using at.other.at us (used_blocks new.disk qs)
@@ -179,10 +179,10 @@ module _ (t : KeptThread) (index : ℕ) (fresh : ℕ × ℕ) (can : CanMovePair 
         (λ b. let e = relocated_blocks t.disk new.disk at.ahead p x q y at.back no_move (relocated new.disk there) b in omega arith)
         new.map (is.map ∙ ap (λ (z : Pair). map_freeing using z.at) next_there)
 
-    flying : SameInFlight t.map new.map
+    flying : HasSameBlocksInFlight t.map new.map
     flying b = let f = beside.flying t can.ready front w p at.is place fresh two b in ((λ h. f.0 ((now.flying b).0 h)), (λ h. (now.flying b).1 (f.1 h)))
 
-    moved_now : IsWornMoved t index fresh new
+    moved_now : IsWornPairRelocated t index fresh new
     moved_now = record {
       moved = record {
         front = at.ahead;
@@ -206,6 +206,6 @@ module _ (t : KeptThread) (index : ℕ) (fresh : ℕ × ℕ) (can : CanMovePair 
       root = ap count_before_root pairs ∙ count_same p x fresh at.back hard at.ahead ∙ ap count_before_root (sym at.is);
     }
 
-  pub moved_at : {s new : KeptThread} → s ≡ with_map t (map_taking_two t.map fresh) → IsNextMoved s (index - 1) fresh new → ChangesThreadBlocks (addresses_blocks (thread_pair s (index - 1)).at fresh) s new → IsWornMoved t index fresh new
+  pub moved_at : {s new : KeptThread} → s ≡ with_map t (map_allocating_two t.map fresh) → IsNextMoved s (index - 1) fresh new → ChangesThreadBlocks (addresses_blocks (thread_pair s (index - 1)).at fresh) s new → IsWornPairRelocated t index fresh new
   moved_at {new = new} taken is writes = moved_now new (subst (λ (s : KeptThread). IsNextMoved s (index - 1) fresh new) taken is)
       (subst (λ (s : KeptThread). ChangesThreadBlocks (addresses_blocks (thread_pair s (index - 1)).at fresh) s new) taken writes)

@@ -1,11 +1,11 @@
 -- The result of a relocation: nothing, or a move by the plan.
-use Rattle.lfs_operations.proofs.Common.{ℕ, Bool, cond, None, ◌-◌, is_worn, AreTwoFree, ◌≡◌, ◌+◌, ◌<◌, ◌≤◌, inl, inr, true, false, List, [], ◌∷◌, ◌++◌, length, Some, refl, sym, ap, ap₂, subst, ◌∙◌, arith, append_assoc, length-append, take, slice_get, same_Some, AllByRecursion, Contains, recursion_from_All, each_left, each_right, Pair, address_view, same_pair, count_before_root, all_unmoved_slots, used_blocks, IsPairAt, KeepsOutsideBoth, KeptThread, is_hard_tail, thread_pair, pair_joined_to, IsReadyImage, PairContent, tail_target}
+use Rattle.lfs_operations.proofs.Common.{ℕ, Bool, cond, None, ◌-◌, is_worn, AreTwoFreeBlocks, ◌≡◌, ◌+◌, ◌<◌, ◌≤◌, inl, inr, true, false, List, [], ◌∷◌, ◌++◌, length, Some, refl, sym, ap, ap₂, subst, ◌∙◌, arith, append_assoc, length-append, take, slice_get, same_Some, AllByRecursion, Contains, recursion_from_All, each_left, each_right, Pair, address_of_array, same_pair, count_before_root, all_unmoved_slots, used_blocks, IsPairAt, KeepsOutsideBoth, KeptThread, is_hard_tail, thread_pair, pair_joined_to, IsRecoveredWritableImage, PairContent, tail_target}
 use Rattle.std.proofs.lemmas.List.Elements.{All-contains_itself}
 use Rattle.lfs_model.specs.session.Moved.{pair_behind}
 use Rattle.lfs_model.proofs.BlockSets.{used_count-AreUsed}
 use Rattle.std.specs.Bool.{OnTrue}
-use Rattle.lfs_operations.specs.Wear.{CanMovePair, HasRelocated, HasUnloadRoom, IsWornMoved, IsRootExpanded, IsWornUnloaded, ShowsSameFiles, MovesByPlan}
-use Rattle.lfs_operations.specs.declared.wear.MovePlan.{MovePlan}
+use Rattle.lfs_operations.specs.Wear.{CanRelocateWornPair, HasRelocated, HasFreeBlocksForSplit, IsWornPairRelocated, IsSuperblockChainExpanded, AreWornPairSlotsMoved, KeepsTreeAndFiles, RelocatesByPlan}
+use Rattle.lfs_operations.specs.declared.wear.RelocationPlan.{RelocationPlan}
 use Rattle.lfs_operations.proofs.RecoverLists.{files_itself}
 use Rattle.lfs_model.proofs.PairLists.{get_behind}
 use Rattle.std.proofs.lemmas.Option.{slice_get_within}
@@ -25,8 +25,8 @@ pub next_joined : (b : Bool) (next index : ℕ) → Some next ≡ cond b (Some (
 next_joined true next index e = (refl, same_Some next (index + 1) e)
 next_joined false next index e = absurd (cc)
 
-pub can_go : (t : KeptThread) (index next : ℕ) (fresh : ℕ × ℕ) → IsReadyImage t → Some next ≡ cond (is_hard_tail (thread_pair t index).content.tail) (Some (index + 1)) None → next < length t.pairs
-    → is_worn t.disk (thread_pair t next) ≡ true → AreTwoFree t.map fresh → CanMovePair t next fresh
+pub can_go : (t : KeptThread) (index next : ℕ) (fresh : ℕ × ℕ) → IsRecoveredWritableImage t → Some next ≡ cond (is_hard_tail (thread_pair t index).content.tail) (Some (index + 1)) None → next < length t.pairs
+    → is_worn t.disk (thread_pair t next) ≡ true → AreTwoFreeBlocks t.map fresh → CanRelocateWornPair t next fresh
 can_go t index next fresh ready follows below worn two =
     let k : (is_hard_tail (thread_pair t index).content.tail ≡ true) × (next ≡ index + 1) = next_joined (is_hard_tail (thread_pair t index).content.tail) next index follows in
     let n = k.1 in
@@ -41,7 +41,7 @@ can_go t index next fresh ready follows below worn two =
 
 -- ---- nothing moves
 
-same_files : (t : KeptThread) → IsReadyImage t → ShowsSameFiles t t
+same_files : (t : KeptThread) → IsRecoveredWritableImage t → KeepsTreeAndFiles t t
 same_files t ready = record {
   ready = ready;
   shows = refl;
@@ -50,15 +50,15 @@ same_files t ready = record {
   flying = λ b. ((λ h. h), (λ h. h));
 }
 
-pub none_moves : (t : KeptThread) (root : ℕ) (plan : MovePlan) → IsReadyImage t → root ≡ count_before_root t.pairs → HasRelocated t plan t root
+pub none_moves : (t : KeptThread) (root : ℕ) (plan : RelocationPlan) → IsRecoveredWritableImage t → root ≡ count_before_root t.pairs → HasRelocated t plan t root
 none_moves t root plan ready root_is = record { moved = inl refl; files = same_files t ready; few = inl (omega arith); root_is = root_is }
 
 -- ---- a move by the plan
 
-module _ (t : KeptThread) (root : ℕ) (index : ℕ) (plan : MovePlan) (ready : IsReadyImage t) (root_is : root ≡ count_before_root t.pairs) (found : IsPairAt t.pairs (address_view plan.at) index) (new : KeptThread) where
+module _ (t : KeptThread) (root : ℕ) (index : ℕ) (plan : RelocationPlan) (ready : IsRecoveredWritableImage t) (root_is : root ≡ count_before_root t.pairs) (found : IsPairAt t.pairs (address_of_array plan.at) index) (new : KeptThread) where
   -- the pair p was written, whose number is the plan's, and names y
   by_plan : (front : List Pair) (p : Pair) (gone back : List Pair) (c : PairContent) (y : Pair) → t.pairs ≡ front ++ p ∷ (gone ++ back) → length front ≡ index → new.pairs ≡ front ++ record { at = p.at; content = c } ∷ y ∷ back
-      → tail_target c.tail ≡ Some y.at → y.at ≡ address_view plan.fresh → KeepsOutsideBoth p.at (address_view plan.fresh) t.disk.blocks new.disk.blocks → MovesByPlan t plan new
+      → tail_target c.tail ≡ Some y.at → y.at ≡ address_of_array plan.fresh → KeepsOutsideBoth p.at (address_of_array plan.fresh) t.disk.blocks new.disk.blocks → RelocatesByPlan t plan new
   by_plan front p gone back c y was number is next to others = record {
     front = front;
     written = record { at = p.at; content = c };
@@ -68,7 +68,7 @@ module _ (t : KeptThread) (root : ℕ) (index : ℕ) (plan : MovePlan) (ready : 
     stay = each_left (Contains t.pairs) front (p ∷ (gone ++ back)) among;
     stay_behind = each_right (Contains t.pairs) gone back (each_right (Contains t.pairs) front (p ∷ (gone ++ back)) among).1;
     next = next;
-    at = ap (λ (z : Pair). same_pair z.at (address_view plan.at)) (sym (same_Some found.pair p (sym found.there ∙ ap₂ (λ (z : List Pair) (i : ℕ). slice_get z i) was (sym number) ∙ get_behind front p (gone ++ back)))) ∙ found.same;
+    at = ap (λ (z : Pair). same_pair z.at (address_of_array plan.at)) (sym (same_Some found.pair p (sym found.there ∙ ap₂ (λ (z : List Pair) (i : ℕ). slice_get z i) was (sym number) ∙ get_behind front p (gone ++ back)))) ∙ found.same;
     to = to;
     others = subst (λ z. KeepsOutsideBoth p.at z t.disk.blocks new.disk.blocks) (sym to) others;
   }
@@ -76,7 +76,7 @@ module _ (t : KeptThread) (root : ℕ) (index : ℕ) (plan : MovePlan) (ready : 
       among : AllByRecursion (Contains t.pairs) (front ++ p ∷ (gone ++ back))
       among = subst (AllByRecursion (Contains t.pairs)) was (recursion_from_All (Contains t.pairs) t.pairs (All-contains_itself t.pairs))
 
-  pub pair_goes : (next : ℕ) → next ≡ index + 1 → IsWornMoved t next (address_view plan.fresh) new → HasRelocated t plan new root
+  pub pair_goes : (next : ℕ) → next ≡ index + 1 → IsWornPairRelocated t next (address_of_array plan.fresh) new → HasRelocated t plan new root
   pair_goes next follows m = record {
     moved = inr (
       inl m.moved,
@@ -88,13 +88,13 @@ module _ (t : KeptThread) (root : ℕ) (index : ℕ) (plan : MovePlan) (ready : 
     root_is = root_is ∙ sym m.root;
   }
 
-  few_used : (limit : ℕ) → HasUnloadRoom t limit → length (used_blocks new.disk new.pairs) ≡ length (used_blocks t.disk t.pairs) + 2 → length (used_blocks new.disk new.pairs) ≤ limit
+  few_used : (limit : ℕ) → HasFreeBlocksForSplit t limit → length (used_blocks new.disk new.pairs) ≡ length (used_blocks t.disk t.pairs) + 2 → length (used_blocks new.disk new.pairs) ≤ limit
   few_used limit room more =
       let e = used_count-AreUsed t.map (used_blocks t.disk t.pairs) ready.accepted.owned_once ready.used in
       let w = room.within in
       omega (arith, e, w, more)
 
-  pub slots_go : HasUnloadRoom t plan.limit → IsWornUnloaded t index (address_view plan.fresh) new → HasRelocated t plan new root
+  pub slots_go : HasFreeBlocksForSplit t plan.limit → AreWornPairSlotsMoved t index (address_of_array plan.fresh) new → HasRelocated t plan new root
   slots_go room m = record {
     moved = inr (
       inr (inl m.unloaded),
@@ -107,7 +107,7 @@ module _ (t : KeptThread) (root : ℕ) (index : ℕ) (plan : MovePlan) (ready : 
     root_is = root_is ∙ sym m.root;
   }
 
-  pub root_goes : index ≡ 0 → HasUnloadRoom t plan.limit → IsRootExpanded t (address_view plan.fresh) new → HasRelocated t plan new 1
+  pub root_goes : index ≡ 0 → HasFreeBlocksForSplit t plan.limit → IsSuperblockChainExpanded t (address_of_array plan.fresh) new → HasRelocated t plan new 1
   root_goes first room m = record {
     moved = inr (
       inr (inr m.unloaded),

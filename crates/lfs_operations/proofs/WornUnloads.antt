@@ -3,10 +3,10 @@
 use Rattle.std.proofs.Common.{ℕ, ◌≡◌, ◌≢◌, ◌+◌, ◌-◌, ◌*◌, ◌%◌, ◌^◌, ◌<◌, ◌≤◌, ◌⊎◌, inl, inr, true, false, cond, List, [], ◌∷◌, ◌++◌, length, refl, sym, ap, ap₂, subst, subst₂, ◌∙◌, arith, append_assoc, length-append, slice_get, take, drop}
 use Rattle.std.specs.Prelude.{All}
 use Rattle.std.proofs.lemmas.Bool.{and_from}
-use Rattle.lfs_operations.proofs.Common.{take-append-drop, Blocks, AreUsed, Disk, FitsInPair, IsWritable, HasNoMove, no_move_from, HasEitherTree, with_blocks, Slot, Pair, pairs_gstate, is_hard_tail, addresses_blocks, has_superblock, chain_may_continue, count_before_root, superblock_first, IsAccepted, disk_tree, used_blocks, each_right, IsChain, HasFirst, file_blocks, KeptThread, HasOldPair, ChangesThreadBlocks, BeginWithSuperblock, thread_pair, KeepsOutsideBoth, option_map, length-take-le, pairs_from_filled, has_slots, has_no_entry, is_worn, pair_joined_to, first_slot_name, IsTreeEntry, IsSameWritable, Unthreads, pair_revision, KeepsSuperblockFirst, pairs_split, CanUnload, IsUnloaded, LossLeavesUnloaded, AreTwoFree, map_taking_two, SameInFlight, IsReadyImage, CallEvent, CleanLossLeaves, SurvivesLossSince, WritesPairTwo, Site}
+use Rattle.lfs_operations.proofs.Common.{take-append-drop, Blocks, AreUsed, Disk, FitsInPair, IsWritable, HasNoMove, no_move_from, HasEitherTree, with_blocks, Slot, Pair, pairs_gstate, is_hard_tail, addresses_blocks, has_superblock, chain_may_continue, count_before_root, begins_with_superblock, IsAccepted, disk_tree, used_blocks, each_right, IsChain, HasFirst, file_blocks, KeptThread, HasOldPair, ChangesThreadBlocks, BeginWithSuperblock, thread_pair, KeepsOutsideBoth, option_map, length-take-le, pairs_from_nonempty, has_slots, has_no_entry, is_worn, pair_joined_to, first_slot_name, IsFileOrDirectory, IsSameWritable, Unthreads, pair_revision, KeepsSuperblockFirst, pairs_split, CanUnload, IsUnloaded, LossLeavesUnloaded, AreTwoFreeBlocks, map_allocating_two, HasSameBlocksInFlight, IsRecoveredWritableImage, CallEvent, CleanLossLeaves, SurvivesLossSince, WritesPairAndTwoFree, Site}
 use Rattle.lfs_model.specs.format.Disk.{block_count}
 use Rattle.lfs_model.specs.layers.BlockSets.{used_count}
-use Rattle.lfs_model.specs.layers.Steps.{ends_joined}
+use Rattle.lfs_model.specs.layers.Steps.{last_tail_is_hard}
 use Rattle.lfs_model.specs.session.Moved.{EighthFree, pair_behind, AreUnused}
 use Rattle.lfs_model.specs.tree.View.{RepeatsSuperblockStruct, IsSuperblockFirst}
 use Rattle.lfs_model.proofs.BlockSets.{used_count-AreUsed}
@@ -16,7 +16,7 @@ use Rattle.lfs_model.proofs.RootSteps.{kept_bare, root_unloads}
 use Rattle.lfs_model.proofs.Superblocks.{StructMark, hold_each, hold_from_rules, meets_starting, starts, starts_not}
 use Rattle.lfs_model.proofs.Unloaded.{unload}
 use Rattle.lfs_thread.specs.Unloads.{UnloadedOnDisk}
-use Rattle.lfs_operations.specs.Wear.{CanExpandRoot, CanUnloadPair, IsRootExpanded, IsWornUnloaded, ShowsSameFiles}
+use Rattle.lfs_operations.specs.Wear.{CanExpandSuperblockChain, CanMovePairSlots, IsSuperblockChainExpanded, AreWornPairSlotsMoved, KeepsTreeAndFiles}
 use Rattle.lfs_operations.proofs.DroppedTails.{TwoAt, front_is, two_at}
 use Rattle.lfs_operations.proofs.FreshBeside as beside
 use Rattle.lfs_operations.proofs.FreshBeside.{IsWrittenBeside, shape_left}
@@ -29,8 +29,8 @@ use Rattle.lfs_model.proofs.AcrossSteps.{flag_append}
 
 -- The pair of that number is to keep so many slots. The law of a move says what comes of it.
 pub record IsUnloading (t : KeptThread) (index keep : ℕ) (fresh : ℕ × ℕ) (root : ℕ) : Type 0 where
-  pub ready : IsReadyImage t
-  pub two : AreTwoFree t.map fresh
+  pub ready : IsRecoveredWritableImage t
+  pub two : AreTwoFreeBlocks t.map fresh
   pub ahead : List Pair
   pub x : Pair
   pub back : List Pair
@@ -64,7 +64,7 @@ module _ {t : KeptThread} {index keep : ℕ} {fresh : ℕ × ℕ} {root : ℕ} (
   there : thread_pair t index ≡ u.x
   there = beside.pair_there t u.ready index w x u.is u.place fresh u.two
 
-  pub can_unload : {s : KeptThread} → s ≡ with_map t (map_taking_two t.map fresh) → CanUnload s index fresh keep
+  pub can_unload : {s : KeptThread} → s ≡ with_map t (map_allocating_two t.map fresh) → CanUnload s index fresh keep
   can_unload taken = subst (λ (s : KeptThread). CanUnload s index fresh keep) (sym taken) (record {
     below = let l = ap length u.is in let a = length-append u.ahead (x ∷ u.back) in let n = u.place in omega arith;
     slots = subst (λ (z : Pair). keep ≤ length z.content.slots) (sym there) u.kept;
@@ -88,30 +88,30 @@ module _ {t : KeptThread} {index keep : ℕ} {fresh : ℕ × ℕ} {root : ℕ} (
     none = refl;
   }
 
-  left_unloaded : (left : Blocks) → LossLeavesUnloaded (with_map t (map_taking_two t.map fresh)) index fresh keep left → HasEitherTree (with_blocks left t.disk) (disk_tree t.disk t.pairs) (disk_tree t.disk t.pairs)
+  left_unloaded : (left : Blocks) → LossLeavesUnloaded (with_map t (map_allocating_two t.map fresh)) index fresh keep left → HasEitherTree (with_blocks left t.disk) (disk_tree t.disk t.pairs) (disk_tree t.disk t.pairs)
   left_unloaded left l = go l.content
     where
-      go : HasOldPair (with_map t (map_taking_two t.map fresh)) index (with_blocks left t.disk) ⊎ UnloadedOnDisk (with_map t (map_taking_two t.map fresh)) index fresh keep (with_blocks left t.disk)
+      go : HasOldPair (with_map t (map_allocating_two t.map fresh)) index (with_blocks left t.disk) ⊎ UnloadedOnDisk (with_map t (map_allocating_two t.map fresh)) index fresh keep (with_blocks left t.disk)
           → HasEitherTree (with_blocks left t.disk) (disk_tree t.disk t.pairs) (disk_tree t.disk t.pairs)
       go (inl b) = beside.left_old t u.ready index w x u.is u.place fresh u.two left l.others b
       go (inr n) = beside.shows_tree t u.ready index w x u.is u.place fresh u.two (with_blocks left t.disk) qs (u.taken (with_blocks left t.disk) (unloaded (with_blocks left t.disk)
           (subst (λ (z : Pair). IsWrittenBeside t index fresh (pair_joined_to fresh (take keep z.content.slots) z).content (pair_behind fresh z).content (with_blocks left t.disk)) there
           (record { shape = shape_left t left l.others.count; others = l.others; here = n.keeps; behind = n.behind; first = n.first })))).0
 
-  pub unload_survives : {s : KeptThread} {new : List CallEvent} → s ≡ with_map t (map_taking_two t.map fresh) → CleanLossLeaves s.history new (LossLeavesUnloaded s index fresh keep)
+  pub unload_survives : {s : KeptThread} {new : List CallEvent} → s ≡ with_map t (map_allocating_two t.map fresh) → CleanLossLeaves s.history new (LossLeavesUnloaded s index fresh keep)
       → SurvivesLossSince t.disk t.history new (disk_tree t.disk t.pairs) (disk_tree t.disk t.pairs)
   unload_survives {new = new} taken stops = survives_step t.disk left_unloaded (subst (λ (s : KeptThread). CleanLossLeaves s.history new (LossLeavesUnloaded s index fresh keep)) taken stops)
 
-  pub unload_writes : {s new : KeptThread} → s ≡ with_map t (map_taking_two t.map fresh) → ChangesThreadBlocks (addresses_blocks (thread_pair s index).at fresh) s new → WritesPairTwo t index new
+  pub unload_writes : {s new : KeptThread} → s ≡ with_map t (map_allocating_two t.map fresh) → ChangesThreadBlocks (addresses_blocks (thread_pair s index).at fresh) s new → WritesPairAndTwoFree t index new
   unload_writes {new = new} taken writes = writes_in t index fresh [] u.two new (subst (λ (s : KeptThread). ChangesThreadBlocks (addresses_blocks (thread_pair s index).at fresh) s new) taken writes)
 
   -- ---- it was done
 
-  module _ {s new : KeptThread} (taken : s ≡ with_map t (map_taking_two t.map fresh)) (is_done : IsUnloaded s index fresh keep new) (are_written : ChangesThreadBlocks (addresses_blocks (thread_pair s index).at fresh) s new) where
-    done : IsUnloaded (with_map t (map_taking_two t.map fresh)) index fresh keep new
+  module _ {s new : KeptThread} (taken : s ≡ with_map t (map_allocating_two t.map fresh)) (is_done : IsUnloaded s index fresh keep new) (are_written : ChangesThreadBlocks (addresses_blocks (thread_pair s index).at fresh) s new) where
+    done : IsUnloaded (with_map t (map_allocating_two t.map fresh)) index fresh keep new
     done = subst (λ (s : KeptThread). IsUnloaded s index fresh keep new) taken is_done
 
-    writes : ChangesThreadBlocks (addresses_blocks (thread_pair t index).at fresh) (with_map t (map_taking_two t.map fresh)) new
+    writes : ChangesThreadBlocks (addresses_blocks (thread_pair t index).at fresh) (with_map t (map_allocating_two t.map fresh)) new
     writes = subst (λ (s : KeptThread). ChangesThreadBlocks (addresses_blocks (thread_pair s index).at fresh) s new) taken are_written
 
     pairs : new.pairs ≡ u.ahead ++ pair_joined_to fresh (take keep u.x.content.slots) u.x ∷ pair_behind fresh u.x ∷ u.back
@@ -145,11 +145,11 @@ module _ {t : KeptThread} {index keep : ℕ} {fresh : ℕ × ℕ} {root : ℕ} (
     root_now : count_before_root new.pairs ≡ root
     root_now = ap count_before_root pairs ∙ (u.taken new.disk now).1
 
-    files : ShowsSameFiles t new
+    files : KeepsTreeAndFiles t new
     files = beside.shows_files t u.ready index w x u.is u.place fresh u.two new qs pairs (u.taken new.disk now).0 now.device
         (subst (λ m. AreUsed m (used_blocks new.disk qs)) (sym done.map) (used_more t.map fresh u.two (used_blocks t.disk (u.ahead ++ x ∷ u.back)) (used_blocks new.disk qs)
         (unloaded_blocks t.disk new.disk u.ahead x q y u.back (take keep u.x.content.slots) no_move now (u.bare new.disk now)) (subst (λ z. AreUsed t.map (used_blocks t.disk z)) u.is u.ready.used)))
-        (ap length done.map ∙ length_now t.map fresh u.two) (subst (SameInFlight t.map) (sym done.map) (beside.flying t u.ready index w x u.is u.place fresh u.two))
+        (ap length done.map ∙ length_now t.map fresh u.two) (subst (HasSameBlocksInFlight t.map) (sym done.map) (beside.flying t u.ready index w x u.is u.place fresh u.two))
 
 -- ---- a directory's first pair
 
@@ -168,7 +168,7 @@ has_root ahead n few = go (drop n ahead) refl
     go [] e = absurd (let t = ap length (take-append-drop n ahead) in let l = length-append (take n ahead) (drop n ahead) in let k = length-take-le n ahead (omega arith) in let d = ap length e in omega arith)
     go (f ∷ rest) e = record { chain = take n ahead; first = f; rest = rest; is = sym (take-append-drop n ahead) ∙ ap (λ z. take n ahead ++ z) e; count = length-take-le n ahead (omega arith) }
 
-module _ (t : KeptThread) (index : ℕ) (fresh : ℕ × ℕ) (can : CanUnloadPair t index fresh) where
+module _ (t : KeptThread) (index : ℕ) (fresh : ℕ × ℕ) (can : CanMovePairSlots t index fresh) where
   -- the pair before the worn one, and the worn one
   at : TwoAt t.pairs (index - 1)
   at = two_at t.pairs (index - 1) (let a = can.begins.behind in let b = can.below in omega arith)
@@ -207,12 +207,12 @@ module _ (t : KeptThread) (index : ℕ) (fresh : ℕ × ℕ) (can : CanUnloadPai
   ok = subst (IsAccepted t.disk) (pairs_are ∙ there_is (at.other ∷ at.back)) can.ready.accepted
 
   -- only the root's first pair has a superblock
-  no_superblock : superblock_first at.other.content.slots ≡ false
-  no_superblock = starts_not at.other.content.slots (each_right (λ z. All IsTreeEntry z.content.slots) r.rest (at.other ∷ at.back) (hold_each (StructMark t.disk.profile.versions ok.superblock.0) (r.rest ++ at.other ∷ at.back)
+  no_superblock : begins_with_superblock at.other.content.slots ≡ false
+  no_superblock = starts_not at.other.content.slots (each_right (λ z. All IsFileOrDirectory z.content.slots) r.rest (at.other ∷ at.back) (hold_each (StructMark t.disk.profile.versions ok.superblock.0) (r.rest ++ at.other ∷ at.back)
       (hold_from_rules (StructMark t.disk.profile.versions ok.superblock.0) r.chain r.first (r.rest ++ at.other ∷ at.back) is_chain ok.superblock.1.1 ok.root ok.slots).1.1)).0
 
-  ends_soft : ends_joined false (r.first ∷ r.rest) ≡ false
-  ends_soft = sym (flag_append false r.chain (r.first ∷ r.rest)) ∙ ap (ends_joined false) (sym r.is) ∙ flag_last at.ahead at.one false ∙ soft
+  ends_soft : last_tail_is_hard false (r.first ∷ r.rest) ≡ false
+  ends_soft = sym (flag_append false r.chain (r.first ∷ r.rest)) ∙ ap (last_tail_is_hard false) (sym r.is) ∙ flag_last at.ahead at.one false ∙ soft
 
   module _ (disk : Disk) (c : laws.IsUnloaded t.disk disk (at.ahead ++ at.one ∷ []) at.other (pair_joined_to fresh [] at.other) (pair_behind fresh at.other) at.back []) where
     abbrev stub : Pair
@@ -255,7 +255,7 @@ module _ (t : KeptThread) (index : ℕ) (fresh : ℕ × ℕ) (can : CanUnloadPai
     taken = λ disk c. (same_tree disk c, ap count_before_root (there_is (pair_joined_to fresh [] at.other ∷ pair_behind fresh at.other ∷ at.back)) ∙ (taken disk c).ready.is_chain ∙ r.count);
   }
 
-  pub unloaded_at : {s new : KeptThread} → s ≡ with_map t (map_taking_two t.map fresh) → IsUnloaded s index fresh 0 new → ChangesThreadBlocks (addresses_blocks (thread_pair s index).at fresh) s new → IsWornUnloaded t index fresh new
+  pub unloaded_at : {s new : KeptThread} → s ≡ with_map t (map_allocating_two t.map fresh) → IsUnloaded s index fresh 0 new → ChangesThreadBlocks (addresses_blocks (thread_pair s index).at fresh) s new → AreWornPairSlotsMoved t index fresh new
   unfolding unloading
   unloaded_at taken done writes = record {
     unloaded = record {
@@ -287,15 +287,15 @@ take_named : (slots : List Slot) → option_map (λ s. s.name) (slice_get (take 
 take_named [] = refl
 take_named (s ∷ slots) = refl
 
-take_started : (slots : List Slot) → superblock_first (take 1 slots) ≡ superblock_first slots
+take_started : (slots : List Slot) → begins_with_superblock (take 1 slots) ≡ begins_with_superblock slots
 take_started [] = refl
 take_started (s ∷ slots) = refl
 
-take_bare : (slots : List Slot) → superblock_first slots ≡ true → has_no_entry (take 1 slots) ≡ true
+take_bare : (slots : List Slot) → begins_with_superblock slots ≡ true → has_no_entry (take 1 slots) ≡ true
 take_bare [] e = refl
 take_bare (s ∷ slots) e = e
 
-take_few : (slots : List Slot) → superblock_first slots ≡ true → 1 ≤ length slots
+take_few : (slots : List Slot) → begins_with_superblock slots ≡ true → 1 ≤ length slots
 take_few [] e = absurd (cc)
 take_few (s ∷ slots) e = omega arith
 
@@ -309,9 +309,9 @@ first_pair : (ps : List Pair) → ps ≢ [] → HasFirstPair ps
 first_pair [] filled = absurd (filled refl)
 first_pair (p ∷ ps) filled = record { first = p; others = ps; is = refl }
 
-module _ (t : KeptThread) (fresh : ℕ × ℕ) (can : CanExpandRoot t fresh) where
+module _ (t : KeptThread) (fresh : ℕ × ℕ) (can : CanExpandSuperblockChain t fresh) where
   begin : HasFirstPair t.pairs
-  begin = first_pair t.pairs (λ none. absurd (let k = ap (λ z. first_slot_name (pairs_from_filled z)) (sym none) ∙ can.ready.accepted.named in cc))
+  begin = first_pair t.pairs (λ none. absurd (let k = ap (λ z. first_slot_name (pairs_from_nonempty z)) (sym none) ∙ can.ready.accepted.named in cc))
 
   root_accepted : IsAccepted t.disk (begin.first ∷ begin.others)
   root_accepted = subst (IsAccepted t.disk) begin.is can.ready.accepted
@@ -328,7 +328,7 @@ module _ (t : KeptThread) (fresh : ℕ × ℕ) (can : CanExpandRoot t fresh) whe
   root_held : IsSuperblockFirst (RepeatsSuperblockStruct t.disk.profile.versions root_accepted.superblock.0) begin.first.content.slots
   root_held = (hold_from_rules (StructMark t.disk.profile.versions root_accepted.superblock.0) [] begin.first begin.others root_number root_accepted.superblock.1.1 root_accepted.root root_accepted.slots).1.0
 
-  root_starts : superblock_first begin.first.content.slots ≡ true
+  root_starts : begins_with_superblock begin.first.content.slots ≡ true
   root_starts = starts begin.first.content.slots (StructMark t.disk.profile.versions root_accepted.superblock.0) root_held
 
   pub expanding : IsUnloading t 0 1 fresh 1
@@ -354,7 +354,7 @@ module _ (t : KeptThread) (fresh : ℕ × ℕ) (can : CanExpandRoot t fresh) whe
           (and_from (has_superblock (pair_behind fresh begin.first ∷ begin.others)) (chain_may_continue (pair_joined_to fresh (take 1 begin.first.content.slots) begin.first)) (meets_starting (pair_behind fresh begin.first) begin.others root_starts)
           (and_from (has_no_entry (take 1 begin.first.content.slots)) true (take_bare begin.first.content.slots root_starts) refl)) root_number
 
-  pub root_expanded : {s new : KeptThread} → s ≡ with_map t (map_taking_two t.map fresh) → IsUnloaded s 0 fresh 1 new → ChangesThreadBlocks (addresses_blocks (thread_pair s 0).at fresh) s new → IsRootExpanded t fresh new
+  pub root_expanded : {s new : KeptThread} → s ≡ with_map t (map_allocating_two t.map fresh) → IsUnloaded s 0 fresh 1 new → ChangesThreadBlocks (addresses_blocks (thread_pair s 0).at fresh) s new → IsSuperblockChainExpanded t fresh new
   unfolding expanding
   root_expanded taken done writes = record {
     unloaded = record {

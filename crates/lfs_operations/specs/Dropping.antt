@@ -8,20 +8,20 @@ use Rattle.lfs_model.specs.format.Content.{content_at}
 use Rattle.lfs_model.specs.format.Disk.{block_count}
 use Rattle.lfs_model.specs.layers.LoggedContent.{MoveStateFits}
 use Rattle.lfs_model.specs.format.Slots.{PairContent, FitsInPair, Gstate, Tail, gstate_xor}
-use Rattle.lfs_model.specs.layers.StepResults.{tail_past_drop}
+use Rattle.lfs_model.specs.layers.StepResults.{predecessor_tail_after_drop}
 use Rattle.lfs_model.specs.format.Thread.{IsThread, pairs_gstate}
 use Rattle.lfs_model.specs.tree.Tree.{Tree}
 use Rattle.lfs_model.specs.tree.Shown.{disk_tree}
 use Rattle.lfs_thread.specs.Kept.{KeptThread}
 use Rattle.lfs_thread.specs.ThreadSteps.{IsPairWritten, thread_pair, tail_change, pairs_with_content, map_freeing}
-use Rattle.lfs_operations.specs.Ready.{IsReadyUnsettled, KeepsRootNumber}
+use Rattle.lfs_operations.specs.Ready.{IsWritableBeforeMapUpdate, KeepsRootPairIndex}
 
 -- the new delta of the pair of that index, by which the global state becomes g once the pair behind it is dropped
 abbrev pub delta_after_drop : KeptThread → ℕ → Gstate → Gstate
 delta_after_drop t front state = gstate_xor (gstate_xor (thread_pair t front).content.move (thread_pair t (front + 1)).content.move) (gstate_xor (pairs_gstate t.pairs) state)
 
 abbrev pub tail_after_drop : KeptThread → ℕ → Option Tail
-tail_after_drop t front = tail_past_drop (thread_pair t front).content.tail (thread_pair t (front + 1)).content.tail
+tail_after_drop t front = predecessor_tail_after_drop (thread_pair t front).content.tail (thread_pair t (front + 1)).content.tail
 
 -- the content of the pair before the dropped one afterwards: its slots, the dropped pair's tail, and that delta
 abbrev pub content_after_drop : KeptThread → ℕ → Gstate → PairContent
@@ -57,13 +57,13 @@ pub record LeftByDrop (old : KeptThread) (front : ℕ) (state : Gstate) (left : 
 -- ---- an operation by which pairs may be dropped
 
 -- the same blocks are in flight as before
-abbrev pub SameInFlight : BlockStates → BlockStates → Type 0
-SameInFlight old new = (b : ℕ) → IsInFlight new b ↔ IsInFlight old b
+abbrev pub HasSameBlocksInFlight : BlockStates → BlockStates → Type 0
+HasSameBlocksInFlight old new = (b : ℕ) → IsInFlight new b ↔ IsInFlight old b
 
 -- The image has that tree, and may be changed again once the blocks `gone` are freed. The root directory begins with the same
 -- pair. The blocks of the dropped pairs are free already.
-pub record ShowsDroppedTree (old new : KeptThread) (tree : Tree) (gone : List ℕ) : Type 0 where
-  pub ready : IsReadyUnsettled new gone []
+pub record HasTreeAfterDrops (old new : KeptThread) (tree : Tree) (gone : List ℕ) : Type 0 where
+  pub ready : IsWritableBeforeMapUpdate new gone []
   pub shows : disk_tree new.disk new.pairs ≡ tree
-  pub flying : SameInFlight old.map new.map
-  pub root : KeepsRootNumber old new
+  pub flying : HasSameBlocksInFlight old.map new.map
+  pub root : KeepsRootPairIndex old new

@@ -2,7 +2,7 @@
 use Rattle.std.specs.Prelude.{ℕ, ◌≡◌, ◌<◌, ◌≤◌, ◌-◌, ◌&&◌, ◌==◌, ◌++◌, nat_lt, Bool, true, false, List, ◌∷◌, length}
 use Rattle.lfs_model.specs.layers.BlockSets.{AreUsed}
 use Rattle.lfs_model.specs.format.Disk.{Disk, block_count}
-use Rattle.lfs_model.specs.session.Layout.{IsLayout}
+use Rattle.lfs_model.specs.session.Layout.{IsLayoutAfterOperation}
 use Rattle.lfs_model.specs.session.Operations as ops
 use Rattle.lfs_model.specs.session.Session.{Session}
 use Rattle.lfs_model.specs.format.Slots.{Slot, is_superblock, same_pair}
@@ -11,11 +11,11 @@ use Rattle.lfs_model.specs.tree.View.{IsAccepted}
 use Rattle.lfs_model.specs.tree.Shown.{used_blocks}
 use Rattle.lfs_model.specs.tree.Profile.{IsWritable}
 use Rattle.lfs_model.specs.format.Slots.{set_move_kind}
-use Rattle.lfs_model.specs.layers.Steps.{number_occurrences, HasNoMove, IsWritableChange}
+use Rattle.lfs_model.specs.layers.Steps.{occurrence_count, HasNoMove, IsWritableChange}
 use Rattle.lfs_thread.specs.Kept.{KeptThread}
 use Rattle.lfs_thread.specs.ThreadSteps.{thread_pair}
-use Rattle.lfs_operations.specs.Dropping.{SameInFlight}
-use Rattle.lfs_operations.specs.Ready.{KeepsRootNumber}
+use Rattle.lfs_operations.specs.Dropping.{HasSameBlocksInFlight}
+use Rattle.lfs_operations.specs.Ready.{KeepsRootPairIndex}
 use Rattle.lfs_operations.specs.Deltas.{tail_is_hard}
 
 -- a move is pending, and names a slot of the pair at the index
@@ -31,8 +31,8 @@ pub record HasMovedSlot (t : KeptThread) (index : ℕ) : Type 0 where
   pub other : is_superblock slot ≡ false
 
 -- the pair has no other slot, and isn't the first of its directory
-abbrev pub drops_when_emptied : KeptThread → ℕ → Bool
-drops_when_emptied t index = nat_lt 0 index && (length (thread_pair t index).content.slots == 1 && tail_is_hard t (index - 1))
+abbrev pub drops_pair_after_move : KeptThread → ℕ → Bool
+drops_pair_after_move t index = nat_lt 0 index && (length (thread_pair t index).content.slots == 1 && tail_is_hard t (index - 1))
 
 -- The image is accepted and may be written, and the map's used blocks are the image's.
 pub record CanEndMove (t : KeptThread) : Type 0 where
@@ -43,7 +43,7 @@ pub record CanEndMove (t : KeptThread) : Type 0 where
 
 -- Any layout of the slots that a recovery of the new image may leave, a recovery of the old image may leave, too.
 abbrev pub KeepsRecoveryLayouts : KeptThread → KeptThread → Type 0
-KeepsRecoveryLayouts old new = (s : Session) (disk : Disk) (qs : List Pair) → IsLayout new.disk new.pairs s ops.Recover disk qs → IsLayout old.disk old.pairs s ops.Recover disk qs
+KeepsRecoveryLayouts old new = (s : Session) (disk : Disk) (qs : List Pair) → IsLayoutAfterOperation new.disk new.pairs s ops.Recover disk qs → IsLayoutAfterOperation old.disk old.pairs s ops.Recover disk qs
 
 -- No move is pending, and the image has the same tree, so pairs may be dropped now. The root directory begins with the same
 -- pair. The map's used blocks are the image's, and it has no new ones.
@@ -52,7 +52,7 @@ pub record HasEndedMove (old new : KeptThread) : Type 0 where
   pub none : HasNoMove (pairs_gstate new.pairs)
   pub used : AreUsed new.map (used_blocks new.disk new.pairs)
   pub size : length new.map ≡ block_count new.disk
-  pub fewer : (b : ℕ) → number_occurrences b (used_blocks new.disk new.pairs) ≤ number_occurrences b (used_blocks old.disk old.pairs)
-  pub flying : SameInFlight old.map new.map
-  pub root : KeepsRootNumber old new
+  pub fewer : (b : ℕ) → occurrence_count b (used_blocks new.disk new.pairs) ≤ occurrence_count b (used_blocks old.disk old.pairs)
+  pub flying : HasSameBlocksInFlight old.map new.map
+  pub root : KeepsRootPairIndex old new
   pub leads_on : KeepsRecoveryLayouts old new

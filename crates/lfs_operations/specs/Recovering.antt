@@ -15,12 +15,12 @@ use Rattle.lfs_model.specs.tree.View.{IsAccepted}
 use Rattle.lfs_model.specs.tree.Shown.{all_unmoved_slots, disk_tree, used_blocks}
 use Rattle.lfs_model.specs.tree.Profile.{IsWritable}
 use Rattle.lfs_model.specs.layers.StepResults.{AreUnreachedNumbers}
-use Rattle.lfs_model.specs.layers.Steps.{SameSlots, CompletesOperation, number_occurrences, SameFileBlocks, HasNoMove, file_blocks, IsWritableChange}
+use Rattle.lfs_model.specs.layers.Steps.{SameSlots, CompletesOperation, occurrence_count, SameFileBlocks, HasNoMove, file_blocks, IsWritableChange}
 use Rattle.lfs_model.specs.session.InDirectory.{all_slots}
 use Rattle.lfs_thread.specs.Kept.{KeptThread, ThreadView}
 use Rattle.lfs_thread.specs.ThreadSteps.{empty_anchor}
-use Rattle.lfs_operations.specs.Dropping.{SameInFlight}
-use Rattle.lfs_operations.specs.Ready.{IsReadyUnsettled, KeepsRootNumber}
+use Rattle.lfs_operations.specs.Dropping.{HasSameBlocksInFlight}
+use Rattle.lfs_operations.specs.Ready.{IsWritableBeforeMapUpdate, KeepsRootPairIndex}
 
 -- The image is accepted and may be written, and no move is pending. The map's used blocks are the image's. The pair indices
 -- `numbers` are those of all orphans. A block has at least 1,024 bytes, as in each geometry.
@@ -56,24 +56,24 @@ pub record IsSyncCleared (old new : KeptThread) : Type 0 where
   pub files : All (λ s. SameFileBlocks old.disk new.disk s.struct) (all_unmoved_slots old.pairs)
 
 -- the slots of the pairs of these indices, in turn
-abbrev pub numbered_slots : List Pair → List ℕ → List Slot
-numbered_slots ps numbers = flat_map (λ n. (slice_index_or ps n empty_anchor).content.slots) numbers
+abbrev pub slots_of_pairs_at : List Pair → List ℕ → List Slot
+slots_of_pairs_at ps numbers = flat_map (λ n. (slice_index_or ps n empty_anchor).content.slots) numbers
 
 -- the blocks of the lists that these slots name
-abbrev pub numbered_list_blocks : KeptThread → List ℕ → List ℕ
-numbered_list_blocks t numbers = file_blocks t.disk (numbered_slots t.pairs numbers)
+abbrev pub list_blocks_of_pairs : KeptThread → List ℕ → List ℕ
+list_blocks_of_pairs t numbers = file_blocks t.disk (slots_of_pairs_at t.pairs numbers)
 
 -- Nothing is left to recover, the tree is as it was, and the slots are in the right pairs. So a recovery is complete. The root
 -- directory begins with the same pair. The pairs of these indices are dropped, their blocks are free, and no pair is new. The
 -- lists of their slots are unchanged, and share no block with other lists. Their blocks are still used in the map.
-pub record HasDroppedRecovered (old : KeptThread) (numbers : List ℕ) (new : KeptThread) : Type 0 where
-  pub ready : IsReadyUnsettled new (numbered_list_blocks old numbers) []
-  pub stand : All (λ s. SameFileBlocks old.disk new.disk s.struct) (numbered_slots old.pairs numbers)
-  pub lost : (b : ℕ) → number_occurrences b (numbered_list_blocks old numbers) + number_occurrences b (file_blocks new.disk (all_slots new.pairs)) ≡ number_occurrences b (file_blocks old.disk (all_slots old.pairs))
-  pub once : (b : ℕ) → number_occurrences b (used_blocks new.disk new.pairs) + number_occurrences b (numbered_list_blocks old numbers) ≤ 1
-  pub fewer : (b : ℕ) → number_occurrences b (pairs_blocks new.pairs) ≤ number_occurrences b (pairs_blocks old.pairs)
-  pub flying : SameInFlight old.map new.map
-  pub root : KeepsRootNumber old new
+pub record HasCompletedRecovery (old : KeptThread) (numbers : List ℕ) (new : KeptThread) : Type 0 where
+  pub ready : IsWritableBeforeMapUpdate new (list_blocks_of_pairs old numbers) []
+  pub stand : All (λ s. SameFileBlocks old.disk new.disk s.struct) (slots_of_pairs_at old.pairs numbers)
+  pub lost : (b : ℕ) → occurrence_count b (list_blocks_of_pairs old numbers) + occurrence_count b (file_blocks new.disk (all_slots new.pairs)) ≡ occurrence_count b (file_blocks old.disk (all_slots old.pairs))
+  pub once : (b : ℕ) → occurrence_count b (used_blocks new.disk new.pairs) + occurrence_count b (list_blocks_of_pairs old numbers) ≤ 1
+  pub fewer : (b : ℕ) → occurrence_count b (pairs_blocks new.pairs) ≤ occurrence_count b (pairs_blocks old.pairs)
+  pub flying : HasSameBlocksInFlight old.map new.map
+  pub root : KeepsRootPairIndex old new
   pub shows : disk_tree new.disk new.pairs ≡ disk_tree old.disk old.pairs
   pub completed : (s : Session) → s.tree ≡ disk_tree old.disk old.pairs → CompletesOperation old.disk old.pairs s ops.Recover new.disk new.pairs
 

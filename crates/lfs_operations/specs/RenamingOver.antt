@@ -7,7 +7,7 @@ use Rattle.lfs_model.specs.layers.Changes.{ContentChange, PutMove}
 use Rattle.lfs_model.specs.format.Content.{content_at}
 use Rattle.lfs_model.specs.format.Disk.{block_count}
 use Rattle.lfs_model.specs.session.History.{fault_count}
-use Rattle.lfs_model.specs.session.InDirectory.{IsPlaceOf}
+use Rattle.lfs_model.specs.session.InDirectory.{IsPositionOfName}
 use Rattle.lfs_model.specs.format.Names.{Name}
 use Rattle.lfs_model.specs.format.Slots.{Branch, PairContent, gstate_xor, same_pair}
 use Rattle.lfs_model.specs.format.Thread.{IsThread, pairs_gstate, is_hard_tail}
@@ -16,9 +16,9 @@ use Rattle.lfs_model.specs.tree.Profile.{IsWritableEntry}
 use Rattle.lfs_model.specs.layers.Steps.{sync_bit_delta, renamed_addresses, IsWritableChange}
 use Rattle.lfs_thread.specs.Kept.{KeptThread, ThreadView}
 use Rattle.lfs_thread.specs.ThreadSteps.{ThreadReportsErrors, IsPairCommitted, OnlyReadsThread, IsPairWritten, thread_pair, pairs_with_content}
-use Rattle.lfs_operations.specs.Dropping.{ShowsDroppedTree}
+use Rattle.lfs_operations.specs.Dropping.{HasTreeAfterDrops}
 use Rattle.lfs_operations.specs.Editing.{CanEditIn, editable_slot}
-use Rattle.lfs_operations.specs.Renaming.{CompletesRename, tree_renamed, renaming_changes}
+use Rattle.lfs_operations.specs.Renaming.{CompletesRename, tree_with_entry_renamed, renaming_changes}
 
 -- the pair's delta flips the sync bit, both slots are deleted, and the entry's is created at the directory's id
 abbrev pub replace_directory_changes : KeptThread → ℕ → ℕ → ℕ → Name → List ContentChange
@@ -28,7 +28,7 @@ replace_directory_changes t pair id place name = PutMove (gstate_xor (thread_pai
 -- and directory. The entry may have that name.
 pub record CanReplaceDirectory (t : KeptThread) (pair id place : ℕ) (name : Name) : Type 0 where
   pub can : CanEditIn t pair id
-  pub target : IsPlaceOf t.pairs can.first name pair place
+  pub target : IsPositionOfName t.pairs can.first name pair place
   pub to : ℕ × ℕ
   pub branch : target.stands.slot.struct ≡ Branch to
   pub differs : name ≢ can.name
@@ -56,7 +56,7 @@ pub record ReportsReadCommit {X : Type 0} (old new : ThreadView) (result : Resul
 
 -- The premises of CanReplaceDirectory. The pair of index `gone` is the only one of the directory that is replaced, and has no
 -- slots.
-pub record CanRenameOver (t : KeptThread) (pair id place : ℕ) (name : Name) (gone : ℕ) : Type 0 where
+pub record CanRenameOverDirectory (t : KeptThread) (pair id place : ℕ) (name : Name) (gone : ℕ) : Type 0 where
   pub over : CanReplaceDirectory t pair id place name
   pub below : gone < length t.pairs
   pub at : same_pair (thread_pair t gone).at over.to ≡ true
@@ -65,8 +65,8 @@ pub record CanRenameOver (t : KeptThread) (pair id place : ℕ) (name : Name) (g
 
 -- The tree has the entry under the directory's name, and the directory's pair is dropped. So a rename of its path onto the
 -- directory's is complete.
-pub record IsRenamedOver (old new : KeptThread) (path : Path) (from to : Name) : Type 0 where
-  pub now : ShowsDroppedTree old new (tree_renamed old path from to) []
+pub record IsRenamedOverDirectory (old new : KeptThread) (path : Path) (from to : Name) : Type 0 where
+  pub now : HasTreeAfterDrops old new (tree_with_entry_renamed old path from to) []
   pub completed : CompletesRename old new path from to
 
 -- The errors of several steps that allocate no block, and of which the first one reads a slot. The result is `Io` exactly if a

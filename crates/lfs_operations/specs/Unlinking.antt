@@ -13,13 +13,13 @@ use Rattle.lfs_model.specs.format.Thread.{is_hard_tail}
 use Rattle.lfs_model.specs.tree.Tree.{Path}
 use Rattle.lfs_model.specs.tree.Shown.{disk_tree}
 use Rattle.lfs_model.specs.layers.Steps.{CompletesOperation, sync_bit_delta}
-use Rattle.lfs_model.specs.layers.StepResults.{number_after_drop}
+use Rattle.lfs_model.specs.layers.StepResults.{pair_index_after_drop}
 use Rattle.lfs_thread.specs.Kept.{KeptThread, ThreadView}
 use Rattle.lfs_thread.specs.ThreadSteps.{thread_pair, IsPairCommitted, LossLeavesPair}
-use Rattle.lfs_operations.specs.Changing.{IsPairTouched}
-use Rattle.lfs_operations.specs.Dropping.{ShowsDroppedTree, IsPairDropped, LeftByDrop}
+use Rattle.lfs_operations.specs.Changing.{IsPairChangedOrDropped}
+use Rattle.lfs_operations.specs.Dropping.{HasTreeAfterDrops, IsPairDropped, LeftByDrop}
 use Rattle.lfs_operations.specs.Editing.{CanEditIn, editable_slot}
-use Rattle.lfs_operations.specs.Removing.{drops_emptied_pair, tree_without_entry}
+use Rattle.lfs_operations.specs.Removing.{drops_pair_after_removal, tree_without_entry}
 use Rattle.lfs_model.specs.format.Blocks.{Blocks}
 
 -- ---- the entry is removed
@@ -29,19 +29,19 @@ abbrev pub unlink_changes : KeptThread → ℕ → ℕ → List ContentChange
 unlink_changes t pair id = Delete id ∷ PutMove (gstate_xor (thread_pair t pair).content.move sync_bit_delta) ∷ []
 
 -- The image may be changed, and the pair has an entry with the id, in the directory that begins with the pair of index `first`.
-pub record CanUnlink (t : KeptThread) (pair id first : ℕ) : Type 0 where
+pub record CanUnlinkEntry (t : KeptThread) (pair id first : ℕ) : Type 0 where
   pub can : CanEditIn t pair id
   pub begins : can.first ≡ first
 
 -- the pair has these changes, or is dropped with the entry
 pub record IsEntryUnlinked (old : KeptThread) (pair id first : ℕ) (new : KeptThread) : Type 0 where
-  pub stays : drops_emptied_pair old pair first ≡ false → IsPairCommitted old pair (unlink_changes old pair id) new
-  pub goes : drops_emptied_pair old pair first ≡ true → IsPairDropped old (pair - 1) sync_bit_delta new
+  pub stays : drops_pair_after_removal old pair first ≡ false → IsPairCommitted old pair (unlink_changes old pair id) new
+  pub goes : drops_pair_after_removal old pair first ≡ true → IsPairDropped old (pair - 1) sync_bit_delta new
 
 -- what a power loss leaves of that step
 pub record LeftByUnlink (old : KeptThread) (pair id first : ℕ) (left : Blocks) : Type 0 where
-  pub stays : drops_emptied_pair old pair first ≡ false → LossLeavesPair old pair (unlink_changes old pair id) left
-  pub goes : drops_emptied_pair old pair first ≡ true → LeftByDrop old (pair - 1) sync_bit_delta left
+  pub stays : drops_pair_after_removal old pair first ≡ false → LossLeavesPair old pair (unlink_changes old pair id) left
+  pub goes : drops_pair_after_removal old pair first ≡ true → LeftByDrop old (pair - 1) sync_bit_delta left
 
 -- ---- the operation
 
@@ -58,21 +58,21 @@ pub record CanRemoveDirectory (t : KeptThread) (pair id first gone : ℕ) : Type
   pub alone : is_hard_tail (thread_pair t gone).content.tail ≡ false
 
 -- the index of the directory's own pair after the entry was deleted
-abbrev pub number_after_unlink : KeptThread → ℕ → ℕ → ℕ → ℕ
-number_after_unlink t pair first gone = if drops_emptied_pair t pair first then number_after_drop pair gone else gone
+abbrev pub pair_index_after_unlink : KeptThread → ℕ → ℕ → ℕ → ℕ
+pair_index_after_unlink t pair first gone = if drops_pair_after_removal t pair first then pair_index_after_drop pair gone else gone
 
 -- The tree no longer has the directory, the other slots are in the right pairs, and its pair is dropped. So a remove of its
 -- path is complete.
 pub record IsDirectoryRemoved (old new : KeptThread) (path : Path) (name : Name) : Type 0 where
-  pub now : ShowsDroppedTree old new (tree_without_entry old path name) []
+  pub now : HasTreeAfterDrops old new (tree_without_entry old path name) []
   pub completed : (s : Session) (given : List ℕ) → s.tree ≡ disk_tree old.disk old.pairs → path_or_root given ≡ path ++ name ∷ []
       → CompletesOperation old.disk old.pairs s (ops.Remove given) new.disk new.pairs
 
 -- The pair before the directory's own one was changed or dropped, and so was the one before the entry's pair if that was
 -- dropped, too.
-pub record ArePairsBeforeTouched (old : KeptThread) (pair first gone : ℕ) (new : KeptThread) : Type 0 where
-  pub front : IsPairTouched old (gone - 1) new
-  pub entry : drops_emptied_pair old pair first ≡ true → IsPairTouched old (pair - 1) new
+pub record ArePredecessorsChangedOrDropped (old : KeptThread) (pair first gone : ℕ) (new : KeptThread) : Type 0 where
+  pub front : IsPairChangedOrDropped old (gone - 1) new
+  pub entry : drops_pair_after_removal old pair first ≡ true → IsPairChangedOrDropped old (pair - 1) new
 
 -- The errors of several steps that allocate no block: The result is `Io` exactly if a device call failed. After an error the
 -- thread has failed.

@@ -6,12 +6,12 @@ ghost use Rattle.lfs_model.specs.format.Content.{attributes_with, attributes_wit
 ghost use Rattle.lfs_model.specs.crash.PowerLoss.{SurvivesLossSince};
 ghost use Rattle.lfs_model.specs.tree.Shown.{disk_tree};
 ghost use Rattle.lfs_thread.specs.ThreadSteps.{ChangesThreadBlocks, thread_pair};
-ghost use Rattle.lfs_operations.specs.Changing.{ReportsPut, WritesPairTwo};
+ghost use Rattle.lfs_operations.specs.Changing.{ReportsCommitOrSplit, WritesPairAndTwoFree};
 ghost use Rattle.lfs_operations.specs.Editing.{CanEditIn, CanSetAttribute, HasRemovedAttribute, HasSetAttribute, tree_setting_attributes};
 ghost use Rattle.lfs_operations.specs.Removing.{ReportsCommit};
 ghost use Rattle.lfs_model.specs.format.Thread.{address_blocks};
 
-use crate::changes::{change_or_split, commit_fitting};
+use crate::changes::{commit_or_split, commit_without_split};
 use lfs_device::{BlockDevice, Error};
 use lfs_pair::Change;
 use lfs_thread::Thread;
@@ -35,8 +35,8 @@ pub fn set_attribute<D: BlockDevice>(
     requires works { thread.old.failed ≡ false }
     requires can { CanSetAttribute thread.old.kept pair id kind bytes.now }
     ensures is_set { OnOk result ((set : CanSetAttribute thread.old.kept pair id kind bytes.now) → HasSetAttribute thread.old.kept thread.new.kept set.can.path set.can.name kind bytes.now) }
-    ensures errors { ReportsPut thread.old thread.new pair (PutAttribute id kind bytes.now ∷ []) result }
-    ensures device { WritesPairTwo thread.old.kept pair thread.new.kept }
+    ensures errors { ReportsCommitOrSplit thread.old thread.new pair (PutAttribute id kind bytes.now ∷ []) result }
+    ensures device { WritesPairAndTwoFree thread.old.kept pair thread.new.kept }
     ensures survives { (set : CanSetAttribute thread.old.kept pair id kind bytes.now) → SurvivesLossSince thread.old.kept.disk thread.old.kept.history thread.new.kept.history
         (disk_tree thread.old.kept.disk thread.old.kept.pairs) (tree_setting_attributes thread.old.kept set.can.path set.can.name (attributes_with kind bytes.now)) }
 {
@@ -45,7 +45,7 @@ pub fn set_attribute<D: BlockDevice>(
         attr: kind,
         bytes,
     }];
-    change_or_split(alloc, thread, pair, &changes)
+    commit_or_split(alloc, thread, pair, &changes)
 }
 
 /// Removes the attribute of type `kind`, if there is one, from the entry with id `id` in the pair
@@ -68,5 +68,5 @@ pub fn remove_attribute<D: BlockDevice>(
         (disk_tree thread.old.kept.disk thread.old.kept.pairs) (tree_setting_attributes thread.old.kept can.path can.name (attributes_without kind)) }
 {
     // The remaining content fits, so this commit never needs a split.
-    commit_fitting(alloc, thread, pair, &[Change::NoAttr { id, attr: kind }])
+    commit_without_split(alloc, thread, pair, &[Change::NoAttr { id, attr: kind }])
 }

@@ -2,13 +2,13 @@
 
 ghost use Rattle.std.specs.Prelude.{◌≡◌, ◌≤◌, ◌+◌, false, IfSome, IfNone, OnOk};
 ghost use Rattle.lfs_model.specs.session.History.{read_count};
-ghost use Rattle.lfs_model.specs.format.Slots.{address_view};
+ghost use Rattle.lfs_model.specs.format.Slots.{address_of_array};
 ghost use Rattle.lfs_pair.specs.ChangeView.{changes_view};
 ghost use Rattle.lfs_thread.specs.ThreadDevice.{CleanLossLeaves};
 ghost use Rattle.lfs_model.specs.format.Thread.{address_blocks};
 ghost use Rattle.lfs_thread.specs.ThreadSteps.{ChangesThreadBlocks, IsPairCommitted, LossLeavesPair, thread_pair};
 ghost use Rattle.lfs_operations.specs.Removing.{ReportsCommit};
-ghost use Rattle.lfs_operations.specs.Changing.{AreTwoFree, CanCommit, CanPut, HasTwoFree, IsPairSplit, LeftBySplit, LeftByPut, ArePut, ReportsTakingCommit, ReportsPut, WritesPairTwo, map_taking_two};
+ghost use Rattle.lfs_operations.specs.Changing.{AreTwoFreeBlocks, CanCommit, CanCommitOrSplit, HasTwoFreeBlocks, IsPairSplit, LeftBySplit, LeftByCommitOrSplit, AreCommittedOrSplit, ReportsAllocatingCommit, ReportsCommitOrSplit, WritesPairAndTwoFree, map_allocating_two};
 
 use lfs_device::{BlockDevice, Error};
 use lfs_pair::{Change, Outcome};
@@ -17,10 +17,10 @@ use std::alloc::Global;
 
 // Allocates two free blocks, which are in flight afterwards. Returns None, and allocates nothing,
 // if fewer than two blocks are free.
-pub(crate) fn take_two_blocks<D: BlockDevice>(thread: &mut Thread<D>) -> Option<[u32; 2]>
-    ensures were_free { IfSome result (λ fresh. AreTwoFree thread.old.kept.map (address_view fresh)) }
-    ensures taken { IfSome result (λ fresh. thread.new ≡ record thread.old { kept = record thread.old.kept { map = map_taking_two thread.old.kept.map (address_view fresh) } }) }
-    ensures none { IfNone result (HasTwoFree thread.old.kept.map → ⊥) }
+pub(crate) fn allocate_two_blocks<D: BlockDevice>(thread: &mut Thread<D>) -> Option<[u32; 2]>
+    ensures were_free { IfSome result (λ fresh. AreTwoFreeBlocks thread.old.kept.map (address_of_array fresh)) }
+    ensures taken { IfSome result (λ fresh. thread.new ≡ record thread.old { kept = record thread.old.kept { map = map_allocating_two thread.old.kept.map (address_of_array fresh) } }) }
+    ensures none { IfNone result (HasTwoFreeBlocks thread.old.kept.map → ⊥) }
     ensures same { IfNone result (thread.new ≡ thread.old) }
 {
     let Some(first) = thread.take() else {
@@ -34,9 +34,9 @@ pub(crate) fn take_two_blocks<D: BlockDevice>(thread: &mut Thread<D>) -> Option<
 }
 
 // Allocates the two given free blocks, which are in flight afterwards.
-pub(crate) fn take_these<D: BlockDevice>(thread: &mut Thread<D>, blocks: [u32; 2])
-    requires { AreTwoFree thread.old.kept.map (address_view blocks) }
-    ensures { thread.new ≡ record thread.old { kept = record thread.old.kept { map = map_taking_two thread.old.kept.map (address_view blocks) } } }
+pub(crate) fn mark_blocks_allocated<D: BlockDevice>(thread: &mut Thread<D>, blocks: [u32; 2])
+    requires { AreTwoFreeBlocks thread.old.kept.map (address_of_array blocks) }
+    ensures { thread.new ≡ record thread.old { kept = record thread.old.kept { map = map_allocating_two thread.old.kept.map (address_of_array blocks) } } }
 {
     thread.take_at(blocks[0]);
     thread.take_at(blocks[1]);
@@ -45,21 +45,21 @@ pub(crate) fn take_these<D: BlockDevice>(thread: &mut Thread<D>, blocks: [u32; 2
 // Commits changes to a pair while splitting it, with two free blocks for the new pair. Returns
 // `NoSpace` if fewer than two blocks are free.
 #[tactic(auto, using(crate::proofs::Putting::read_at_most))]
-fn split_in_two<D: BlockDevice>(
+fn commit_and_split<D: BlockDevice>(
     alloc: Global,
     thread: &mut Thread<D>,
     index: usize,
     changes: &[Change<'_>],
 ) -> Result<(), Error>
     requires works { thread.old.failed ≡ false }
-    requires can { CanPut thread.old.kept index (changes_view changes.now) }
+    requires can { CanCommitOrSplit thread.old.kept index (changes_view changes.now) }
     ensures is_cut { OnOk result (IsPairSplit thread.old.kept index (changes_view changes.now) thread.new.kept) }
-    ensures errors { ReportsTakingCommit thread.old thread.new result }
-    ensures device { WritesPairTwo thread.old.kept index thread.new.kept }
+    ensures errors { ReportsAllocatingCommit thread.old thread.new result }
+    ensures device { WritesPairAndTwoFree thread.old.kept index thread.new.kept }
     ensures few { read_count thread.new.kept.history ≤ read_count thread.old.kept.history + 4 }
     ensures stops { CleanLossLeaves thread.old.kept.history thread.new.kept.history (LeftBySplit thread.old.kept index (changes_view changes.now)) }
 {
-    let Some(fresh) = take_two_blocks(thread) else {
+    let Some(fresh) = allocate_two_blocks(thread) else {
         return Err(Error::NoSpace);
     };
     thread.split(alloc, index, fresh, changes)
@@ -67,29 +67,29 @@ fn split_in_two<D: BlockDevice>(
 
 // Commits changes to a pair, and splits the pair if the changed content doesn't fit.
 #[tactic(auto, using(crate::proofs::Putting::read_at_most))]
-pub(crate) fn change_or_split<D: BlockDevice>(
+pub(crate) fn commit_or_split<D: BlockDevice>(
     alloc: Global,
     thread: &mut Thread<D>,
     index: usize,
     changes: &[Change<'_>],
 ) -> Result<(), Error>
     requires works { thread.old.failed ≡ false }
-    requires can { CanPut thread.old.kept index (changes_view changes.now) }
-    ensures is_put { OnOk result (ArePut thread.old.kept index (changes_view changes.now) thread.new.kept) }
-    ensures errors { ReportsPut thread.old thread.new index (changes_view changes.now) result }
-    ensures device { WritesPairTwo thread.old.kept index thread.new.kept }
+    requires can { CanCommitOrSplit thread.old.kept index (changes_view changes.now) }
+    ensures is_put { OnOk result (AreCommittedOrSplit thread.old.kept index (changes_view changes.now) thread.new.kept) }
+    ensures errors { ReportsCommitOrSplit thread.old thread.new index (changes_view changes.now) result }
+    ensures device { WritesPairAndTwoFree thread.old.kept index thread.new.kept }
     ensures few { read_count thread.new.kept.history ≤ read_count thread.old.kept.history + 6 }
-    ensures stops { CleanLossLeaves thread.old.kept.history thread.new.kept.history (LeftByPut thread.old.kept index (changes_view changes.now)) }
+    ensures stops { CleanLossLeaves thread.old.kept.history thread.new.kept.history (LeftByCommitOrSplit thread.old.kept index (changes_view changes.now)) }
 {
     match thread.commit_pair_changes(alloc, index, changes)? {
         Outcome::Done => Ok(()),
-        Outcome::Full => split_in_two(alloc, thread, index, changes),
+        Outcome::Full => commit_and_split(alloc, thread, index, changes),
     }
 }
 
 // Commits changes to a pair. Requires that the changed content fits, so the commit never needs a
 // split.
-pub(crate) fn commit_fitting<D: BlockDevice>(
+pub(crate) fn commit_without_split<D: BlockDevice>(
     alloc: Global,
     thread: &mut Thread<D>,
     index: usize,

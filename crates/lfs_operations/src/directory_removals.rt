@@ -8,12 +8,12 @@ ghost use Rattle.lfs_tag.specs.FieldsView.{move_view};
 ghost use Rattle.lfs_thread.specs.ThreadDevice.{CleanLossLeaves};
 ghost use Rattle.lfs_thread.specs.ThreadSteps.{ChangesThreadBlocks, thread_pair};
 ghost use Rattle.lfs_operations.specs.Removing.{ReportsCommit, tree_without_entry, removal_written_address};
-ghost use Rattle.lfs_operations.specs.Unlinking.{ArePairsBeforeTouched, CanRemoveDirectory, CanUnlink, IsDirectoryRemoved, IsEntryUnlinked, LeftByUnlink, ReportsCommits, number_after_unlink};
+ghost use Rattle.lfs_operations.specs.Unlinking.{ArePredecessorsChangedOrDropped, CanRemoveDirectory, CanUnlinkEntry, IsDirectoryRemoved, IsEntryUnlinked, LeftByUnlink, ReportsCommits, pair_index_after_unlink};
 ghost use Rattle.lfs_model.specs.format.Thread.{address_blocks, addresses_blocks};
 
-use crate::changes::commit_fitting;
+use crate::changes::commit_without_split;
 use crate::drops::drop_pair_at;
-use crate::removals::drops_with_slot;
+use crate::removals::must_drop_pair;
 use lfs_device::{BlockDevice, Error};
 use lfs_pair::Change;
 use lfs_tag::MoveState;
@@ -21,7 +21,7 @@ use lfs_thread::{Thread, gstate_xor_delta};
 use std::alloc::Global;
 
 // Returns the gstate delta that flips the sync bit.
-pub(crate) fn delta_turning_sync() -> MoveState
+pub(crate) fn sync_flip_delta() -> MoveState
     ensures { move_view result ≡ sync_bit_delta }
 {
     MoveState {
@@ -43,25 +43,25 @@ fn unlink_directory_entry<D: BlockDevice>(
     first: usize,
 ) -> Result<(), Error>
     requires works { thread.old.failed ≡ false }
-    requires can { CanUnlink thread.old.kept pair id first }
+    requires can { CanUnlinkEntry thread.old.kept pair id first }
     ensures is_unlinked { OnOk result (IsEntryUnlinked thread.old.kept pair id first thread.new.kept) }
     ensures errors { ReportsCommit thread.old thread.new result }
     ensures device { ChangesThreadBlocks (address_blocks (removal_written_address thread.old.kept pair first)) thread.old.kept thread.new.kept }
     ensures stops { CleanLossLeaves thread.old.kept.history thread.new.kept.history (LeftByUnlink thread.old.kept pair id first) }
 {
-    let turn = delta_turning_sync();
-    if drops_with_slot(thread, pair, first) {
+    let turn = sync_flip_delta();
+    if must_drop_pair(thread, pair, first) {
         drop_pair_at(alloc, thread, pair, &turn)
     } else {
         let state = gstate_xor_delta(&thread.delta(pair), &turn);
         let changes = [Change::Delete { id }, Change::Move { state }];
         // The remaining content fits, so this commit never needs a split.
-        commit_fitting(alloc, thread, pair, &changes)
+        commit_without_split(alloc, thread, pair, &changes)
     }
 }
 
 // Returns the index of the pair `gone` after the removal of an entry in the pair with index `pair`.
-fn number_after_unlinking<D: BlockDevice>(
+fn index_after_unlinking<D: BlockDevice>(
     thread: &Thread<D>,
     pair: usize,
     first: usize,
@@ -69,9 +69,9 @@ fn number_after_unlinking<D: BlockDevice>(
 ) -> usize
     requires works { thread.now.failed ≡ false }
     requires below { pair < length thread.now.kept.pairs }
-    ensures { result ≡ number_after_unlink thread.now.kept pair first gone }
+    ensures { result ≡ pair_index_after_unlink thread.now.kept pair first gone }
 {
-    if drops_with_slot(thread, pair, first) && pair < gone {
+    if must_drop_pair(thread, pair, first) && pair < gone {
         gone - 1
     } else {
         gone
@@ -99,13 +99,13 @@ pub fn remove_directory<D: BlockDevice>(
     requires works { thread.old.failed ≡ false }
     requires can { CanRemoveDirectory thread.old.kept pair id first gone }
     ensures is_removed { OnOk result ((take : CanRemoveDirectory thread.old.kept pair id first gone) → IsDirectoryRemoved thread.old.kept thread.new.kept take.can.path take.can.name) }
-    ensures alters { OnOk result (ArePairsBeforeTouched thread.old.kept pair first gone thread.new.kept) }
+    ensures alters { OnOk result (ArePredecessorsChangedOrDropped thread.old.kept pair first gone thread.new.kept) }
     ensures errors { ReportsCommits thread.old thread.new result }
     ensures device { ChangesThreadBlocks (addresses_blocks (removal_written_address thread.old.kept pair first) (thread_pair thread.old.kept (gone - 1)).at) thread.old.kept thread.new.kept }
     ensures survives { (take : CanRemoveDirectory thread.old.kept pair id first gone) → SurvivesLossSince thread.old.kept.disk thread.old.kept.history thread.new.kept.history
         (disk_tree thread.old.kept.disk thread.old.kept.pairs) (tree_without_entry thread.old.kept take.can.path take.can.name) }
 {
-    let own = number_after_unlinking(thread, pair, first, gone);
+    let own = index_after_unlinking(thread, pair, first, gone);
     unlink_directory_entry(alloc, thread, pair, id, first)?;
     drop_pair_at(alloc, thread, own, &MoveState::none())
 }

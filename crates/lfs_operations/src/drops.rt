@@ -9,7 +9,7 @@ ghost use Rattle.lfs_tag.specs.FieldsView.{move_view};
 ghost use Rattle.lfs_thread.specs.ThreadDevice.{CleanLossLeaves};
 ghost use Rattle.lfs_thread.specs.ThreadSteps.{ChangesThreadBlocks, complete_after, thread_pair, tail_change};
 ghost use Rattle.lfs_operations.specs.Dropping.{CanDropAt, IsPairDropped, LeftByDrop, delta_after_drop, dropping_changes, content_after_drop};
-ghost use Rattle.lfs_model.specs.layers.StepResults.{tail_past_drop};
+ghost use Rattle.lfs_model.specs.layers.StepResults.{predecessor_tail_after_drop};
 ghost use Rattle.lfs_operations.specs.Removing.{ReportsCommit};
 
 use lfs_device::{BlockDevice, Error};
@@ -20,8 +20,8 @@ use std::alloc::Global;
 
 // Returns the change that sets a pair's tail for the drop of the next pair. `front` is the pair's
 // old tail, and `gone` is the tail of the dropped pair.
-fn tail_past_dropped(front: Option<Tail>, gone: Option<Tail>) -> Change<'static>
-    ensures { change_view result ≡ tail_change (tail_past_drop (option_map tail_view front) (option_map tail_view gone)) }
+fn predecessor_tail_change(front: Option<Tail>, gone: Option<Tail>) -> Change<'static>
+    ensures { change_view result ≡ tail_change (predecessor_tail_after_drop (option_map tail_view front) (option_map tail_view gone)) }
 {
     match gone {
         None => Change::Tail {
@@ -37,7 +37,7 @@ fn tail_past_dropped(front: Option<Tail>, gone: Option<Tail>) -> Change<'static>
 
 // Returns the new gstate delta of the pair before the dropped one. This delta makes the global
 // state `state`.
-fn delta_before_dropped<D: BlockDevice>(
+fn predecessor_new_delta<D: BlockDevice>(
     thread: &Thread<D>,
     index: usize,
     state: &MoveState,
@@ -67,9 +67,9 @@ fn changes_for_drop<D: BlockDevice>(
     // again.
     let _device = thread.device();
     [
-        tail_past_dropped(thread.tail_of_pair(index - 1), thread.tail_of_pair(index)),
+        predecessor_tail_change(thread.tail_of_pair(index - 1), thread.tail_of_pair(index)),
         Change::Move {
-            state: delta_before_dropped(thread, index, state),
+            state: predecessor_new_delta(thread, index, state),
         },
     ]
 }

@@ -19,7 +19,7 @@ mod wear;
 
 pub use attributes::{remove_attribute, set_attribute};
 pub use directory_removals::remove_directory;
-pub use moves::{Route, rename_across, replace_directory_across};
+pub use moves::{Route, rename_across, replace_across_pairs};
 pub use new_directories::make_directory;
 pub use new_files::create_file;
 pub use recovery::{drop_unreached_pairs, end_move};
@@ -27,4 +27,4 @@ pub use removals::remove_file;
 pub use renames::{PairPlace, rename};
 pub use replacements::{EmptyDirectory, rename_onto_directory};
 pub use structs::set_struct;
-pub use wear::{MovePlan, plan_move, relocate};
+pub use wear::{RelocationPlan, plan_move, relocate};

@@ -4,25 +4,25 @@ ghost use Rattle.std.specs.Prelude.{◌≡◌, ◌<◌, ◌-◌, ◌^◌, [], �
 ghost use Rattle.lfs_model.specs.layers.Changes.{PutMove};
 ghost use Rattle.lfs_model.specs.format.Slots.{gstate_xor};
 ghost use Rattle.lfs_operations.specs.RenamingView.{slot_copy_view};
-ghost use Rattle.lfs_model.specs.layers.SlotChanges.{slot_changes};
-ghost use Rattle.lfs_model.specs.layers.LoggedContent.{AreWords};
+ghost use Rattle.lfs_model.specs.layers.SlotChanges.{slot_creation_changes};
+ghost use Rattle.lfs_model.specs.layers.LoggedContent.{AreU32Addresses};
 ghost use Rattle.lfs_model.specs.crash.PowerLoss.{SurvivesLossSince};
 ghost use Rattle.lfs_model.specs.format.Thread.{pairs_gstate, address_blocks};
 ghost use Rattle.lfs_model.specs.tree.Shown.{disk_tree};
 ghost use Rattle.lfs_tag.specs.FieldsView.{move_view};
 ghost use Rattle.lfs_thread.specs.ThreadSteps.{ChangesThreadBlocks, thread_pair};
 ghost use Rattle.lfs_pair.specs.ChangeView.{changes_view};
-ghost use Rattle.lfs_operations.specs.Altering.{WritesTouchedFree};
-ghost use Rattle.lfs_operations.specs.Changing.{WritesThreadTwo};
-ghost use Rattle.lfs_operations.specs.MoveEnds.{CanEndMoveAt, HasEndedMoveAt, ending_written_pair, delta_without_move};
-ghost use Rattle.lfs_model.specs.layers.StepResults.{gstate_naming, gstate_without_move};
-ghost use Rattle.lfs_operations.specs.MovingSteps.{CanPutAndEnd, ArePutAndEnded, SurvivesCommits, ReportsTakingCommits, WritesPairsTwo, second_step_pair, number_after_insertion};
-ghost use Rattle.lfs_operations.specs.MovingAcross.{CanMoveAcross, CanReplaceDirectoryAcross, IsMovedAcross, IsRenamedAcross, moving_changes, removal_changes, route_blocks, tree_moved};
+ghost use Rattle.lfs_operations.specs.Altering.{WritesChangedPairsOrFree};
+ghost use Rattle.lfs_operations.specs.Changing.{WritesThreadAndTwoFree};
+ghost use Rattle.lfs_operations.specs.MoveEnds.{CanEndMoveAt, HasEndedMoveAt, move_ending_written_pair, delta_without_move};
+ghost use Rattle.lfs_model.specs.layers.StepResults.{gstate_with_move, gstate_without_move};
+ghost use Rattle.lfs_operations.specs.MovingSteps.{CanCopyAndEndMove, IsMoveCopiedAndEnded, PowerLossKeepsEitherTree, ReportsAllocatingCommits, WritesPairsAndTwoFree, move_ending_pair, pair_index_after_insertion};
+ghost use Rattle.lfs_operations.specs.MovingAcross.{CanMoveBetweenPairs, CanReplaceDirectoryBetweenPairs, IsMovedBetweenPairs, IsRenamedBetweenPairs, move_start_changes, removal_changes, route_blocks, tree_with_entry_moved};
 ghost use Rattle.lfs_operations.specs.Removing.{ReportsCommit};
 
-use crate::changes::{change_or_split, commit_fitting};
+use crate::changes::{commit_or_split, commit_without_split};
 use crate::drops::drop_pair_at;
-use crate::removals::drops_with_slot;
+use crate::removals::must_drop_pair;
 use crate::slot_copies::{SlotCopy, copy_pair_slot, push_slot_changes};
 use lfs_device::{BlockDevice, Error};
 use lfs_pair::Change;
@@ -51,7 +51,7 @@ fn delta_without_move<D: BlockDevice>(thread: &Thread<D>, pair: usize) -> MoveSt
     requires works { thread.now.failed ≡ false }
     requires below { pair < length thread.now.kept.pairs }
     ensures delta { move_view result ≡ delta_without_move thread.now.kept pair }
-    ensures address { AreWords (move_view result).pair }
+    ensures address { AreU32Addresses (move_view result).pair }
 {
     let mut state = thread.state();
     state.sync = false;
@@ -78,11 +78,11 @@ fn end_move_committing<D: BlockDevice>(
     let state = delta_without_move(thread, pair);
     // The remaining content fits, so this commit never needs a split.
     let changes = [Change::Delete { id }, Change::Move { state }];
-    commit_fitting(alloc, thread, pair, &changes)
+    commit_without_split(alloc, thread, pair, &changes)
 }
 
 // Returns the global state without its pending move.
-fn moveless_gstate<D: BlockDevice>(thread: &Thread<D>) -> MoveState
+fn gstate_ending_move<D: BlockDevice>(thread: &Thread<D>) -> MoveState
     requires { thread.now.failed ≡ false }
     ensures { move_view result ≡ gstate_without_move (pairs_gstate thread.now.kept.pairs) }
 {
@@ -106,7 +106,7 @@ fn end_move_dropping<D: BlockDevice>(
     ensures survives { SurvivesLossSince thread.old.kept.disk thread.old.kept.history thread.new.kept.history
         (disk_tree thread.old.kept.disk thread.old.kept.pairs) (disk_tree thread.old.kept.disk thread.old.kept.pairs) }
 {
-    let state = moveless_gstate(thread);
+    let state = gstate_ending_move(thread);
     drop_pair_at(alloc, thread, pair, &state)
 }
 
@@ -124,7 +124,7 @@ pub(crate) fn end_move<D: BlockDevice>(
     requires can { CanEndMoveAt thread.old.kept pair id goes }
     ensures ended { OnOk result (HasEndedMoveAt thread.old.kept pair id goes thread.new.kept) }
     ensures errors { ReportsCommit thread.old thread.new result }
-    ensures device { ChangesThreadBlocks (address_blocks (thread_pair thread.old.kept (ending_written_pair pair goes)).at) thread.old.kept thread.new.kept }
+    ensures device { ChangesThreadBlocks (address_blocks (thread_pair thread.old.kept (move_ending_written_pair pair goes)).at) thread.old.kept thread.new.kept }
     ensures survives { SurvivesLossSince thread.old.kept.disk thread.old.kept.history thread.new.kept.history
         (disk_tree thread.old.kept.disk thread.old.kept.pairs) (disk_tree thread.old.kept.disk thread.old.kept.pairs) }
 {
@@ -136,16 +136,16 @@ pub(crate) fn end_move<D: BlockDevice>(
 }
 
 // Returns the index of a pair after `fresh` pairs were inserted after the pair `other`.
-fn number_after_inserted(pair: usize, other: usize, fresh: usize) -> usize
-    requires { number_after_insertion pair other fresh < 2 ^ 64 }
-    ensures { result ≡ number_after_insertion pair other fresh }
+fn index_after_insertion(pair: usize, other: usize, fresh: usize) -> usize
+    requires { pair_index_after_insertion pair other fresh < 2 ^ 64 }
+    ensures { result ≡ pair_index_after_insertion pair other fresh }
 {
     if pair < other { pair } else { pair + fresh }
 }
 
 // Commits changes, which set a move, to the new pair. Then ends the move in the old pair, which has
 // the slot to which the move refers.
-fn put_and_end<D: BlockDevice>(
+fn copy_then_end<D: BlockDevice>(
     alloc: Global,
     thread: &mut Thread<D>,
     route: Route,
@@ -153,27 +153,27 @@ fn put_and_end<D: BlockDevice>(
     changes: &[Change<'_>],
 ) -> Result<(), Error>
     requires works { thread.old.failed ≡ false }
-    requires can { CanPutAndEnd thread.old.kept route.old_pair route.old_id goes route.new_pair (changes_view changes.now) }
-    ensures done { OnOk result (ArePutAndEnded thread.old.kept route.old_pair route.old_id goes route.new_pair (changes_view changes.now) thread.new.kept) }
-    ensures errors { ReportsTakingCommits thread.old thread.new route.new_pair (changes_view changes.now) result }
-    ensures device { WritesPairsTwo thread.old.kept (ending_written_pair route.old_pair goes) route.new_pair thread.new.kept }
-    ensures survives { SurvivesCommits thread.old.kept route.new_pair (changes_view changes.now) thread.new.kept }
+    requires can { CanCopyAndEndMove thread.old.kept route.old_pair route.old_id goes route.new_pair (changes_view changes.now) }
+    ensures done { OnOk result (IsMoveCopiedAndEnded thread.old.kept route.old_pair route.old_id goes route.new_pair (changes_view changes.now) thread.new.kept) }
+    ensures errors { ReportsAllocatingCommits thread.old thread.new route.new_pair (changes_view changes.now) result }
+    ensures device { WritesPairsAndTwoFree thread.old.kept (move_ending_written_pair route.old_pair goes) route.new_pair thread.new.kept }
+    ensures survives { PowerLossKeepsEitherTree thread.old.kept route.new_pair (changes_view changes.now) thread.new.kept }
 {
     let before = thread.len();
-    change_or_split(alloc, thread, route.new_pair, changes)?;
+    commit_or_split(alloc, thread, route.new_pair, changes)?;
     let fresh = thread.len() - before;
-    let pair = number_after_inserted(route.old_pair, route.new_pair, fresh);
+    let pair = index_after_insertion(route.old_pair, route.new_pair, fresh);
     end_move(alloc, thread, pair, route.old_id, goes)
 }
 
 // Returns the gstate delta of the new pair that sets a move of the old slot. The delta also sets
 // the sync bit if `sync` is true. Requires that no move is pending.
-fn move_setting_delta<D: BlockDevice>(thread: &Thread<D>, route: Route, sync: bool) -> MoveState
+fn move_start_delta<D: BlockDevice>(thread: &Thread<D>, route: Route, sync: bool) -> MoveState
     requires works { thread.now.failed ≡ false }
     requires old_below { route.old_pair < length thread.now.kept.pairs }
     requires new_below { route.new_pair < length thread.now.kept.pairs }
-    ensures delta { move_view result ≡ gstate_xor (gstate_naming sync (thread_pair thread.now.kept route.old_pair).at route.old_id) (thread_pair thread.now.kept route.new_pair).content.move }
-    ensures address { AreWords (thread_pair thread.now.kept route.old_pair).at }
+    ensures delta { move_view result ≡ gstate_xor (gstate_with_move sync (thread_pair thread.now.kept route.old_pair).at route.old_id) (thread_pair thread.now.kept route.new_pair).content.move }
+    ensures address { AreU32Addresses (thread_pair thread.now.kept route.old_pair).at }
 {
     let pair = thread.blocks_of_pair(route.old_pair);
     let state = MoveState {
@@ -202,7 +202,7 @@ pub(crate) fn push_slot_removal<'a>(
 
 // Returns the changes that set a gstate delta and create a copied slot at id `id`. If `replaces` is
 // true, they delete the slot with that id first.
-fn moving_changes<'a>(
+fn move_start_changes<'a>(
     alloc: Global,
     state: MoveState,
     replaces: bool,
@@ -210,7 +210,7 @@ fn moving_changes<'a>(
     name: &'a [u8],
     copy: &'a SlotCopy,
 ) -> Result<Vec<Change<'a>>, AllocError>
-    ensures { IfOk result (λ changes. changes_view changes.items ≡ PutMove (move_view state) ∷ (removal_changes replaces id ++ slot_changes id name.now (slot_copy_view copy.now))) }
+    ensures { IfOk result (λ changes. changes_view changes.items ≡ PutMove (move_view state) ∷ (removal_changes replaces id ++ slot_creation_changes id name.now (slot_copy_view copy.now))) }
 {
     let mut changes = Vec::new(alloc);
     changes.push(Change::Move { state })?;
@@ -222,7 +222,7 @@ fn moving_changes<'a>(
 // Copies an entry into another pair, and sets a move that refers to the old slot. Then deletes the
 // old slot, and ends the move. If `replaces` is true, first deletes the slot with the new id. If
 // `sync` is true, sets the sync bit together with the move.
-fn move_across<D: BlockDevice>(
+fn move_between_pairs<D: BlockDevice>(
     alloc: Global,
     thread: &mut Thread<D>,
     route: Route,
@@ -231,18 +231,18 @@ fn move_across<D: BlockDevice>(
     name: &[u8],
 ) -> Result<(), Error>
     requires works { thread.old.failed ≡ false }
-    requires can { CanMoveAcross replaces sync thread.old.kept route name.now }
-    ensures moved { OnOk result (IsMovedAcross replaces sync thread.old.kept route name.now thread.new.kept) }
-    ensures errors { ReportsTakingCommits thread.old thread.new route.new_pair (moving_changes replaces sync thread.old.kept route name.now) result }
-    ensures device { WritesPairsTwo thread.old.kept (second_step_pair thread.old.kept route.old_pair route.first) route.new_pair thread.new.kept }
-    ensures survives { (rename : CanMoveAcross replaces sync thread.old.kept route name.now) → SurvivesLossSince thread.old.kept.disk thread.old.kept.history thread.new.kept.history
-        (disk_tree thread.old.kept.disk thread.old.kept.pairs) (tree_moved thread.old.kept rename.old.path rename.old.name rename.path name.now) }
+    requires can { CanMoveBetweenPairs replaces sync thread.old.kept route name.now }
+    ensures moved { OnOk result (IsMovedBetweenPairs replaces sync thread.old.kept route name.now thread.new.kept) }
+    ensures errors { ReportsAllocatingCommits thread.old thread.new route.new_pair (move_start_changes replaces sync thread.old.kept route name.now) result }
+    ensures device { WritesPairsAndTwoFree thread.old.kept (move_ending_pair thread.old.kept route.old_pair route.first) route.new_pair thread.new.kept }
+    ensures survives { (rename : CanMoveBetweenPairs replaces sync thread.old.kept route name.now) → SurvivesLossSince thread.old.kept.disk thread.old.kept.history thread.new.kept.history
+        (disk_tree thread.old.kept.disk thread.old.kept.pairs) (tree_with_entry_moved thread.old.kept rename.old.path rename.old.name rename.path name.now) }
 {
-    let goes = drops_with_slot(thread, route.old_pair, route.first);
+    let goes = must_drop_pair(thread, route.old_pair, route.first);
     let copy = copy_pair_slot(alloc, thread, route.old_pair, route.old_id)?;
-    let state = move_setting_delta(thread, route, sync);
-    let changes = moving_changes(alloc, state, replaces, route.new_id, name, &copy)?;
-    put_and_end(alloc, thread, route, goes, &changes)
+    let state = move_start_delta(thread, route, sync);
+    let changes = move_start_changes(alloc, state, replaces, route.new_id, name, &copy)?;
+    copy_then_end(alloc, thread, route, goes, &changes)
 }
 
 /// Renames an entry to a name that belongs in another pair, in the same directory or in another
@@ -269,16 +269,16 @@ pub fn rename_across<D: BlockDevice>(
     name: &[u8],
 ) -> Result<(), Error>
     requires works { thread.old.failed ≡ false }
-    requires can { CanMoveAcross replaces false thread.old.kept route name.now }
-    ensures renamed { OnOk result ((rename : CanMoveAcross replaces false thread.old.kept route name.now)
-        → IsRenamedAcross thread.old.kept thread.new.kept rename.old.path rename.old.name rename.path name.now rename.gone) }
-    ensures alters { OnOk result (WritesTouchedFree thread.old.kept (route_blocks replaces thread.old.kept route) thread.new.kept) }
-    ensures errors { ReportsTakingCommits thread.old thread.new route.new_pair (moving_changes replaces false thread.old.kept route name.now) result }
-    ensures device { WritesPairsTwo thread.old.kept (second_step_pair thread.old.kept route.old_pair route.first) route.new_pair thread.new.kept }
-    ensures survives { (rename : CanMoveAcross replaces false thread.old.kept route name.now) → SurvivesLossSince thread.old.kept.disk thread.old.kept.history thread.new.kept.history
-        (disk_tree thread.old.kept.disk thread.old.kept.pairs) (tree_moved thread.old.kept rename.old.path rename.old.name rename.path name.now) }
+    requires can { CanMoveBetweenPairs replaces false thread.old.kept route name.now }
+    ensures renamed { OnOk result ((rename : CanMoveBetweenPairs replaces false thread.old.kept route name.now)
+        → IsRenamedBetweenPairs thread.old.kept thread.new.kept rename.old.path rename.old.name rename.path name.now rename.gone) }
+    ensures alters { OnOk result (WritesChangedPairsOrFree thread.old.kept (route_blocks replaces thread.old.kept route) thread.new.kept) }
+    ensures errors { ReportsAllocatingCommits thread.old thread.new route.new_pair (move_start_changes replaces false thread.old.kept route name.now) result }
+    ensures device { WritesPairsAndTwoFree thread.old.kept (move_ending_pair thread.old.kept route.old_pair route.first) route.new_pair thread.new.kept }
+    ensures survives { (rename : CanMoveBetweenPairs replaces false thread.old.kept route name.now) → SurvivesLossSince thread.old.kept.disk thread.old.kept.history thread.new.kept.history
+        (disk_tree thread.old.kept.disk thread.old.kept.pairs) (tree_with_entry_moved thread.old.kept rename.old.path rename.old.name rename.path name.now) }
 {
-    move_across(alloc, thread, route, replaces, false, name)
+    move_between_pairs(alloc, thread, route, replaces, false, name)
 }
 
 /// Renames an entry over an empty directory whose entry is in another pair, in the same parent
@@ -288,7 +288,7 @@ pub fn rename_across<D: BlockDevice>(
 /// sync bit.
 ///
 /// Errors are those of [`rename_across`].
-pub fn replace_directory_across<D: BlockDevice>(
+pub fn replace_across_pairs<D: BlockDevice>(
     alloc: Global,
     thread: &mut Thread<D>,
     route: Route,
@@ -296,17 +296,17 @@ pub fn replace_directory_across<D: BlockDevice>(
     name: &[u8],
 ) -> Result<(), Error>
     requires works { thread.old.failed ≡ false }
-    requires can { CanReplaceDirectoryAcross thread.old.kept route name.now gone }
-    ensures renamed { OnOk result ((rename : CanReplaceDirectoryAcross thread.old.kept route name.now gone)
-        → IsRenamedAcross thread.old.kept thread.new.kept rename.onto.old.path rename.onto.old.name rename.onto.path name.now []) }
-    ensures alters { OnOk result (WritesTouchedFree thread.old.kept (route_blocks true thread.old.kept route) thread.new.kept) }
-    ensures errors { ReportsTakingCommits thread.old thread.new route.new_pair (moving_changes true true thread.old.kept route name.now) result }
-    ensures device { WritesThreadTwo thread.old.kept thread.new.kept }
-    ensures survives { (rename : CanReplaceDirectoryAcross thread.old.kept route name.now gone) → SurvivesLossSince thread.old.kept.disk thread.old.kept.history thread.new.kept.history
-        (disk_tree thread.old.kept.disk thread.old.kept.pairs) (tree_moved thread.old.kept rename.onto.old.path rename.onto.old.name rename.onto.path name.now) }
+    requires can { CanReplaceDirectoryBetweenPairs thread.old.kept route name.now gone }
+    ensures renamed { OnOk result ((rename : CanReplaceDirectoryBetweenPairs thread.old.kept route name.now gone)
+        → IsRenamedBetweenPairs thread.old.kept thread.new.kept rename.onto.old.path rename.onto.old.name rename.onto.path name.now []) }
+    ensures alters { OnOk result (WritesChangedPairsOrFree thread.old.kept (route_blocks true thread.old.kept route) thread.new.kept) }
+    ensures errors { ReportsAllocatingCommits thread.old thread.new route.new_pair (move_start_changes true true thread.old.kept route name.now) result }
+    ensures device { WritesThreadAndTwoFree thread.old.kept thread.new.kept }
+    ensures survives { (rename : CanReplaceDirectoryBetweenPairs thread.old.kept route name.now gone) → SurvivesLossSince thread.old.kept.disk thread.old.kept.history thread.new.kept.history
+        (disk_tree thread.old.kept.disk thread.old.kept.pairs) (tree_with_entry_moved thread.old.kept rename.onto.old.path rename.onto.old.name rename.onto.path name.now) }
 {
     let at = thread.blocks_of_pair(gone);
-    move_across(alloc, thread, route, true, true, name)?;
+    move_between_pairs(alloc, thread, route, true, true, name)?;
     // The pair's index may have changed, because pairs before it may have been inserted or dropped.
     match number_at_address(thread, at) {
         Some(index) => drop_pair_at(alloc, thread, index, &MoveState::none()),

@@ -4,18 +4,18 @@ ghost use Rattle.std.specs.Prelude.{◌≡◌, ◌<◌, ◌^◌, ℕ, false, len
 ghost use Rattle.lfs_device.specs.Bytes.{AreByteBlocks};
 ghost use Rattle.lfs_model.specs.format.Disk.{block_count};
 ghost use Rattle.lfs_model.specs.crash.PowerLoss.{HasEitherTree, SurvivesLossSince};
-ghost use Rattle.lfs_model.specs.format.Slots.{address_view};
+ghost use Rattle.lfs_model.specs.format.Slots.{address_of_array};
 ghost use Rattle.lfs_model.specs.tree.Shown.{disk_tree};
 ghost use Rattle.lfs_model.specs.layers.Steps.{with_sync_inverted};
 ghost use Rattle.lfs_tag.specs.FieldsView.{move_view};
 ghost use Rattle.lfs_thread.specs.ThreadDevice.{CleanLossLeaves};
 ghost use Rattle.lfs_thread.specs.ThreadSteps.{IsThreadedIn, LossLeavesThreaded, ChangesThreadBlocks, thread_pair};
-ghost use Rattle.lfs_operations.specs.Changing.{CanPut, LeftByPut, ArePut, ReportsPut, WritesPairTwo};
-ghost use Rattle.lfs_operations.specs.Making.{AreBothTouched, CanLinkPairAfter, CanMakeAt, IsDirectoryMade, ReportsPairLink, ReportsMaking, WritesPairsFour, entry_changes, directory_entry_changes, threading_changes, tree_with_directory};
+ghost use Rattle.lfs_operations.specs.Changing.{CanCommitOrSplit, LeftByCommitOrSplit, AreCommittedOrSplit, ReportsCommitOrSplit, WritesPairAndTwoFree};
+ghost use Rattle.lfs_operations.specs.Making.{AreBothChangedOrDropped, CanLinkPairAfter, CanMakeDirectoryAt, IsDirectoryMade, ReportsPairLink, ReportsDirectoryCreation, WritesPairsAndFourFree, entry_changes, directory_entry_changes, threading_changes, tree_with_directory};
 ghost use Rattle.lfs_model.specs.layers.StepResults.{IsDirectoryEnd};
 ghost use Rattle.lfs_model.specs.format.Thread.{address_blocks, addresses_blocks};
 
-use crate::changes::{change_or_split, take_two_blocks};
+use crate::changes::{allocate_two_blocks, commit_or_split};
 use lfs_device::{BlockDevice, Error};
 use lfs_pair::Change;
 use lfs_tag::kinds::{DIRECTORY_NAME, DIRECTORY_STRUCT};
@@ -47,7 +47,7 @@ fn last_directory_pair<D: BlockDevice>(thread: &Thread<D>, index: usize) -> usiz
 
 // Returns a gstate delta with its sync bit flipped. A commit of this delta flips the sync bit of
 // the global state.
-fn turned_sync_delta(delta: &MoveState) -> MoveState
+fn flip_sync_bit(delta: &MoveState) -> MoveState
     ensures { move_view result ≡ with_sync_inverted (move_view delta.now) }
 {
     MoveState {
@@ -67,11 +67,11 @@ fn link_pair_after<D: BlockDevice>(
     fresh: [u32; 2],
 ) -> Result<(), Error>
     requires works { thread.old.failed ≡ false }
-    requires can { CanLinkPairAfter thread.old.kept last (address_view fresh) }
-    ensures is_joined { OnOk result (IsThreadedIn thread.old.kept last (address_view fresh) (threading_changes thread.old.kept last (address_view fresh)) thread.new.kept) }
-    ensures errors { ReportsPairLink thread.old thread.new (address_view fresh) result }
-    ensures device { ChangesThreadBlocks (addresses_blocks (thread_pair thread.old.kept last).at (address_view fresh)) thread.old.kept thread.new.kept }
-    ensures stops { CleanLossLeaves thread.old.kept.history thread.new.kept.history (LossLeavesThreaded thread.old.kept last (address_view fresh) (threading_changes thread.old.kept last (address_view fresh))) }
+    requires can { CanLinkPairAfter thread.old.kept last (address_of_array fresh) }
+    ensures is_joined { OnOk result (IsThreadedIn thread.old.kept last (address_of_array fresh) (threading_changes thread.old.kept last (address_of_array fresh)) thread.new.kept) }
+    ensures errors { ReportsPairLink thread.old thread.new (address_of_array fresh) result }
+    ensures device { ChangesThreadBlocks (addresses_blocks (thread_pair thread.old.kept last).at (address_of_array fresh)) thread.old.kept thread.new.kept }
+    ensures stops { CleanLossLeaves thread.old.kept.history thread.new.kept.history (LossLeavesThreaded thread.old.kept last (address_of_array fresh) (threading_changes thread.old.kept last (address_of_array fresh))) }
 {
     let changes = [
         Change::Tail {
@@ -79,7 +79,7 @@ fn link_pair_after<D: BlockDevice>(
             pair: Some(fresh),
         },
         Change::Move {
-            state: turned_sync_delta(&thread.delta(last)),
+            state: flip_sync_bit(&thread.delta(last)),
         },
     ];
     // The pair reserves space for a tail and a gstate delta, so this commit never needs a split.
@@ -88,7 +88,7 @@ fn link_pair_after<D: BlockDevice>(
 }
 
 // Creates an entry with a directory's struct in a pair, and flips the sync bit.
-fn put_directory_entry<'a, D: BlockDevice>(
+fn create_entry_flipping<'a, D: BlockDevice>(
     alloc: Global,
     thread: &mut Thread<D>,
     pair: usize,
@@ -97,11 +97,11 @@ fn put_directory_entry<'a, D: BlockDevice>(
     branch: &'a [u8],
 ) -> Result<(), Error>
     requires works { thread.old.failed ≡ false }
-    requires can { CanPut thread.old.kept pair (entry_changes thread.old.kept pair id name.now branch.now) }
-    ensures is_put { OnOk result (ArePut thread.old.kept pair (entry_changes thread.old.kept pair id name.now branch.now) thread.new.kept) }
-    ensures errors { ReportsPut thread.old thread.new pair (entry_changes thread.old.kept pair id name.now branch.now) result }
-    ensures device { WritesPairTwo thread.old.kept pair thread.new.kept }
-    ensures stops { CleanLossLeaves thread.old.kept.history thread.new.kept.history (LeftByPut thread.old.kept pair (entry_changes thread.old.kept pair id name.now branch.now)) }
+    requires can { CanCommitOrSplit thread.old.kept pair (entry_changes thread.old.kept pair id name.now branch.now) }
+    ensures is_put { OnOk result (AreCommittedOrSplit thread.old.kept pair (entry_changes thread.old.kept pair id name.now branch.now) thread.new.kept) }
+    ensures errors { ReportsCommitOrSplit thread.old thread.new pair (entry_changes thread.old.kept pair id name.now branch.now) result }
+    ensures device { WritesPairAndTwoFree thread.old.kept pair thread.new.kept }
+    ensures stops { CleanLossLeaves thread.old.kept.history thread.new.kept.history (LeftByCommitOrSplit thread.old.kept pair (entry_changes thread.old.kept pair id name.now branch.now)) }
 {
     let changes = [
         Change::Create {
@@ -115,14 +115,14 @@ fn put_directory_entry<'a, D: BlockDevice>(
             bytes: branch,
         },
         Change::Move {
-            state: turned_sync_delta(&thread.delta(pair)),
+            state: flip_sync_bit(&thread.delta(pair)),
         },
     ];
-    change_or_split(alloc, thread, pair, &changes)
+    commit_or_split(alloc, thread, pair, &changes)
 }
 
 // Creates the entry of the directory whose first pair is at address `at`, and clears the sync bit.
-fn put_branch_entry<D: BlockDevice>(
+fn create_subdirectory_entry<D: BlockDevice>(
     alloc: Global,
     thread: &mut Thread<D>,
     pair: usize,
@@ -131,14 +131,14 @@ fn put_branch_entry<D: BlockDevice>(
     at: [u32; 2],
 ) -> Result<(), Error>
     requires works { thread.old.failed ≡ false }
-    requires can { CanPut thread.old.kept pair (directory_entry_changes thread.old.kept pair id name.now (address_view at)) }
-    ensures is_put { OnOk result (ArePut thread.old.kept pair (directory_entry_changes thread.old.kept pair id name.now (address_view at)) thread.new.kept) }
-    ensures errors { ReportsPut thread.old thread.new pair (directory_entry_changes thread.old.kept pair id name.now (address_view at)) result }
-    ensures device { WritesPairTwo thread.old.kept pair thread.new.kept }
-    ensures stops { CleanLossLeaves thread.old.kept.history thread.new.kept.history (LeftByPut thread.old.kept pair (directory_entry_changes thread.old.kept pair id name.now (address_view at))) }
+    requires can { CanCommitOrSplit thread.old.kept pair (directory_entry_changes thread.old.kept pair id name.now (address_of_array at)) }
+    ensures is_put { OnOk result (AreCommittedOrSplit thread.old.kept pair (directory_entry_changes thread.old.kept pair id name.now (address_of_array at)) thread.new.kept) }
+    ensures errors { ReportsCommitOrSplit thread.old thread.new pair (directory_entry_changes thread.old.kept pair id name.now (address_of_array at)) result }
+    ensures device { WritesPairAndTwoFree thread.old.kept pair thread.new.kept }
+    ensures stops { CleanLossLeaves thread.old.kept.history thread.new.kept.history (LeftByCommitOrSplit thread.old.kept pair (directory_entry_changes thread.old.kept pair id name.now (address_of_array at))) }
 {
     let branch = pair_bytes(at);
-    put_directory_entry(alloc, thread, pair, id, name, &branch)
+    create_entry_flipping(alloc, thread, pair, id, name, &branch)
 }
 
 /// Creates an empty directory, with an entry of id `id` in the pair with index `pair`. Requires
@@ -159,22 +159,22 @@ pub fn make_directory<D: BlockDevice>(
     name: &[u8],
 ) -> Result<(), Error>
     requires works { thread.old.failed ≡ false }
-    requires can { CanMakeAt thread.old.kept pair id name.now }
-    ensures made { OnOk result ((can : CanMakeAt thread.old.kept pair id name.now) → IsDirectoryMade thread.old.kept thread.new.kept can.path name.now) }
-    ensures alters { OnOk result (AreBothTouched thread.old.kept pair thread.new.kept) }
-    ensures errors { ReportsMaking thread.old thread.new result }
-    ensures device { WritesPairsFour thread.old.kept pair thread.new.kept }
-    ensures stands { result ≡ Err Error.NoMemory → (can : CanMakeAt thread.old.kept pair id name.now) → HasEitherTree thread.new.kept.disk
+    requires can { CanMakeDirectoryAt thread.old.kept pair id name.now }
+    ensures made { OnOk result ((can : CanMakeDirectoryAt thread.old.kept pair id name.now) → IsDirectoryMade thread.old.kept thread.new.kept can.path name.now) }
+    ensures alters { OnOk result (AreBothChangedOrDropped thread.old.kept pair thread.new.kept) }
+    ensures errors { ReportsDirectoryCreation thread.old thread.new result }
+    ensures device { WritesPairsAndFourFree thread.old.kept pair thread.new.kept }
+    ensures stands { result ≡ Err Error.NoMemory → (can : CanMakeDirectoryAt thread.old.kept pair id name.now) → HasEitherTree thread.new.kept.disk
         (disk_tree thread.old.kept.disk thread.old.kept.pairs) (tree_with_directory thread.old.kept can.path name.now) }
-    ensures survives { (can : CanMakeAt thread.old.kept pair id name.now) → SurvivesLossSince thread.old.kept.disk thread.old.kept.history thread.new.kept.history
+    ensures survives { (can : CanMakeDirectoryAt thread.old.kept pair id name.now) → SurvivesLossSince thread.old.kept.disk thread.old.kept.history thread.new.kept.history
         (disk_tree thread.old.kept.disk thread.old.kept.pairs) (tree_with_directory thread.old.kept can.path name.now) }
 {
     let last = last_directory_pair(thread, pair);
     lemma_device_facts(thread);
-    let Some(fresh) = take_two_blocks(thread) else {
+    let Some(fresh) = allocate_two_blocks(thread) else {
         return Err(Error::NoSpace);
     };
     link_pair_after(alloc, thread, last, fresh)?;
     lemma_device_facts(thread);
-    put_branch_entry(alloc, thread, pair, id, name, fresh)
+    create_subdirectory_entry(alloc, thread, pair, id, name, fresh)
 }

@@ -4,10 +4,10 @@ ghost use Rattle.std.specs.Prelude.{◌≡◌, ◌≤◌, ◌+◌, false, OnOk};
 ghost use Rattle.lfs_model.specs.session.History.{read_count};
 ghost use Rattle.lfs_model.specs.crash.PowerLoss.{SurvivesLossSince};
 ghost use Rattle.lfs_model.specs.tree.Shown.{disk_tree};
-ghost use Rattle.lfs_operations.specs.Changing.{IsPairTouched, ReportsPut, WritesPairTwo};
+ghost use Rattle.lfs_operations.specs.Changing.{IsPairChangedOrDropped, ReportsCommitOrSplit, WritesPairAndTwoFree};
 ghost use Rattle.lfs_operations.specs.Creating.{CanCreateIn, IsFileCreated, creation_changes, tree_with_file};
 
-use crate::changes::change_or_split;
+use crate::changes::commit_or_split;
 use lfs_device::{BlockDevice, Error};
 use lfs_pair::Change;
 use lfs_tag::kinds::{FILE_NAME, INLINE_STRUCT};
@@ -32,9 +32,9 @@ pub fn create_file<D: BlockDevice>(
     requires works { thread.old.failed ≡ false }
     requires can { CanCreateIn thread.old.kept pair id name.now }
     ensures created { OnOk result ((can : CanCreateIn thread.old.kept pair id name.now) → IsFileCreated thread.old.kept thread.new.kept can.path name.now) }
-    ensures alters { OnOk result (IsPairTouched thread.old.kept pair thread.new.kept) }
-    ensures errors { ReportsPut thread.old thread.new pair (creation_changes id name.now) result }
-    ensures device { WritesPairTwo thread.old.kept pair thread.new.kept }
+    ensures alters { OnOk result (IsPairChangedOrDropped thread.old.kept pair thread.new.kept) }
+    ensures errors { ReportsCommitOrSplit thread.old thread.new pair (creation_changes id name.now) result }
+    ensures device { WritesPairAndTwoFree thread.old.kept pair thread.new.kept }
     ensures few { read_count thread.new.kept.history ≤ read_count thread.old.kept.history + 6 }
     ensures survives { (can : CanCreateIn thread.old.kept pair id name.now) → SurvivesLossSince thread.old.kept.disk thread.old.kept.history thread.new.kept.history
         (disk_tree thread.old.kept.disk thread.old.kept.pairs) (tree_with_file thread.old.kept can.path name.now) }
@@ -51,5 +51,5 @@ pub fn create_file<D: BlockDevice>(
             bytes: &[],
         },
     ];
-    change_or_split(alloc, thread, pair, &changes)
+    commit_or_split(alloc, thread, pair, &changes)
 }

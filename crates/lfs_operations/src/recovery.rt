@@ -12,11 +12,11 @@ ghost use Rattle.lfs_tag.specs.FieldsView.{move_view};
 ghost use Rattle.lfs_thread.specs.ThreadDevice.{CleanLossLeaves};
 ghost use Rattle.lfs_thread.specs.ThreadSteps.{complete_after, IsPairCommitted, LossLeavesPair, ChangesThreadBlocks, thread_pair};
 ghost use Rattle.lfs_operations.specs.Deltas.{content_reaching_gstate, CanSetGstate, tail_is_hard, gstate_changes, delta_reaching_gstate};
-ghost use Rattle.lfs_operations.specs.Recovering.{CanClearSync, CanDropPairs, HasDroppedRecovered, IsSyncCleared, ReportsRecovery, gstate_while_dropping};
-ghost use Rattle.lfs_operations.specs.EndingMove.{CanEndMove, HasEndedMove, HasMovedSlot, drops_when_emptied};
+ghost use Rattle.lfs_operations.specs.Recovering.{CanClearSync, CanDropPairs, HasCompletedRecovery, IsSyncCleared, ReportsRecovery, gstate_while_dropping};
+ghost use Rattle.lfs_operations.specs.EndingMove.{CanEndMove, HasEndedMove, HasMovedSlot, drops_pair_after_move};
 ghost use Rattle.lfs_operations.specs.Removing.{ReportsCommit};
 
-use crate::changes::commit_fitting;
+use crate::changes::commit_without_split;
 use crate::drops::drop_pair_at;
 use crate::moves;
 use crate::new_directories::lemma_device_facts;
@@ -68,12 +68,12 @@ fn set_gstate_in<D: BlockDevice>(
     lemma_device_facts(thread);
     let state = delta_for_gstate(thread, index, wanted);
     // The pair keeps its slots, so this commit never needs a split.
-    commit_fitting(alloc, thread, index, &[Change::Move { state }])
+    commit_without_split(alloc, thread, index, &[Change::Move { state }])
 }
 
 // Returns the global state after the drop of an orphan: zero if the orphan is the last one, or the
 // current state otherwise.
-fn lemma_gstate_zero<D: BlockDevice>(thread: &Thread<D>, is_last: bool) -> MoveState
+fn gstate_after_drop<D: BlockDevice>(thread: &Thread<D>, is_last: bool) -> MoveState
     requires { thread.now.failed ≡ false }
     ensures { move_view result ≡ gstate_while_dropping thread.now.kept is_last }
 {
@@ -122,7 +122,7 @@ pub fn drop_unreached_pairs<D: BlockDevice>(
     requires works { thread.old.failed ≡ false }
     requires can { CanDropPairs thread.old.kept unreached.now }
     ensures nothing { IsRecovered thread.old.kept.pairs → thread.new.kept ≡ thread.old.kept }
-    ensures recovered { OnOk result (HasDroppedRecovered thread.old.kept unreached.now thread.new.kept) }
+    ensures recovered { OnOk result (HasCompletedRecovery thread.old.kept unreached.now thread.new.kept) }
     ensures errors { ReportsRecovery thread.old thread.new result }
     ensures device { ChangesThreadBlocks (pairs_blocks thread.old.kept.pairs) thread.old.kept thread.new.kept }
     ensures survives { SurvivesLossSince thread.old.kept.disk thread.old.kept.history thread.new.kept.history
@@ -130,7 +130,7 @@ pub fn drop_unreached_pairs<D: BlockDevice>(
 {
     for dropped in 0..unreached.len() {
         let behind = unreached[dropped] - dropped;
-        let wanted = lemma_gstate_zero(thread, dropped + 1 == unreached.len());
+        let wanted = gstate_after_drop(thread, dropped + 1 == unreached.len());
         drop_pair_at(alloc, thread, behind, &wanted)?;
     }
     clear_sync_bit(alloc, thread)
@@ -151,10 +151,10 @@ fn moved_slot_pair<D: BlockDevice>(thread: &Thread<D>, state: &MoveState) -> Opt
 }
 
 // Returns whether a pair has exactly one slot and follows a hard tail.
-fn drops_if_emptied<D: BlockDevice>(thread: &Thread<D>, index: usize) -> bool
+fn is_droppable_pair<D: BlockDevice>(thread: &Thread<D>, index: usize) -> bool
     requires works { thread.now.failed ≡ false }
     requires below { index < length thread.now.kept.pairs }
-    ensures { result ≡ drops_when_emptied thread.now.kept index }
+    ensures { result ≡ drops_pair_after_move thread.now.kept index }
 {
     index > 0 && thread.slot_count(index) == 1 && is_tail_hard(thread, index - 1)
 }
@@ -179,7 +179,7 @@ pub fn end_move<D: BlockDevice>(alloc: Global, thread: &mut Thread<D>) -> Result
     let Some(index) = moved_slot_pair(thread, &state) else {
         return Ok(());
     };
-    let goes = drops_if_emptied(thread, index);
+    let goes = is_droppable_pair(thread, index);
     lemma_device_facts(thread);
     moves::end_move(alloc, thread, index, state.id, goes)
 }

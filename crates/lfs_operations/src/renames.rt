@@ -5,13 +5,13 @@ ghost use Rattle.lfs_model.specs.layers.Changes.{Delete};
 ghost use Rattle.lfs_model.specs.crash.PowerLoss.{SurvivesLossSince};
 ghost use Rattle.lfs_model.specs.tree.Shown.{disk_tree};
 ghost use Rattle.lfs_pair.specs.ChangeView.{changes_view};
-ghost use Rattle.lfs_operations.specs.Changing.{WritesPairTwo};
+ghost use Rattle.lfs_operations.specs.Changing.{WritesPairAndTwoFree};
 ghost use Rattle.lfs_operations.specs.MovingAcross.{removal_changes};
-ghost use Rattle.lfs_operations.specs.Renaming.{CanRenameInPair, IsRenamedInPair, ReportsReadPut, id_after_removal, renaming_changes, tree_renamed};
+ghost use Rattle.lfs_operations.specs.Renaming.{CanRenameInPair, IsRenamedInPair, ReportsReadCommitOrSplit, id_after_removal, renaming_changes, tree_with_entry_renamed};
 ghost use Rattle.lfs_operations.specs.RenamingView.{slot_copy_view};
-ghost use Rattle.lfs_model.specs.layers.SlotChanges.{slot_changes};
+ghost use Rattle.lfs_model.specs.layers.SlotChanges.{slot_creation_changes};
 
-use crate::changes::change_or_split;
+use crate::changes::commit_or_split;
 use crate::moves::push_slot_removal;
 use crate::slot_copies::{SlotCopy, copy_pair_slot, push_slot_changes};
 use lfs_device::{BlockDevice, Error};
@@ -34,7 +34,7 @@ fn renaming_changes<'a>(
     name: &'a [u8],
     copy: &'a SlotCopy,
 ) -> Result<Vec<Change<'a>>, AllocError>
-    ensures { IfOk result (λ changes. changes_view changes.items ≡ Delete id ∷ (removal_changes to.replaces (id_after_removal id to.id) ++ slot_changes (id_after_removal id to.id) name.now (slot_copy_view copy.now))) }
+    ensures { IfOk result (λ changes. changes_view changes.items ≡ Delete id ∷ (removal_changes to.replaces (id_after_removal id to.id) ++ slot_creation_changes (id_after_removal id to.id) name.now (slot_copy_view copy.now))) }
 {
     let place = id_after_removed(id, to.id);
     let mut changes = Vec::new(alloc);
@@ -76,12 +76,12 @@ pub fn rename<D: BlockDevice>(
     requires works { thread.old.failed ≡ false }
     requires can { CanRenameInPair to.replaces thread.old.kept pair id to.id name.now }
     ensures renamed { OnOk result ((rename : CanRenameInPair to.replaces thread.old.kept pair id to.id name.now) → IsRenamedInPair thread.old.kept thread.new.kept rename.can.path rename.can.name name.now rename.gone) }
-    ensures errors { ReportsReadPut thread.old thread.new pair (renaming_changes to.replaces thread.old.kept pair id to.id name.now) result }
-    ensures device { WritesPairTwo thread.old.kept pair thread.new.kept }
+    ensures errors { ReportsReadCommitOrSplit thread.old thread.new pair (renaming_changes to.replaces thread.old.kept pair id to.id name.now) result }
+    ensures device { WritesPairAndTwoFree thread.old.kept pair thread.new.kept }
     ensures survives { (rename : CanRenameInPair to.replaces thread.old.kept pair id to.id name.now) → SurvivesLossSince thread.old.kept.disk thread.old.kept.history thread.new.kept.history
-        (disk_tree thread.old.kept.disk thread.old.kept.pairs) (tree_renamed thread.old.kept rename.can.path rename.can.name name.now) }
+        (disk_tree thread.old.kept.disk thread.old.kept.pairs) (tree_with_entry_renamed thread.old.kept rename.can.path rename.can.name name.now) }
 {
     let copy = copy_pair_slot(alloc, thread, pair, id)?;
     let changes = renaming_changes(alloc, id, to, name, &copy)?;
-    change_or_split(alloc, thread, pair, &changes)
+    commit_or_split(alloc, thread, pair, &changes)
 }

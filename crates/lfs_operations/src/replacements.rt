@@ -7,15 +7,15 @@ ghost use Rattle.lfs_model.specs.tree.Shown.{disk_tree};
 ghost use Rattle.lfs_tag.specs.FieldsView.{move_view};
 ghost use Rattle.lfs_pair.specs.ChangeView.{changes_view};
 ghost use Rattle.lfs_thread.specs.ThreadSteps.{ChangesThreadBlocks, thread_pair};
-ghost use Rattle.lfs_operations.specs.Altering.{WritesTouchedFree};
-ghost use Rattle.lfs_operations.specs.Renaming.{id_after_removal, tree_renamed};
-ghost use Rattle.lfs_operations.specs.RenamingOver.{CanRenameOver, CanReplaceDirectory, IsRenamedOver, IsDirectoryReplaced, ReportsReadCommit, ReportsReadCommits};
+ghost use Rattle.lfs_operations.specs.Altering.{WritesChangedPairsOrFree};
+ghost use Rattle.lfs_operations.specs.Renaming.{id_after_removal, tree_with_entry_renamed};
+ghost use Rattle.lfs_operations.specs.RenamingOver.{CanRenameOverDirectory, CanReplaceDirectory, IsRenamedOverDirectory, IsDirectoryReplaced, ReportsReadCommit, ReportsReadCommits};
 ghost use Rattle.lfs_operations.specs.RenamingView.{slot_copy_view};
-ghost use Rattle.lfs_model.specs.layers.SlotChanges.{slot_changes};
+ghost use Rattle.lfs_model.specs.layers.SlotChanges.{slot_creation_changes};
 ghost use Rattle.lfs_model.specs.format.Thread.{address_blocks, addresses_blocks};
 
-use crate::changes::commit_fitting;
-use crate::directory_removals::delta_turning_sync;
+use crate::changes::commit_without_split;
+use crate::directory_removals::sync_flip_delta;
 use crate::drops::drop_pair_at;
 use crate::renames::id_after_removed;
 use crate::slot_copies::{SlotCopy, copy_pair_slot, push_slot_changes};
@@ -35,7 +35,7 @@ fn changes_replacing_directory<'a>(
     name: &'a [u8],
     copy: &'a SlotCopy,
 ) -> Result<Vec<Change<'a>>, AllocError>
-    ensures { IfOk result (λ changes. changes_view changes.items ≡ PutMove (move_view state) ∷ Delete id ∷ Delete (id_after_removal id place) ∷ slot_changes (id_after_removal id place) name.now (slot_copy_view copy.now)) }
+    ensures { IfOk result (λ changes. changes_view changes.items ≡ PutMove (move_view state) ∷ Delete id ∷ Delete (id_after_removal id place) ∷ slot_creation_changes (id_after_removal id place) name.now (slot_copy_view copy.now)) }
 {
     let place = id_after_removed(id, place);
     let mut changes = Vec::new(alloc);
@@ -67,14 +67,14 @@ pub(crate) fn rename_over_directory<D: BlockDevice>(
     ensures errors { ReportsReadCommit thread.old thread.new result }
     ensures device { ChangesThreadBlocks (address_blocks (thread_pair thread.old.kept pair).at) thread.old.kept thread.new.kept }
     ensures survives { (rename : CanReplaceDirectory thread.old.kept pair id place name.now) → SurvivesLossSince thread.old.kept.disk thread.old.kept.history thread.new.kept.history
-        (disk_tree thread.old.kept.disk thread.old.kept.pairs) (tree_renamed thread.old.kept rename.can.path rename.can.name name.now) }
+        (disk_tree thread.old.kept.disk thread.old.kept.pairs) (tree_with_entry_renamed thread.old.kept rename.can.path rename.can.name name.now) }
 {
     let copy = copy_pair_slot(alloc, thread, pair, id)?;
-    let state = gstate_xor_delta(&thread.delta(pair), &delta_turning_sync());
+    let state = gstate_xor_delta(&thread.delta(pair), &sync_flip_delta());
     let changes = changes_replacing_directory(alloc, state, id, place, name, &copy)?;
     // One slot replaces two: it has the name of one and the other contents of the other, so this
     // commit never needs a split.
-    commit_fitting(alloc, thread, pair, &changes)
+    commit_without_split(alloc, thread, pair, &changes)
 }
 
 /// An empty directory whose entry is in a given pair.
@@ -105,14 +105,14 @@ pub fn rename_onto_directory<D: BlockDevice>(
     name: &[u8],
 ) -> Result<(), Error>
     requires works { thread.old.failed ≡ false }
-    requires can { CanRenameOver thread.old.kept pair id to.id name.now to.own_pair }
-    ensures renamed { OnOk result ((rename : CanRenameOver thread.old.kept pair id to.id name.now to.own_pair)
-        → IsRenamedOver thread.old.kept thread.new.kept rename.over.can.path rename.over.can.name name.now) }
-    ensures alters { OnOk result (WritesTouchedFree thread.old.kept (address_blocks (thread_pair thread.old.kept pair).at) thread.new.kept) }
+    requires can { CanRenameOverDirectory thread.old.kept pair id to.id name.now to.own_pair }
+    ensures renamed { OnOk result ((rename : CanRenameOverDirectory thread.old.kept pair id to.id name.now to.own_pair)
+        → IsRenamedOverDirectory thread.old.kept thread.new.kept rename.over.can.path rename.over.can.name name.now) }
+    ensures alters { OnOk result (WritesChangedPairsOrFree thread.old.kept (address_blocks (thread_pair thread.old.kept pair).at) thread.new.kept) }
     ensures errors { ReportsReadCommits thread.old thread.new result }
     ensures device { ChangesThreadBlocks (addresses_blocks (thread_pair thread.old.kept pair).at (thread_pair thread.old.kept (to.own_pair - 1)).at) thread.old.kept thread.new.kept }
-    ensures survives { (rename : CanRenameOver thread.old.kept pair id to.id name.now to.own_pair) → SurvivesLossSince thread.old.kept.disk thread.old.kept.history thread.new.kept.history
-        (disk_tree thread.old.kept.disk thread.old.kept.pairs) (tree_renamed thread.old.kept rename.over.can.path rename.over.can.name name.now) }
+    ensures survives { (rename : CanRenameOverDirectory thread.old.kept pair id to.id name.now to.own_pair) → SurvivesLossSince thread.old.kept.disk thread.old.kept.history thread.new.kept.history
+        (disk_tree thread.old.kept.disk thread.old.kept.pairs) (tree_with_entry_renamed thread.old.kept rename.over.can.path rename.over.can.name name.now) }
 {
     rename_over_directory(alloc, thread, pair, id, to.id, name)?;
     drop_pair_at(alloc, thread, to.own_pair, &MoveState::none())

@@ -8,8 +8,8 @@ ghost use Rattle.lfs_pair.specs.ChangeView.{changes_view};
 ghost use Rattle.lfs_tag.specs.ContentView.{attribute_view, part_view, slot_view};
 ghost use Rattle.lfs_thread.specs.CachedLog.{IsContentLog};
 ghost use Rattle.lfs_thread.specs.ThreadSteps.{ThreadReportsErrors, OnlyReadsThread};
-ghost use Rattle.lfs_operations.specs.RenamingSlots.{HasSlot, nameless_at};
-ghost use Rattle.lfs_model.specs.layers.SlotChanges.{attribute_changes, nameless_of, slot_changes};
+ghost use Rattle.lfs_operations.specs.RenamingSlots.{PairHasSlotId, slot_without_name_at};
+ghost use Rattle.lfs_model.specs.layers.SlotChanges.{attribute_changes, slot_without_name, slot_creation_changes};
 ghost use Rattle.lfs_operations.specs.RenamingView.{attribute_copy_view, slot_copy_view, struct_copy_view};
 
 use lfs_device::{BlockDevice, Error};
@@ -77,7 +77,7 @@ fn copy_attributes(
 fn copy_slot(alloc: Global, slot: &Slot<'_>) -> Result<SlotCopy, AllocError>
     requires named { IsSome slot.now.name }
     requires structured { IsSome slot.now.structure }
-    ensures { IfOk result (λ copy. slot_copy_view copy ≡ nameless_of (slot_view slot.now)) }
+    ensures { IfOk result (λ copy. slot_copy_view copy ≡ slot_without_name (slot_view slot.now)) }
 {
     let name_kind = slot.name.unwrap().kind;
     let structure = copy_struct(alloc, &slot.structure.unwrap())?;
@@ -92,7 +92,7 @@ fn copy_slot(alloc: Global, slot: &Slot<'_>) -> Result<SlotCopy, AllocError>
 // Copies the slot with id `id` in a log, without the slot's name.
 fn copy_log_slot(alloc: Global, log: &Log<'_>, id: u16) -> Result<SlotCopy, Error>
     requires { (content : ModelContent) × (IsContentLog log.now content × (id < length content.slots)) }
-    ensures copied { (raw : RawContent) → content_after empty_raw_content (block_entries log.now) ≡ Some raw → IfOk result (λ copy. slot_copy_view copy ≡ nameless_of (slot_of_id raw.slots id)) }
+    ensures copied { (raw : RawContent) → content_after empty_raw_content (block_entries log.now) ≡ Some raw → IfOk result (λ copy. slot_copy_view copy ≡ slot_without_name (slot_of_id raw.slots id)) }
     ensures errors { IfErr result (λ e. e ≡ Error.NoMemory) }
 {
     let content = Content::read(alloc, log)?;
@@ -108,8 +108,8 @@ pub(crate) fn copy_pair_slot<D: BlockDevice>(
     id: u16,
 ) -> Result<SlotCopy, Error>
     requires works { thread.old.failed ≡ false }
-    requires there { HasSlot thread.old.kept pair id }
-    ensures copied { IfOk result (λ copy. slot_copy_view copy ≡ nameless_at thread.old.kept pair id) }
+    requires there { PairHasSlotId thread.old.kept pair id }
+    ensures copied { IfOk result (λ copy. slot_copy_view copy ≡ slot_without_name_at thread.old.kept pair id) }
     ensures only { OnlyReadsThread thread.old.kept thread.new.kept }
     ensures works { thread.new.failed ≡ false }
     ensures errors { ThreadReportsErrors thread.old.kept thread.new.kept result }
@@ -126,7 +126,7 @@ pub(crate) fn push_slot_changes<'a>(
     name: &'a [u8],
     copy: &'a SlotCopy,
 ) -> Result<(), AllocError>
-    ensures { OnOk result (changes_view changes.new.items ≡ changes_view changes.old.items ++ slot_changes id name.now (slot_copy_view copy.now)) }
+    ensures { OnOk result (changes_view changes.new.items ≡ changes_view changes.old.items ++ slot_creation_changes id name.now (slot_copy_view copy.now)) }
 {
     changes.push(Change::Create {
         id,

@@ -4,10 +4,10 @@ ghost use Rattle.std.specs.Prelude.{◌≡◌, ◌∷◌, [], false, OnOk};
 ghost use Rattle.lfs_model.specs.layers.Changes.{PutStruct};
 ghost use Rattle.lfs_model.specs.crash.PowerLoss.{SurvivesLossSince};
 ghost use Rattle.lfs_model.specs.tree.Shown.{disk_tree};
-ghost use Rattle.lfs_operations.specs.Changing.{ReportsPut, WritesPairTwo};
+ghost use Rattle.lfs_operations.specs.Changing.{ReportsCommitOrSplit, WritesPairAndTwoFree};
 ghost use Rattle.lfs_operations.specs.Storing.{CanSetStruct, HasStoredContents, tree_with_contents};
 
-use crate::changes::change_or_split;
+use crate::changes::commit_or_split;
 use lfs_device::{BlockDevice, Error};
 use lfs_pair::Change;
 use lfs_thread::Thread;
@@ -34,11 +34,11 @@ pub fn set_struct<D: BlockDevice>(
     requires can { CanSetStruct thread.old.kept pair id kind bytes.now }
     ensures is_stored { OnOk result ((store : CanSetStruct thread.old.kept pair id kind bytes.now)
         → HasStoredContents thread.old.kept thread.new.kept store.can.path store.can.name store.contents store.gone store.come) }
-    ensures errors { ReportsPut thread.old thread.new pair (PutStruct id kind bytes.now ∷ []) result }
-    ensures device { WritesPairTwo thread.old.kept pair thread.new.kept }
+    ensures errors { ReportsCommitOrSplit thread.old thread.new pair (PutStruct id kind bytes.now ∷ []) result }
+    ensures device { WritesPairAndTwoFree thread.old.kept pair thread.new.kept }
     ensures survives { (store : CanSetStruct thread.old.kept pair id kind bytes.now) → SurvivesLossSince thread.old.kept.disk thread.old.kept.history thread.new.kept.history
         (disk_tree thread.old.kept.disk thread.old.kept.pairs) (tree_with_contents thread.old.kept store.can.path store.can.name store.contents) }
 {
     let changes = [Change::Struct { id, kind, bytes }];
-    change_or_split(alloc, thread, pair, &changes)
+    commit_or_split(alloc, thread, pair, &changes)
 }

@@ -1,10 +1,10 @@
 -- A content, written into an erased block as its first commit.
 use Rattle.std.proofs.Common.{ℕ, ◌≡◌, ◌+◌, ◌≤◌, Bool, false, List, [], ◌∷◌, Some, inl, inr, refl, sym, ap, ◌∙◌, subst, arith, option_map}
-use Rattle.lfs_pair.proofs.Common.{Blocks, block_bytes, SameExcept, IsValidGeometry, RawContent, empty_raw_content, encoded_size, aligned_end, RawContentFits, content_entries, AreNamed, IsWellFormed, CallEvent, call_event, Erase, AllCallsSince, HoldsAtLosses, ErasesCleanly, LeftByLoss, appended_content, began, goes_on, goes_on_by, HoldsAtLosses-weaker, AllCallsSince-until, AllCallsSince-only, SameExcept-trans, PartialCommit, padded_commit_end, commit_with_entries, LogGetsCommit, HasOneCommit, LossLeavesCommit, LossLeavesRewritten, DiffersInBlock}
+use Rattle.lfs_pair.proofs.Common.{Blocks, block_bytes, SameExcept, IsValidGeometry, RawContent, empty_raw_content, encoded_size, aligned_commit_end, RawContentFitsInPair, content_entries, AreNamed, IsWellFormed, CallEvent, call_event, Erase, AllCallsSince, HoldsAtLosses, ErasesCleanly, LeftByLoss, appended_content, began, goes_on, goes_on_by, HoldsAtLosses-weaker, AllCallsSince-until, AllCallsSince-only, SameExcept-trans, PartialCommit, padded_commit_end, commit_with_entries, LogGetsCommit, HasOneCommit, LossLeavesCommit, LossLeavesRewritten, DiffersInBlock}
 use Rattle.lfs_model.specs.layers.LoggedContent.{IsStorable}
 use Rattle.lfs_model.specs.crash.Stops.{MayEraseLeave}
 use Rattle.lfs_model.specs.format.Log.{BlockLog}
-use Rattle.lfs_model.proofs.Pages.{page_positive, aligned_end-below}
+use Rattle.lfs_model.proofs.Pages.{page_positive, aligned_commit_end-below}
 use Rattle.lfs_model.proofs.WrittenAnew.{entries_of-reads}
 use Rattle.lfs_model.proofs.WrittenSizes.{written_size}
 use Rattle.lfs_pair.proofs.Committed.{Gets-has_commit}
@@ -23,22 +23,22 @@ is_anew {size = size} {page = page} {revision = revision} {room = room} {paged =
 
 -- ---- it fits the block
 
-anew_ends : (size page count revision : ℕ) (c : RawContent) → IsValidGeometry size page count → RawContentFits size page c → padded_commit_end (anew size page revision c) ≤ size
+anew_ends : (size page count revision : ℕ) (c : RawContent) → IsValidGeometry size page count → RawContentFitsInPair size page c → padded_commit_end (anew size page revision c) ≤ size
 anew_ends size page count revision c valid fits =
-    let end = aligned_end-below page (4 + encoded_size (content_entries c)) (page_positive page valid.power) in
+    let end = aligned_commit_end-below page (4 + encoded_size (content_entries c)) (page_positive page valid.power) in
     omega (arith, end, written_size c, fits.size, valid.pages, valid.no_smaller)
 
-pub anew_room : {b : PartialCommit} {size page count revision : ℕ} {c : RawContent} → b ≡ anew size page revision c → IsValidGeometry size page count → RawContentFits size page c → padded_commit_end b ≤ b.room
+pub anew_room : {b : PartialCommit} {size page count revision : ℕ} {c : RawContent} → b ≡ anew size page revision c → IsValidGeometry size page count → RawContentFitsInPair size page c → padded_commit_end b ≤ b.room
 anew_room {size = size} {page} {count} {revision} {c} is valid fits = subst (λ (d : PartialCommit). padded_commit_end d ≤ d.room) (sym is) (anew_ends size page count revision c valid fits)
 
 -- if it begins at 0
-pub anew_within : {b : PartialCommit} {size page count revision : ℕ} {c : RawContent} → b ≡ anew size page revision c → IsValidGeometry size page count → RawContentFits size page c → 0 + padded_commit_end b ≤ size
+pub anew_within : {b : PartialCommit} {size page count revision : ℕ} {c : RawContent} → b ≡ anew size page revision c → IsValidGeometry size page count → RawContentFitsInPair size page c → 0 + padded_commit_end b ≤ size
 anew_within {size = size} {page} {count} {revision} {c} is valid fits =
     let ends = anew_ends size page count revision c valid fits in subst (λ (d : PartialCommit). 0 + padded_commit_end d ≤ size) (sym is) (omega arith)
 
 -- ---- what the block then holds
 
-pub fits_sound : {c : RawContent} {size page : ℕ} → IsWellFormed c → AreNamed c.slots → RawContentFits size page c → IsStorable c
+pub fits_sound : {c : RawContent} {size page : ℕ} → IsWellFormed c → AreNamed c.slots → RawContentFitsInPair size page c → IsStorable c
 fits_sound logged names fits = record { logged = logged; names = names; few = omega (arith, fits.count) }
 
 pub anew_holds : {b : PartialCommit} {size page revision : ℕ} {c : RawContent} {old : List ℕ} (new : List ℕ) → b ≡ anew size page revision c → IsStorable c → LogGetsCommit b old new → HasOneCommit revision c new
@@ -87,5 +87,5 @@ leaves_anew {revision = revision} {block = block} {c = c} {old = old} {mid = mid
 pub nothing_more : (n : ℕ) → 0 + n ≡ n
 nothing_more n = omega arith
 
-pub anew_end : {b : PartialCommit} {size page revision : ℕ} (c : RawContent) (end : ℕ) → end ≡ 0 + padded_commit_end b → b ≡ anew size page revision c → end ≡ aligned_end page (4 + encoded_size (content_entries c))
-anew_end {page = page} c end is built = is ∙ ap (λ (d : PartialCommit). 0 + padded_commit_end d) built ∙ nothing_more (aligned_end page (4 + encoded_size (content_entries c)))
+pub anew_end : {b : PartialCommit} {size page revision : ℕ} (c : RawContent) (end : ℕ) → end ≡ 0 + padded_commit_end b → b ≡ anew size page revision c → end ≡ aligned_commit_end page (4 + encoded_size (content_entries c))
+anew_end {page = page} c end is built = is ∙ ap (λ (d : PartialCommit). 0 + padded_commit_end d) built ∙ nothing_more (aligned_commit_end page (4 + encoded_size (content_entries c)))

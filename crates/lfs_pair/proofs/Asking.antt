@@ -1,13 +1,13 @@
 -- Asking whether bytes are blank changes nothing.
 use Rattle.std.proofs.Common.{ℕ, ◌≡◌, ◌≤◌, ◌+◌, List, true, inl, inr, refl, sym, ap, subst, arith}
 use Rattle.lfs_device.specs.declared.device.BlockDevice.{Ghosts}
-use Rattle.lfs_pair.proofs.Common.{ChangesTheseBlocks, Blocks, SameExceptBlocks, block_bytes, CallEvent, StayUnprogrammed, HoldsAtLosses, blank_count, erase_count, program_count, read_count, LeftByLoss, began, goes_on, goes_on_by, SameExcept-refl, SameExceptBlocks-refl, ContentChange, RawContent, Disk, address_blocks, AppendFits, IsEndUnprogrammed, LossLeavesNew, OnlyAsksBlank, DiffersInBlock}
+use Rattle.lfs_pair.proofs.Common.{ChangesTheseBlocks, Blocks, SameExceptBlocks, block_bytes, CallEvent, OthersStayUnprogrammed, HoldsAtLosses, blank_answer_count, erase_count, program_count, read_count, LeftByLoss, began, goes_on, goes_on_by, SameExcept-refl, SameExceptBlocks-refl, ContentChange, RawContent, Disk, address_blocks, AppendFits, IsEndUnprogrammed, LossLeavesNew, OnlyAsksBlank, DiffersInBlock}
 use Rattle.lfs_model.specs.session.History.{LossLeavesAtWorst}
-use Rattle.lfs_model.proofs.Histories.{StayUnprogrammed-blank, StayUnprogrammed-refl}
+use Rattle.lfs_model.proofs.Histories.{OthersStayUnprogrammed-blank, OthersStayUnprogrammed-refl}
 use Rattle.lfs_pair.specs.declared.pair.Pair.{Pair}
 
 -- if the device wasn't asked, the same can be appended for any history
-pub appends_until : {disk : Disk} {before after some more : List CallEvent} {pair : Pair} {changes : List ContentChange} → blank_count after ≡ blank_count before → AppendFits disk before after pair changes → AppendFits disk some more pair changes
+pub appends_until : {disk : Disk} {before after some more : List CallEvent} {pair : Pair} {changes : List ContentChange} → blank_answer_count after ≡ blank_answer_count before → AppendFits disk before after pair changes → AppendFits disk some more pair changes
 appends_until {before = before} {after = after} {some = some} {more = more} {pair = pair} words can = record { known = known can.known; room = can.room }
   where
     known : IsEndUnprogrammed before after pair → IsEndUnprogrammed some more pair
@@ -17,7 +17,7 @@ appends_until {before = before} {after = after} {some = some} {more = more} {pai
 -- a fetched pair for which the device wasn't asked
 pub unknown : {before after : List CallEvent} (pair : Pair) → pair.is_fetched ≡ true → after ≡ before → IsEndUnprogrammed before after pair → ⊥
 unknown pair fetched same (inl written) = absurd (cc)
-unknown pair fetched same (inr blank) = let is = ap blank_count same in absurd (omega (arith, is, blank))
+unknown pair fetched same (inr blank) = let is = ap blank_answer_count same in absurd (omega (arith, is, blank))
 
 -- a disk that nothing was written to
 pub left_alone : (old : Disk) (at : ℕ × ℕ) (new : RawContent) → LossLeavesNew old at new old.blocks
@@ -28,7 +28,7 @@ left_alone old at new = record {
 
 module _ {D : Type 0} (g : Ghosts D) where
   -- what was known before a program is known after it
-  pub known_after : {old mid : D} (after : List CallEvent) (pair : Pair) → OnlyAsksBlank g old mid → blank_count after ≡ blank_count (g.history mid) → IsEndUnprogrammed (g.history old) (g.history mid) pair → IsEndUnprogrammed (g.history old) after pair
+  pub known_after : {old mid : D} (after : List CallEvent) (pair : Pair) → OnlyAsksBlank g old mid → blank_answer_count after ≡ blank_answer_count (g.history mid) → IsEndUnprogrammed (g.history old) (g.history mid) pair → IsEndUnprogrammed (g.history old) after pair
   known_after after pair asks same (inl written) = inl written
   known_after after pair asks same (inr blank) = inr (omega (arith, same, blank))
 
@@ -62,10 +62,10 @@ module _ {D : Type 0} (g : Ghosts D) where
     | inr says ↦ goes_on began says.word (λ disk left. subst P (sym left) here)
   ]
 
-  asks_elsewhere : {old new : D} (bs : List ℕ) → OnlyAsksBlank g old new → StayUnprogrammed bs (g.history old) (g.history new)
+  asks_elsewhere : {old new : D} (bs : List ℕ) → OnlyAsksBlank g old new → OthersStayUnprogrammed bs (g.history old) (g.history new)
   asks_elsewhere {old} bs asks = elim asks.asked [
-    | inl same ↦ subst (StayUnprogrammed bs (g.history old)) (sym same) (StayUnprogrammed-refl bs (g.history old))
-    | inr says ↦ StayUnprogrammed-blank bs says.word
+    | inl same ↦ subst (OthersStayUnprogrammed bs (g.history old)) (sym same) (OthersStayUnprogrammed-refl bs (g.history old))
+    | inr says ↦ OthersStayUnprogrammed-blank bs says.word
   ]
 
   pub asks_only : {old new : D} (bs : List ℕ) → OnlyAsksBlank g old new → ChangesTheseBlocks g bs old new

@@ -2,14 +2,14 @@
 use Rattle.std.proofs.Common.{ℕ, ◌≡◌, ◌+◌, inl, inr, refl, sym, ap, ap₂, ◌∙◌, subst, List, Some, None, arith, ◌≤◌, Option}
 use Rattle.lfs_device.specs.declared.device.BlockDevice.{Ghosts}
 use Rattle.lfs_device.specs.declared.geometry.Geometry.{Geometry}
-use Rattle.lfs_pair.proofs.Common.{ReadsOnly, disk_of_blocks, Blocks, Disk, RawContentFits, CallEvent, AllCallsSince, OnlyReadsSince, ContentChange, AllCallsSince-behind, blank_count-read_count, erase_count-read_count, program_count-read_count, header_address, AppendFits, IsEndUnprogrammed, changed_pair_content, ErasedOneMore, IsWellFormed, RawContent, ChangesTheseBlocks, ChangesReadingFew, block_bytes, HoldsAtLosses, HoldsAtLosses-read_count, HoldsAtLosses-weaker, LeftByLoss, LeftByLoss-read, ErasesCleanly, goes_on_by, fault_count, read_count, AreNamed, LossLeavesChanged, LossLeavesNew, changed_log_content}
+use Rattle.lfs_pair.proofs.Common.{ReadsOnly, disk_of_blocks, Blocks, Disk, RawContentFitsInPair, CallEvent, AllCallsSince, OnlyReadsSince, ContentChange, AllCallsSince-behind, blank_answer_count-read_count, erase_count-read_count, program_count-read_count, header_address, AppendFits, IsEndUnprogrammed, changed_pair_content, ErasedOneMore, IsWellFormed, RawContent, ChangesTheseBlocks, ChangesReadingFew, block_bytes, HoldsAtLosses, HoldsAtLosses-read_count, HoldsAtLosses-weaker, LeftByLoss, LeftByLoss-read, ErasesCleanly, goes_on_by, fault_count, read_count, AreNamed, LossLeavesChanged, LossLeavesNew, changed_log_content}
 use Rattle.lfs_pair.specs.declared.pair.Pair.{Pair}
 use Rattle.lfs_pair.specs.Commits.{CommitsChanges, RefusesCommit, AppendsChanges, AppendsByHeader, CanCommit, CompactsContent, RefusesAppend}
 use Rattle.lfs_pair.proofs.Calls.{only_by_reads, only_trans}
 use Rattle.lfs_pair.proofs.Changed.{some_same, content_made_here, left_alone, left_by_change, made_here}
 use Rattle.lfs_model.proofs.Completed.{fits_raw}
 use Rattle.lfs_model.proofs.Histories.{began}
-use Rattle.lfs_model.specs.format.Content.{complete_content}
+use Rattle.lfs_model.specs.format.Content.{decoded_content}
 use Rattle.std.specs.Prelude.{IfSome, IfNone}
 use Rattle.lfs_pair.specs.declared.programs.WrittenCommit.{WrittenCommit}
 use Rattle.lfs_pair.specs.Pair.{IsHeaderWith, IsWrittenHeader}
@@ -58,17 +58,17 @@ reading_more n reads = record { only = reads.only; few = let few = reads.few in 
 pub record IsToWrite (disk : Disk) (at : ℕ × ℕ) (changes : List ContentChange) (c : RawContent) : Type 0 where
   pub made : changed_pair_content disk at changes ≡ Some c
   pub logged : IsWellFormed c
-  pub fits : RawContentFits disk.block_size disk.page c
+  pub fits : RawContentFitsInPair disk.block_size disk.page c
   pub names : AreNamed c.slots
 
 pub is_to_write : {geometry here : Geometry} {blocks : Blocks} {history : List CallEvent} {pair : Pair} {block : List ℕ} {changes : List ContentChange} {c : RawContent} → CanCommit (disk_of_blocks geometry blocks) history pair changes
-    → block ≡ block_bytes blocks pair.active → changed_log_content block changes ≡ Some c → IsWellFormed c → here ≡ geometry → RawContentFits here.block_size here.page c → IsToWrite (disk_of_blocks geometry blocks) (header_address pair) changes c
+    → block ≡ block_bytes blocks pair.active → changed_log_content block changes ≡ Some c → IsWellFormed c → here ≡ geometry → RawContentFitsInPair here.block_size here.page c → IsToWrite (disk_of_blocks geometry blocks) (header_address pair) changes c
 is_to_write {geometry} {here} {blocks} {history} {pair} {block} {changes} {c} can is log logged same fits =
     let disk = disk_of_blocks geometry blocks in
     record {
       made = made_here disk history pair can.held block changes (Some c) can.is_pair is log;
       logged = logged;
-      fits = subst (λ (k : Geometry). RawContentFits k.block_size k.page c) same fits;
+      fits = subst (λ (k : Geometry). RawContentFitsInPair k.block_size k.page c) same fits;
       names = subst (λ (new : RawContent). AreNamed new.slots) (content_made_here disk history pair can.held can.new block changes c can.is_pair is can.changed log) can.names;
     }
 
@@ -100,7 +100,7 @@ appends_ahead {before = before} {mid = mid} {after = after} {pair = pair} reads 
   where
     known : IsEndUnprogrammed mid after pair → IsEndUnprogrammed before after pair
     known (inl written) = inl written
-    known (inr blank) = let same = blank_count-read_count reads in inr (omega (arith, same, blank))
+    known (inr blank) = let same = blank_answer_count-read_count reads in inr (omega (arith, same, blank))
 
 pub commits_appended : {D : Type 0} {g : Ghosts D} {most : ℕ} {changes : List ContentChange} {c : RawContent} {old mid new : D} {was pair : Pair} → IsRead g most old mid → IsToWrite (disk_of_blocks (g.geometry old) (g.blocks old)) (header_address was) changes c
     → AppendsChanges (disk_of_blocks (g.geometry mid) (g.blocks mid)) (g.history mid) was changes c (disk_of_blocks (g.geometry new) (g.blocks new)) (g.history new) pair
@@ -134,7 +134,7 @@ commits_compacted {g = g} {changes = changes} {c = c} {mid = mid} {kept = kept} 
     let reads = (is_read_on r refused).device in
     let moved = subst (λ p. CompactsContent (disk_of_blocks (g.geometry kept) (g.blocks kept)) (g.history kept) p c (disk_of_blocks (g.geometry new) (g.blocks new)) (g.history new) pair) refused.pair now in
     let is = subst (λ d. CompactsContent d (g.history kept) was c (disk_of_blocks (g.geometry new) (g.blocks new)) (g.history new) pair) (same_disk reads) moved in
-    let blanks = is.compacted.anew.blanks ∙ blank_count-read_count reads.reads in
+    let blanks = is.compacted.anew.blanks ∙ blank_answer_count-read_count reads.reads in
     record {
       new = c;
       made = to.made;
@@ -169,10 +169,10 @@ stops_behind {g = g} {at = at} {now = now} {changes = changes} {c = c} {old = ol
 
 -- what the changes make doesn't fit, and nothing was written
 pub is_full : {D : Type 0} {g : Ghosts D} {changes : List ContentChange} {old mid : D} {was : Pair} {c : RawContent} → ReadsOnly g old mid → changed_pair_content (disk_of_blocks (g.geometry old) (g.blocks old)) (header_address was) changes ≡ Some c → IsWellFormed c
-    → (RawContentFits (g.geometry old).block_size (g.geometry old).page c → ⊥) → RefusesCommit g changes old mid was was
+    → (RawContentFitsInPair (g.geometry old).block_size (g.geometry old).page c → ⊥) → RefusesCommit g changes old mid was was
 is_full {g = g} {old = old} {c = c} reads made logged full = record {
-  full = λ n is fits. full (subst (RawContentFits (g.geometry old).block_size (g.geometry old).page) (sym (some_same (sym made ∙ is))) fits);
-  completed = λ n e is whole fits. full (fits_raw (g.geometry old).block_size (g.geometry old).page c e logged (ap complete_content (some_same (sym made ∙ is)) ∙ whole) fits);
+  full = λ n is fits. full (subst (RawContentFitsInPair (g.geometry old).block_size (g.geometry old).page) (sym (some_same (sym made ∙ is))) fits);
+  completed = λ n e is whole fits. full (fits_raw (g.geometry old).block_size (g.geometry old).page c e logged (ap decoded_content (some_same (sym made ∙ is)) ∙ whole) fits);
   pair = refl;
   device = reads;
 }

@@ -1,13 +1,13 @@
 -- The effect of calls of a device in a row.
 use Rattle.std.proofs.Common.{arith, ap, inl, inr, Err, ℕ, ◌≡◌, ◌≤◌, ◌+◌, ◌⊎◌, Bool, List, [], ◌∷◌, refl, sym, ◌∙◌, subst}
 use Rattle.lfs_device.specs.declared.device.BlockDevice.{Ghosts}
-use Rattle.lfs_pair.proofs.Common.{ReadsOnly, ChangesTheseBlocks, Blocks, SameExcept, SameExceptBlocks, CallEvent, Erase, call_event, read_count, began, goes_on, goes_on_by, HoldsAtLosses-read_count, HoldsAtLosses-weaker, StayUnprogrammed-wider, SameExcept-refl, SameExcept-trans, SameExceptBlocks-refl, SameExceptBlocks-trans, SameExceptBlocks-wider, ChangesReadingFew, address_blocks}
+use Rattle.lfs_pair.proofs.Common.{ReadsOnly, ChangesTheseBlocks, Blocks, SameExcept, SameExceptBlocks, CallEvent, Erase, call_event, read_count, began, goes_on, goes_on_by, HoldsAtLosses-read_count, HoldsAtLosses-weaker, OthersStayUnprogrammed-wider, SameExcept-refl, SameExcept-trans, SameExceptBlocks-refl, SameExceptBlocks-trans, SameExceptBlocks-wider, ChangesReadingFew, address_blocks}
 use Rattle.lfs_device.specs.DeviceCalls.{ChangesOneBlock}
 use Rattle.std.specs.Prelude.{All, ◌≢◌, IsErrOf}
 use Rattle.lfs_device.specs.declared.error.Error.{Error}
 use Rattle.lfs_device.specs.declared.error.Error.TheVariants.{Io, NoMemory}
 use Rattle.lfs_model.specs.session.History.{Read, Program}
-use Rattle.lfs_model.proofs.Histories.{LossLeavesAtWorst-read, OnlyReadsSince-read, OnlyReadsSince-trans, StayUnprogrammed-erase, StayUnprogrammed-program, StayUnprogrammed-read_count, StayUnprogrammed-trans}
+use Rattle.lfs_model.proofs.Histories.{LossLeavesAtWorst-read, OnlyReadsSince-read, OnlyReadsSince-trans, OthersStayUnprogrammed-erase, OthersStayUnprogrammed-program, OthersStayUnprogrammed-read_count, OthersStayUnprogrammed-trans}
 use Rattle.lfs_pair.proofs.Changed.{stays_outside}
 use Rattle.lfs_pair.proofs.TwoBlocks.{outside_one}
 
@@ -29,7 +29,7 @@ reads_trans first second = record {
 pub block_by_reads : {D : Type 0} {g : Ghosts D} {b : ℕ} {old new : D} → ReadsOnly g old new → ChangesOneBlock g b old new
 block_by_reads {g = g} {b = b} {old = old} read_count = record {
   others = subst (SameExcept b (g.blocks old)) (sym read_count.same) (SameExcept-refl b (g.blocks old));
-  elsewhere = StayUnprogrammed-read_count (b ∷ []) read_count.reads;
+  elsewhere = OthersStayUnprogrammed-read_count (b ∷ []) read_count.reads;
   geometry = read_count.geometry;
   at_worst = HoldsAtLosses-read_count LossLeavesAtWorst-read read_count.reads (SameExcept-refl b (g.blocks old));
 }
@@ -38,7 +38,7 @@ pub block_by_erase : {D : Type 0} {g : Ghosts D} {b : ℕ} {old new : D} {failed
     → g.history new ≡ call_event (Erase b) (g.blocks old) (g.blocks new) failed ∷ g.history old → ChangesOneBlock g b old new
 block_by_erase same geometry is = record {
   others = same;
-  elsewhere = StayUnprogrammed-erase is;
+  elsewhere = OthersStayUnprogrammed-erase is;
   geometry = geometry;
   at_worst = goes_on began is (λ disk left. left);
 }
@@ -47,7 +47,7 @@ pub block_by_program : {D : Type 0} {g : Ghosts D} {b off : ℕ} {bytes : List �
     → g.history new ≡ call_event (Program b off bytes) (g.blocks old) (g.blocks new) failed ∷ g.history old → ChangesOneBlock g b old new
 block_by_program same geometry is = record {
   others = same;
-  elsewhere = StayUnprogrammed-program is;
+  elsewhere = OthersStayUnprogrammed-program is;
   geometry = geometry;
   at_worst = goes_on began is (λ disk left. left);
 }
@@ -55,7 +55,7 @@ block_by_program same geometry is = record {
 pub block_trans : {D : Type 0} {g : Ghosts D} {b : ℕ} {old mid new : D} → ChangesOneBlock g b old mid → ChangesOneBlock g b mid new → ChangesOneBlock g b old new
 block_trans first second = record {
   others = SameExcept-trans first.others second.others;
-  elsewhere = StayUnprogrammed-trans first.elsewhere second.elsewhere;
+  elsewhere = OthersStayUnprogrammed-trans first.elsewhere second.elsewhere;
   geometry = second.geometry ∙ first.geometry;
   at_worst = goes_on_by first.at_worst (HoldsAtLosses-weaker (λ disk left. SameExcept-trans first.others left) second.at_worst);
 }
@@ -65,7 +65,7 @@ block_trans first second = record {
 pub only_by_reads : {D : Type 0} {g : Ghosts D} {bs : List ℕ} {old new : D} → ReadsOnly g old new → ChangesTheseBlocks g bs old new
 only_by_reads {g = g} {bs = bs} {old = old} read_count = record {
   others = subst (SameExceptBlocks bs (g.blocks old)) (sym read_count.same) (SameExceptBlocks-refl bs (g.blocks old));
-  elsewhere = StayUnprogrammed-read_count bs read_count.reads;
+  elsewhere = OthersStayUnprogrammed-read_count bs read_count.reads;
   geometry = read_count.geometry;
   at_worst = HoldsAtLosses-read_count LossLeavesAtWorst-read read_count.reads (SameExceptBlocks-refl bs (g.blocks old));
 }
@@ -73,7 +73,7 @@ only_by_reads {g = g} {bs = bs} {old = old} read_count = record {
 pub only_trans : {D : Type 0} {g : Ghosts D} {bs : List ℕ} {old mid new : D} → ChangesTheseBlocks g bs old mid → ChangesTheseBlocks g bs mid new → ChangesTheseBlocks g bs old new
 only_trans first second = record {
   others = SameExceptBlocks-trans first.others second.others;
-  elsewhere = StayUnprogrammed-trans first.elsewhere second.elsewhere;
+  elsewhere = OthersStayUnprogrammed-trans first.elsewhere second.elsewhere;
   geometry = second.geometry ∙ first.geometry;
   at_worst = goes_on_by first.at_worst (HoldsAtLosses-weaker (λ disk left. SameExceptBlocks-trans first.others left) second.at_worst);
 }
@@ -81,7 +81,7 @@ only_trans first second = record {
 pub only_wider : {D : Type 0} {g : Ghosts D} {bs : List ℕ} (cs : List ℕ) {old new : D} → ((other : ℕ) → All (λ c. c ≢ other) cs → All (λ c. c ≢ other) bs) → ChangesTheseBlocks g bs old new → ChangesTheseBlocks g cs old new
 only_wider cs among only = record {
   others = SameExceptBlocks-wider cs among only.others;
-  elsewhere = StayUnprogrammed-wider cs among only.elsewhere;
+  elsewhere = OthersStayUnprogrammed-wider cs among only.elsewhere;
   geometry = only.geometry;
   at_worst = HoldsAtLosses-weaker (λ disk left. SameExceptBlocks-wider cs among left) only.at_worst;
 }

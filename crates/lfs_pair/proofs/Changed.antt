@@ -1,7 +1,7 @@
 -- The content of a pair after a commit, and after a stop in it.
 use Rattle.std.proofs.Common.{ℕ, zero, suc, get_or, ◌≡◌, ◌≢◌, ◌⊎◌, ◌+◌, ◌%◌, ◌^◌, ◌<◌, ◌≤◌, Bool, true, false, cond, List, [], ◌∷◌, ◌++◌, length, Option, Some, None, flat_map, refl, sym, ap, ◌∙◌, subst, arith, inl, inr, length-append}
 use Rattle.std.specs.Prelude.{nat_lt, slice_get, unwrap_or}
-use Rattle.lfs_pair.proofs.Common.{list_all, lt-ltb, ltb-true, Blocks, SameExcept, block_bytes, Disk, disk_block, LogEntry, block_revision, block_entries, BeginsWith, RawContentFits, content_entries, IsWellFormed, flat_map-append, RawContent, has_commit, current_block, raw_content, content_after, empty_raw_content, ContentChange, content_with_changes, entries_of_changes, is_storable, appended_content, StayUnprogrammed-wider, SameExceptBlocks-refl, option_and_then, PartialCommit, earlier_commits, CallEvent, AreUnprogrammed, StayUnprogrammed, IsTrueHeader, is_second_active, active_block_at, header_address, LogGetsCommit, HasOneCommit, LossLeavesCommit, LossLeavesRewritten, DiffersInBlock, HeaderSaysActive, IsPairAddress, HasNewContent, HasOldContent, KeepsFirstEntry, LossLeavesChanged, LossLeavesNew, HasWrittenContent, changed_log_content, changed_pair_content}
+use Rattle.lfs_pair.proofs.Common.{list_all, lt-ltb, ltb-true, Blocks, SameExcept, block_bytes, Disk, disk_block, LogEntry, block_revision, block_entries, HasFirstLogEntry, RawContentFitsInPair, content_entries, IsWellFormed, flat_map-append, RawContent, has_commit, current_block, raw_content, content_after, empty_raw_content, ContentChange, content_with_changes, entries_of_changes, is_storable, appended_content, OthersStayUnprogrammed-wider, SameExceptBlocks-refl, option_and_then, PartialCommit, earlier_commits, CallEvent, AreUnprogrammed, OthersStayUnprogrammed, IsTrueHeader, is_second_active, active_block_at, header_address, LogGetsCommit, HasOneCommit, LossLeavesCommit, LossLeavesRewritten, DiffersInBlock, HeaderSaysActive, IsPairAddress, HasNewContent, HasOldContent, KeepsFirstEntry, LossLeavesChanged, LossLeavesNew, HasWrittenContent, changed_log_content, changed_pair_content}
 use Rattle.lfs_model.specs.format.Log.{chain_of}
 use Rattle.lfs_pair.proofs.Holders.{held_commit, holder_is, raw_held}
 use Rattle.lfs_model.proofs.Commits.{has_commit-end, chain_ends}
@@ -55,9 +55,9 @@ holder_in disk at active is has =
     holder_is (disk_block disk at.0) (disk_block disk at.1) (sym (ap has_commit same) ∙ has) ∙ ap Some (sym same)
 
 begins_by : (old disk : Disk) (at : ℕ × ℕ) (active now : ℕ) (e : LogEntry) → active ≡ active_block_at old at → has_commit (disk_block old active) ≡ true → now ≡ active_block_at disk at → has_commit (disk_block disk now) ≡ true
-    → (slice_get (block_entries (disk_block old active)) 0 ≡ Some e → slice_get (block_entries (disk_block disk now)) 0 ≡ Some e) → BeginsWith (current_block old at) e → BeginsWith (current_block disk at) e
+    → (slice_get (block_entries (disk_block old active)) 0 ≡ Some e → slice_get (block_entries (disk_block disk now)) 0 ≡ Some e) → HasFirstLogEntry (current_block old at) e → HasFirstLogEntry (current_block disk at) e
 begins_by old disk at active now e is had now_is has f h =
-    subst (λ o. BeginsWith o e) (sym (holder_in disk at now now_is has)) (f (subst (λ o. BeginsWith o e) (holder_in old at active is had) h))
+    subst (λ o. HasFirstLogEntry o e) (sym (holder_in disk at now now_is has)) (f (subst (λ o. HasFirstLogEntry o e) (holder_in old at active is had) h))
 
 first_of : (xs ys : List LogEntry) (e : LogEntry) → slice_get xs 0 ≡ Some e → slice_get (xs ++ ys) 0 ≡ Some e
 first_of [] ys e h = absurd (cc)
@@ -284,9 +284,9 @@ only other b zero d l apart = apart
 only other b (suc k) d l apart = absurd (omega arith)
 
 -- what a call on one of the pair's blocks leaves unprogrammed elsewhere
-pub stays_outside : (at : ℕ × ℕ) (b : ℕ) (old new : List CallEvent) → (b ≡ at.0) ⊎ (b ≡ at.1) → StayUnprogrammed (b ∷ []) old new → OutsideStaysUnprogrammed at old new
-stays_outside at b old new (inl is) stays = StayUnprogrammed-wider (at.0 ∷ at.1 ∷ []) (λ other apart k d l. only other b k d l (λ same. apart 0 0 (omega arith) (sym is ∙ same))) stays
-stays_outside at b old new (inr is) stays = StayUnprogrammed-wider (at.0 ∷ at.1 ∷ []) (λ other apart k d l. only other b k d l (λ same. apart 1 0 (omega arith) (sym is ∙ same))) stays
+pub stays_outside : (at : ℕ × ℕ) (b : ℕ) (old new : List CallEvent) → (b ≡ at.0) ⊎ (b ≡ at.1) → OthersStayUnprogrammed (b ∷ []) old new → OutsideStaysUnprogrammed at old new
+stays_outside at b old new (inl is) stays = OthersStayUnprogrammed-wider (at.0 ∷ at.1 ∷ []) (λ other apart k d l. only other b k d l (λ same. apart 0 0 (omega arith) (sym is ∙ same))) stays
+stays_outside at b old new (inr is) stays = OthersStayUnprogrammed-wider (at.0 ∷ at.1 ∷ []) (λ other apart k d l. only other b k d l (λ same. apart 1 0 (omega arith) (sym is ∙ same))) stays
 
 -- what changes make of a block with these bytes, they make of the pair
 pub made_here : (disk : Disk) (history : List CallEvent) (pair : Pair) (held : RawContent) (block : List ℕ) (changes : List ContentChange) (new : Option RawContent) → IsTrueHeader disk history pair held
@@ -305,7 +305,7 @@ pub left_alone : (disk : Disk) (at : ℕ × ℕ) (changes : List ContentChange) 
 left_alone disk at changes = record { others = SameExceptBlocks-refl (at.0 ∷ at.1 ∷ []) disk.blocks; content = inl (record { content = refl; first = λ e h. h }) }
 
 -- if the old content isn't what is left, the changed one is
-pub left_by_change : (disk : Disk) (at : ℕ × ℕ) (changes : List ContentChange) (new : RawContent) (left : Blocks) → changed_pair_content disk at changes ≡ Some new → RawContentFits disk.block_size disk.page new → IsWellFormed new
+pub left_by_change : (disk : Disk) (at : ℕ × ℕ) (changes : List ContentChange) (new : RawContent) (left : Blocks) → changed_pair_content disk at changes ≡ Some new → RawContentFitsInPair disk.block_size disk.page new → IsWellFormed new
     → LossLeavesNew disk at new left → LossLeavesChanged disk at changes left
 left_by_change disk at changes new left made fits logged l = record { others = l.others; content = go l.content }
   where

@@ -1,7 +1,7 @@
 -- The block of a pair that a fetch finds active, once it has read both revisions.
 use Rattle.std.proofs.Common.{ℕ, ◌≡◌, Bool, true, false, cond, List, Some, refl, sym, ap, ◌∙◌, subst, Ok, Err}
 use Rattle.std.specs.Prelude.{IfOk, Result}
-use Rattle.lfs_pair.proofs.Common.{option_and_then, RawContent, has_commit, is_later, current_block, content_after, empty_raw_content, raw_content, Disk, disk_block, CallEvent, block_entries, block_revision, address_view, HeaderDescribesLog, active_block_at}
+use Rattle.lfs_pair.proofs.Common.{option_and_then, RawContent, has_commit, is_later, current_block, content_after, empty_raw_content, raw_content, Disk, disk_block, CallEvent, block_entries, block_revision, address_of_array, HeaderDescribesLog, active_block_at}
 use Rattle.lfs_device.specs.declared.error.Error.{Error}
 use Rattle.lfs_pair.specs.Pair.{FetchFinds, later_block_first}
 use Rattle.lfs_pair.specs.declared.pair.Pair.{Pair}
@@ -42,12 +42,12 @@ pub content_held : (disk : Disk) (at : ℕ × ℕ) (block : ℕ) → HoldsAt dis
 content_held disk at block h = ap (option_and_then (λ b. content_after empty_raw_content (block_entries b))) h.holds
 
 -- the header that was made of the block that holds
-pub fetches : (disk : Disk) (history : List CallEvent) (blocks : List ℕ) (bytes : List ℕ) (active : ℕ) (r : Result Pair Error) → HoldsAt disk (address_view blocks) active → bytes ≡ disk_block disk active
+pub fetches : (disk : Disk) (history : List CallEvent) (blocks : List ℕ) (bytes : List ℕ) (active : ℕ) (r : Result Pair Error) → HoldsAt disk (address_of_array blocks) active → bytes ≡ disk_block disk active
     → IfOk r (λ pair. (held : RawContent) × HeaderDescribesLog bytes pair held) → IfOk r (λ pair. pair.blocks ≡ blocks) → IfOk r (λ pair. pair.active ≡ active) → IfOk r (λ pair. pair.is_fetched ≡ true)
-    → IfOk r (λ pair. FetchFinds disk history (address_view blocks) pair)
+    → IfOk r (λ pair. FetchFinds disk history (address_of_array blocks) pair)
 fetches disk history blocks bytes active (Err e) h same described at is fetched = tt
 fetches disk history blocks bytes active (Ok pair) h same described at is fetched =
-    let address = ap address_view at in
+    let address = ap address_of_array at in
     let block = same ∙ ap (disk_block disk) (sym is) in
     let described_block = subst (λ b. HeaderDescribesLog b pair described.0) block described.1 in
     record {
@@ -60,6 +60,6 @@ fetches disk history blocks bytes active (Ok pair) h same described at is fetche
         unprogrammed = λ e. absurd (let k = sym fetched ∙ e in cc);
       };
       at = address;
-      content = content_held disk (address_view blocks) active h ∙ ap (λ b. content_after empty_raw_content (block_entries b)) (ap (disk_block disk) (sym is)) ∙ described_block.content;
+      content = content_held disk (address_of_array blocks) active h ∙ ap (λ b. content_after empty_raw_content (block_entries b)) (ap (disk_block disk) (sym is)) ∙ described_block.content;
       fetched = fetched;
     }

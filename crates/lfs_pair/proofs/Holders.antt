@@ -2,10 +2,10 @@
 use Rattle.std.proofs.Common.{ℕ, ◌≡◌, ◌+◌, ◌-◌, ◌%◌, ◌^◌, ◌<◌, Bool, true, false, cond, not, ◌&&◌, ◌||◌, List, Some, None, refl, sym, ap, subst, ◌∙◌, arith}
 use Rattle.lfs_pair.proofs.Common.{option_and_then, Disk, disk_block, block_entries, block_revision, has_commit, is_later, current_block, content_after, empty_raw_content, raw_content, is_second_active}
 use Rattle.std.proofs.lemmas.Option.{same_Some}
-use Rattle.lfs_model.specs.format.Content.{current_of_two}
+use Rattle.lfs_model.specs.format.Content.{later_committed_block}
 
 -- the block that holds, by which of the two it is
-pub holder_is : (a b : List ℕ) → has_commit (cond (is_second_active a b) b a) ≡ true → current_of_two a b ≡ Some (cond (is_second_active a b) b a)
+pub holder_is : (a b : List ℕ) → has_commit (cond (is_second_active a b) b a) ≡ true → later_committed_block a b ≡ Some (cond (is_second_active a b) b a)
 holder_is a b h = go (has_commit a) (has_commit b) (is_later (block_revision a) (block_revision b)) refl refl h
   where
     go : (ca cb later : Bool) → has_commit a ≡ ca → has_commit b ≡ cb → has_commit (cond (cb && (not ca || later)) b a) ≡ true
@@ -17,7 +17,7 @@ holder_is a b h = go (has_commit a) (has_commit b) (is_later (block_revision a) 
     go false false later e f h = absurd (let k = sym e ∙ h in cc)
 
 -- the block that holds has a commit
-holder_has : (a b block : List ℕ) → current_of_two a b ≡ Some block → has_commit block ≡ true
+holder_has : (a b block : List ℕ) → later_committed_block a b ≡ Some block → has_commit block ≡ true
 holder_has a b block h = go (has_commit a) (has_commit b) (is_later (block_revision a) (block_revision b)) refl refl h
   where
     this : (x : List ℕ) → has_commit x ≡ true → Some x ≡ Some block → has_commit block ≡ true

@@ -1,7 +1,7 @@
 -- A content, cut into the parts of two pairs, and a stop while they are written.
 use Rattle.std.specs.Prelude.{All}
 use Rattle.std.proofs.Common.{ℕ, zero, suc, get_or, ◌≡◌, ◌≢◌, ◌+◌, ◌≤◌, ◌<◌, ◌==◌, ◌&&◌, ◌^◌, false, List, [], ◌∷◌, Some, length, take, drop, sum_by, sym, ap, ◌∙◌, subst, arith, inl, inr}
-use Rattle.lfs_pair.proofs.Common.{cases_lt, ne_eqb, disk_of_blocks, Blocks, block_bytes, Disk, pair_capacity, slots_limit, AllCallsSince, CallEvent, RawSlot, RawContent, current_block, raw_content, LogEntry, AreNamed, AreWellFormed, IsWellFormed, RawContentFits, slot_size_raw, ContentChange, AllCallsSince-until, nothing_logged, SameExceptBlocks-trans, SameExceptBlocks-wider, AreElsewhere, current_block-stays, raw_content-stays, header_address, BeginsWith, HasNewContent, HasOldContent, KeepsFirstEntry, LossLeavesNew, KeepsOutsidePair, changed_log_content, changed_pair_content, IsFittingSplit, ErasedOneMore, IsWrittenAnew, CanSplitPair, LossLeavesSplit}
+use Rattle.lfs_pair.proofs.Common.{cases_lt, ne_eqb, disk_of_blocks, Blocks, block_bytes, Disk, pair_capacity, slots_limit, AllCallsSince, CallEvent, RawSlot, RawContent, current_block, raw_content, LogEntry, AreNamed, AreWellFormed, IsWellFormed, RawContentFitsInPair, raw_slot_size, ContentChange, AllCallsSince-until, nothing_logged, SameExceptBlocks-trans, SameExceptBlocks-wider, AreElsewhere, current_block-stays, raw_content-stays, header_address, HasFirstLogEntry, HasNewContent, HasOldContent, KeepsFirstEntry, LossLeavesNew, KeepsOutsidePair, changed_log_content, changed_pair_content, IsFittingSplit, ErasedOneMore, IsWrittenAnew, CanSplitPair, LossLeavesSplit}
 use Rattle.std.proofs.lemmas.List.{take_all}
 use Rattle.lfs_device.specs.declared.geometry.Geometry.{Geometry}
 use Rattle.lfs_model.specs.format.Slots.{null_address}
@@ -69,7 +69,7 @@ AreNamed-drop (suc n) (s ∷ slots) have = AreNamed-drop n slots have.1
 pub record IsReady (block_size page : ℕ) (c : RawContent) : Type 0 where
   pub logged : IsWellFormed c
   pub names : AreNamed c.slots
-  pub fits : RawContentFits block_size page c
+  pub fits : RawContentFitsInPair block_size page c
 
 pub front_ready : {block_size page : ℕ} {whole front back : RawContent} {fresh : ℕ × ℕ} → IsContentCut block_size page whole fresh front back → IsWellFormed whole → AreNamed whole.slots
     → fresh.0 < 2 ^ 16 → fresh.1 < 2 ^ 16 → IsReady block_size page front
@@ -110,7 +110,7 @@ cut_inside {block_size} {page} {cut} {whole} is full = (front cut is, back)
       | inl lt ↦ lt
       | inr le ↦
           let all = take_all cut whole.slots le in
-          absurd (full (record { size = subst (λ s. sum_by slot_size_raw s ≤ pair_capacity block_size page) all is.front.size; count = subst (λ s. length s ≤ slots_limit) all is.front.count }))
+          absurd (full (record { size = subst (λ s. sum_by raw_slot_size s ≤ pair_capacity block_size page) all is.front.size; count = subst (λ s. length s ≤ slots_limit) all is.front.count }))
     ]
 
 -- one more block that is erased and written
@@ -159,11 +159,11 @@ is_splitting {geometry} {blocks = blocks} {history = history} {pair = pair} {fre
 still_elsewhere : (old : Disk) (at fresh : ℕ × ℕ) (left : Blocks) → AreApart at fresh → KeepsOutsidePair fresh old.blocks left → HasOldContent old at (record old { blocks = left })
 still_elsewhere old at fresh left apart same = record {
   content = raw_content-stays old (pair_elsewhere apart) same;
-  first = λ e h. subst (λ o. BeginsWith o e) (sym (current_block-stays old (pair_elsewhere apart) same)) h;
+  first = λ e h. subst (λ o. HasFirstLogEntry o e) (sym (current_block-stays old (pair_elsewhere apart) same)) h;
 }
 
-pub first_while_fresh : (old : Disk) (at fresh : ℕ × ℕ) (left : Blocks) → AreApart at fresh → KeepsOutsidePair fresh old.blocks left → (e : LogEntry) → BeginsWith (current_block old at) e
-    → BeginsWith (current_block (record old { blocks = left }) at) e
+pub first_while_fresh : (old : Disk) (at fresh : ℕ × ℕ) (left : Blocks) → AreApart at fresh → KeepsOutsidePair fresh old.blocks left → (e : LogEntry) → HasFirstLogEntry (current_block old at) e
+    → HasFirstLogEntry (current_block (record old { blocks = left }) at) e
 first_while_fresh old at fresh left apart same = (still_elsewhere old at fresh left apart same).first
 
 -- the first entry stays if the fresh pair was written first

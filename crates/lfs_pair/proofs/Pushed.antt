@@ -3,7 +3,7 @@ use Rattle.std.proofs.Common.{ℕ, zero, suc, ◌≡◌, ◌+◌, ◌<◌, ◌�
 use Rattle.std.specs.List.{flat_map}
 use Rattle.lfs_pair.proofs.Common.{append-nil, length-map, length-take-le, flat_map-append, LogEntry, RawSlot, AreWellFormed, attribute_entries, log_entry, entries_of_slots, PartialCommit, attribute_view, commit_with_entries}
 use Rattle.std.proofs.lemmas.List.{map-append}
-use Rattle.lfs_model.specs.layers.LoggedContent.{AttributesInOrder, IsFormedSlot}
+use Rattle.lfs_model.specs.layers.LoggedContent.{AttributesInOrder, IsWellFormedSlot}
 use Rattle.lfs_model.specs.layers.WrittenContent.{first_attribute_type, slot_entries}
 use Rattle.lfs_tag.specs.declared.content.Attribute.{Attribute}
 use Rattle.lfs_pair.proofs.Applied.{mapped_front}
@@ -62,10 +62,10 @@ short_at f low [] i d h l = absurd (omega arith)
 short_at f low (x ∷ xs) zero d h l = omega (arith, h.2)
 short_at f low (x ∷ xs) (suc i) d h l = short_at f ((f x).0 + 1) xs i d h.3 (omega arith)
 
-parts_of : {X : Type 0} (f : X → RawSlot) (xs : List X) (i : ℕ) (d : X) → AreWellFormed (map f xs) → i < length xs → IsFormedSlot (f (get_or xs i d))
+parts_of : {X : Type 0} (f : X → RawSlot) (xs : List X) (i : ℕ) (d : X) → AreWellFormed (map f xs) → i < length xs → IsWellFormedSlot (f (get_or xs i d))
 parts_of f [] i d h l = absurd (omega arith)
 parts_of f (x ∷ xs) zero d h l = h.0
 parts_of f (x ∷ xs) (suc i) d h l = parts_of f xs i d h.1 (omega arith)
 
-pub parts_at : {X : Type 0} (f : X → RawSlot) (xs : List X) (i : ℕ) (x : X) → AreWellFormed (map f xs) → i < length xs → x ≡ get_or xs i x → IsFormedSlot (f x)
-parts_at f xs i x h l at = subst (λ z. IsFormedSlot (f z)) (sym at) (parts_of f xs i x h l)
+pub parts_at : {X : Type 0} (f : X → RawSlot) (xs : List X) (i : ℕ) (x : X) → AreWellFormed (map f xs) → i < length xs → x ≡ get_or xs i x → IsWellFormedSlot (f x)
+parts_at f xs i x h l at = subst (λ z. IsWellFormedSlot (f z)) (sym at) (parts_of f xs i x h l)

@@ -1,7 +1,7 @@
 -- A pair keeps its content if nothing is written to its two blocks.
 use Rattle.std.specs.Prelude.{All}
 use Rattle.std.proofs.Common.{ℕ, ◌≡◌, ◌≢◌, Bool, true, false, cond, List, Some, sym, ap, ap₂, ◌∙◌, subst}
-use Rattle.lfs_pair.proofs.Common.{Blocks, SameExceptBlocks, Disk, disk_block, block_revision, CallEvent, StayUnprogrammed, RawContent, AreElsewhere, current_block-stays, raw_content-stays, IsTrueHeader, HeaderDescribesLog, is_second_active, active_block_at, header_address, HeaderSaysActive, HasWrittenContent}
+use Rattle.lfs_pair.proofs.Common.{Blocks, SameExceptBlocks, Disk, disk_block, block_revision, CallEvent, OthersStayUnprogrammed, RawContent, AreElsewhere, current_block-stays, raw_content-stays, IsTrueHeader, HeaderDescribesLog, is_second_active, active_block_at, header_address, HeaderSaysActive, HasWrittenContent}
 use Rattle.lfs_model.proofs.Histories.{AreUnprogrammed-stays}
 use Rattle.lfs_pair.specs.declared.pair.Pair.{Pair}
 
@@ -33,7 +33,7 @@ HeaderSaysActive-stays {disk = disk} {pair = pair} elsewhere same is =
     }
 
 pub IsTrueHeader-stays : {bs : List ℕ} {disk : Disk} {blocks : Blocks} {before after : List CallEvent} {pair : Pair} {held : RawContent}
-    → AreElsewhere (header_address pair) bs → SameExceptBlocks bs disk.blocks blocks → StayUnprogrammed bs before after → IsTrueHeader disk before pair held → IsTrueHeader (record disk { blocks = blocks }) after pair held
+    → AreElsewhere (header_address pair) bs → SameExceptBlocks bs disk.blocks blocks → OthersStayUnprogrammed bs before after → IsTrueHeader disk before pair held → IsTrueHeader (record disk { blocks = blocks }) after pair held
 IsTrueHeader-stays {disk = disk} {pair = pair} {held} elsewhere same stay is =
     let apart = active_elsewhere disk pair.active elsewhere is.active in
     let block = same.others pair.active apart in
@@ -47,7 +47,7 @@ IsTrueHeader-stays {disk = disk} {pair = pair} {held} elsewhere same stay is =
 
 -- a pair's address is that of its blocks
 pub NowHolds-stays : {at : ℕ × ℕ} {bs : List ℕ} {disk : Disk} {blocks : Blocks} {before after : List CallEvent} {pair : Pair} {held : RawContent}
-    → AreElsewhere at bs → SameExceptBlocks bs disk.blocks blocks → StayUnprogrammed bs before after → HasWrittenContent disk before at pair held → HasWrittenContent (record disk { blocks = blocks }) after at pair held
+    → AreElsewhere at bs → SameExceptBlocks bs disk.blocks blocks → OthersStayUnprogrammed bs before after → HasWrittenContent disk before at pair held → HasWrittenContent (record disk { blocks = blocks }) after at pair held
 NowHolds-stays {bs = bs} {disk = disk} elsewhere same stay holds = record {
   is_pair = IsTrueHeader-stays (subst (λ a. AreElsewhere a bs) (sym holds.same) elsewhere) same stay holds.is_pair;
   same = holds.same;

@@ -9,15 +9,15 @@ use Rattle.lfs_device.specs.DeviceCalls.{ReadsOnly}
 use Rattle.lfs_device.specs.DeviceDisk.{disk_of_blocks}
 use Rattle.lfs_model.specs.format.Blocks.{Blocks, SameExcept, SameExceptBlocks, block_bytes}
 use Rattle.lfs_model.specs.format.Disk.{Disk, disk_block, block_count}
-use Rattle.lfs_model.specs.session.History.{CallEvent, AreUnprogrammed, StayUnprogrammed, blank_count, erase_count, program_count}
+use Rattle.lfs_model.specs.session.History.{CallEvent, AreUnprogrammed, OthersStayUnprogrammed, blank_answer_count, erase_count, program_count}
 use Rattle.lfs_model.specs.format.Log.{LogEntry, chain_of, block_entries, block_revision}
 use Rattle.lfs_model.specs.layers.LoggedContent.{AreNamed, IsWellFormed}
 use Rattle.lfs_model.specs.format.Slots.{PairContent, FitsInPair}
-use Rattle.lfs_model.specs.format.Content.{RawContent, complete_content, current_block, raw_content, content_after, empty_raw_content}
-use Rattle.lfs_model.specs.tree.View.{BeginsWith}
+use Rattle.lfs_model.specs.format.Content.{RawContent, decoded_content, current_block, raw_content, content_after, empty_raw_content}
+use Rattle.lfs_model.specs.tree.View.{HasFirstLogEntry}
 use Rattle.lfs_model.specs.layers.Changes.{ContentChange, content_with_changes, entries_of_changes}
-use Rattle.lfs_model.specs.layers.Commit.{encoded_size, aligned_end}
-use Rattle.lfs_model.specs.layers.WrittenContent.{RawContentFits, content_entries}
+use Rattle.lfs_model.specs.layers.Commit.{encoded_size, aligned_commit_end}
+use Rattle.lfs_model.specs.layers.WrittenContent.{RawContentFitsInPair, content_entries}
 use Rattle.lfs_model.specs.format.Tag.{tag_class}
 use Rattle.lfs_pair.specs.Writing.{IsWrittenAnew}
 use Rattle.lfs_pair.specs.declared.pair.Pair.{Pair}
@@ -32,12 +32,12 @@ BeginsWithEntry (Some c) e = slice_get (content_entries c) 0 ≡ Some e
 -- If the old log began with an entry, and a compaction of the new content would begin with it too,
 -- the log on the new disk begins with that entry.
 abbrev pub KeepsFirstEntry : Disk → ℕ × ℕ → Option RawContent → Disk → Type 0
-KeepsFirstEntry old at new disk = (e : LogEntry) → BeginsWith (current_block old at) e → BeginsWithEntry new e → BeginsWith (current_block disk at) e
+KeepsFirstEntry old at new disk = (e : LogEntry) → HasFirstLogEntry (current_block old at) e → BeginsWithEntry new e → HasFirstLogEntry (current_block disk at) e
 
 -- The pair has its old content, and its log begins with the same entry as before.
 pub record HasOldContent (old : Disk) (at : ℕ × ℕ) (disk : Disk) : Type 0 where
   pub content : raw_content disk at ≡ raw_content old at
-  pub first : (e : LogEntry) → BeginsWith (current_block old at) e → BeginsWith (current_block disk at) e
+  pub first : (e : LogEntry) → HasFirstLogEntry (current_block old at) e → HasFirstLogEntry (current_block disk at) e
 
 -- The pair has the content `new`.
 pub record HasNewContent (old : Disk) (at : ℕ × ℕ) (new : RawContent) (disk : Disk) : Type 0 where
@@ -98,7 +98,7 @@ pub record CanCompact (disk : Disk) (pair : Pair) (c : RawContent) (len : ℕ) :
   pub buf : len ≡ disk.block_size
   pub logged : IsWellFormed c
   pub names : AreNamed c.slots
-  pub fits : RawContentFits disk.block_size disk.page c
+  pub fits : RawContentFitsInPair disk.block_size disk.page c
 
 -- The pair at the address has this content, and was written to since it was fetched.
 pub record HasWrittenContent (disk : Disk) (history : List CallEvent) (at : ℕ × ℕ) (pair : Pair) (held : RawContent) : Type 0 where
@@ -110,7 +110,7 @@ pub record HasWrittenContent (disk : Disk) (history : List CallEvent) (at : ℕ 
 -- The rest of the block after the pair's log is known to be unprogrammed: the pair was written to
 -- since it was fetched, or the device has confirmed it.
 abbrev pub IsEndUnprogrammed : List CallEvent → List CallEvent → Pair → Type 0
-IsEndUnprogrammed before after pair = (pair.is_fetched ≡ false) ⊎ (blank_count before < blank_count after)
+IsEndUnprogrammed before after pair = (pair.is_fetched ≡ false) ⊎ (blank_answer_count before < blank_answer_count after)
 
 -- The log ends on a page boundary, and the rest of the block is known to be unprogrammed.
 pub record IsEndBlank (geometry : Geometry) (before after : List CallEvent) (pair : Pair) : Type 0 where
@@ -122,7 +122,7 @@ pub record IsEndBlank (geometry : Geometry) (before after : List CallEvent) (pai
 -- commit ends within the block.
 pub record AppendFits (disk : Disk) (before after : List CallEvent) (pair : Pair) (changes : List ContentChange) : Type 0 where
   pub known : IsEndUnprogrammed before after pair
-  pub room : pair.end + aligned_end disk.page (encoded_size (entries_of_changes changes)) ≤ disk.block_size
+  pub room : pair.end + aligned_commit_end disk.page (encoded_size (entries_of_changes changes)) ≤ disk.block_size
 
 -- The block's log has one more commit, with the entries `es`, whose length is padded to whole
 -- pages.
@@ -130,7 +130,7 @@ pub record LogGetsEntries (page : ℕ) (es : List LogEntry) (old new : List ℕ)
   pub checksum : LogEntry
   pub class : tag_class checksum.tag ≡ 5
   pub commits : (chain_of new).commits ≡ (chain_of old).commits ++ (es ++ checksum ∷ []) ∷ []
-  pub end : (chain_of new).end ≡ (chain_of old).end + aligned_end page (encoded_size es)
+  pub end : (chain_of new).end ≡ (chain_of old).end + aligned_commit_end page (encoded_size es)
 
 -- A commit was appended: with one program and no erase, which changed only the active block, and
 -- none of its bytes before the old end.
@@ -147,7 +147,7 @@ pub record IsCommitAppended (page : ℕ) (was : Pair) (changes : List ContentCha
 pub record IsPairRewritten (page : ℕ) (was : Pair) (c : RawContent) (old new : Blocks) (before after : List CallEvent) (pair : Pair) : Type 0 where
   pub active : pair.active ≢ was.active
   pub anew : IsWrittenAnew ((was.revision + 1) % 2 ^ 32) c (block_bytes new pair.active) before after
-  pub end : pair.end ≡ aligned_end page (4 + encoded_size (content_entries c))
+  pub end : pair.end ≡ aligned_commit_end page (4 + encoded_size (content_entries c))
   pub kept : block_bytes new was.active ≡ block_bytes old was.active
 
 -- The changes could be appended, and were. The pair has the content `c`, and its log begins as
@@ -183,7 +183,7 @@ pub record CompactsContent (old : Disk) (before : List CallEvent) (was : Pair) (
 pub record CommitsChanges (old : Disk) (before : List CallEvent) (changes : List ContentChange) (was : Pair) (disk : Disk) (history : List CallEvent) (pair : Pair) : Type 0 where
   pub new : RawContent
   pub made : changed_pair_content old (header_address was) changes ≡ Some new
-  pub fits : RawContentFits old.block_size old.page new
+  pub fits : RawContentFitsInPair old.block_size old.page new
   pub logged : IsWellFormed new
   pub holds : HasWrittenContent disk history (header_address was) pair new
   pub first : KeepsFirstEntry old (header_address was) (Some new) disk
@@ -193,8 +193,8 @@ pub record CommitsChanges (old : Disk) (before : List CallEvent) (changes : List
 -- The commit was refused: the changed content doesn't fit in the pair, neither as the content of a
 -- log nor, if every slot is complete, as slots. The header is unchanged, and nothing was written.
 pub record RefusesCommit {D : Type 0} (g : Ghosts D) (changes : List ContentChange) (old new : D) (was now : Pair) : Type 0 where
-  pub full : (c : RawContent) → changed_pair_content (disk_of_blocks (g.geometry old) (g.blocks old)) (header_address was) changes ≡ Some c → RawContentFits (g.geometry old).block_size (g.geometry old).page c → ⊥
-  pub completed : (c : RawContent) (d : PairContent) → changed_pair_content (disk_of_blocks (g.geometry old) (g.blocks old)) (header_address was) changes ≡ Some c → complete_content c ≡ Some d
+  pub full : (c : RawContent) → changed_pair_content (disk_of_blocks (g.geometry old) (g.blocks old)) (header_address was) changes ≡ Some c → RawContentFitsInPair (g.geometry old).block_size (g.geometry old).page c → ⊥
+  pub completed : (c : RawContent) (d : PairContent) → changed_pair_content (disk_of_blocks (g.geometry old) (g.blocks old)) (header_address was) changes ≡ Some c → decoded_content c ≡ Some d
       → FitsInPair (g.geometry old).block_size (g.geometry old).page d → ⊥
   pub pair : now ≡ was
   pub device : ReadsOnly g old new
@@ -212,7 +212,7 @@ KeepsOutsidePair at old new = SameExceptBlocks (address_blocks at) old new
 
 -- The unprogrammed bytes of all other blocks stay unprogrammed.
 abbrev pub OutsideStaysUnprogrammed : ℕ × ℕ → List CallEvent → List CallEvent → Type 0
-OutsideStaysUnprogrammed at old new = StayUnprogrammed (address_blocks at) old new
+OutsideStaysUnprogrammed at old new = OthersStayUnprogrammed (address_blocks at) old new
 
 -- A power loss leaves other blocks unchanged, and the pair with its old content or with the content
 -- `new`.
@@ -224,7 +224,7 @@ pub record LossLeavesNew (old : Disk) (at : ℕ × ℕ) (new : RawContent) (left
 pub record HasChangedContent (old : Disk) (at : ℕ × ℕ) (changes : List ContentChange) (disk : Disk) : Type 0 where
   pub new : RawContent
   pub made : changed_pair_content old at changes ≡ Some new
-  pub fits : RawContentFits old.block_size old.page new
+  pub fits : RawContentFitsInPair old.block_size old.page new
   pub logged : IsWellFormed new
   pub now : HasNewContent old at new disk
 

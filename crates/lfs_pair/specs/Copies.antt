@@ -7,7 +7,7 @@ use Rattle.lfs_device.specs.DeviceCalls.{ReadsOnly}
 use Rattle.lfs_model.specs.format.Content.{RawContent}
 use Rattle.lfs_model.specs.format.Disk.{Disk}
 use Rattle.lfs_model.specs.layers.Changes.{ContentChange}
-use Rattle.lfs_model.specs.layers.WrittenContent.{RawContentFits}
+use Rattle.lfs_model.specs.layers.WrittenContent.{RawContentFitsInPair}
 use Rattle.lfs_model.specs.session.History.{CallEvent}
 use Rattle.lfs_pair.specs.Commits.{IsPairAddress, CanCommit, HasWrittenContent, changed_pair_content}
 use Rattle.lfs_pair.specs.FreshPair.{ErasedOneMore, HasFreshContent}
@@ -18,7 +18,7 @@ use Rattle.lfs_pair.specs.declared.pair.Pair.{Pair}
 -- different blocks of the disk.
 pub record CanCopyPair (disk : Disk) (history : List CallEvent) (pair : Pair) (fresh : ℕ × ℕ) (changes : List ContentChange) : Type 0 where
   pub commit : CanCommit disk history pair changes
-  pub fits : RawContentFits disk.block_size disk.page commit.new
+  pub fits : RawContentFitsInPair disk.block_size disk.page commit.new
   pub fresh_is : IsPairAddress disk fresh
 
 -- The copy has the changed content, with the next revision count.

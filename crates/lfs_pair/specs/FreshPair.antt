@@ -8,7 +8,7 @@ use Rattle.lfs_model.specs.session.History.{DeviceCall, Read, Program, Erase, Bl
 use Rattle.lfs_model.specs.layers.LoggedContent.{AreNamed, IsWellFormed}
 use Rattle.lfs_model.specs.format.Content.{RawContent, has_commit, empty_raw_content}
 use Rattle.lfs_model.specs.layers.Changes.{ContentChange, content_with_changes}
-use Rattle.lfs_model.specs.layers.WrittenContent.{RawContentFits}
+use Rattle.lfs_model.specs.layers.WrittenContent.{RawContentFitsInPair}
 use Rattle.lfs_pair.specs.declared.pair.Pair.{Pair}
 use Rattle.lfs_pair.specs.Writing.{HasOneCommit}
 use Rattle.lfs_pair.specs.Commits.{IsPairAddress, HasWrittenContent}
@@ -20,7 +20,7 @@ pub record CanMakeFresh (disk : Disk) (at : ℕ × ℕ) (changes : List ContentC
   pub new : RawContent
   pub changed : content_with_changes empty_raw_content changes ≡ Some new
   pub names : AreNamed new.slots
-  pub fits : RawContentFits disk.block_size disk.page new
+  pub fits : RawContentFitsInPair disk.block_size disk.page new
 
 -- A new pair can be written: it has two different blocks of the disk, its content can be written
 -- and fits, and the buffer has one block's size.
@@ -29,7 +29,7 @@ pub record CanWriteFreshPair (disk : Disk) (at : ℕ × ℕ) (c : RawContent) (l
   pub buf : len ≡ disk.block_size
   pub logged : IsWellFormed c
   pub names : AreNamed c.slots
-  pub fits : RawContentFits disk.block_size disk.page c
+  pub fits : RawContentFitsInPair disk.block_size disk.page c
 
 -- A successful erase leaves no log in the block.
 abbrev pub EraseClearsLog : DeviceCall → Bool → Blocks → Type 0

@@ -4,8 +4,8 @@ use Rattle.std.specs.Option.{option_map}
 use Rattle.lfs_model.specs.format.Disk.{Disk, disk_block}
 use Rattle.lfs_model.specs.session.History.{CallEvent, AreUnprogrammed}
 use Rattle.lfs_model.specs.format.Log.{chain_of, block_revision, block_entries}
-use Rattle.lfs_model.specs.format.Slots.{address_view}
-use Rattle.lfs_model.specs.format.Content.{RawContent, has_commit, current_block, is_later, content_after, empty_raw_content, raw_content, complete_content}
+use Rattle.lfs_model.specs.format.Slots.{address_of_array}
+use Rattle.lfs_model.specs.format.Content.{RawContent, has_commit, current_block, is_later, content_after, empty_raw_content, raw_content, decoded_content}
 use Rattle.lfs_model.specs.layers.LoggedContent.{IsWellFormed}
 use Rattle.lfs_tag.specs.ContentView.{tail_view}
 use Rattle.lfs_tag.specs.FieldsView.{move_view}
@@ -13,7 +13,7 @@ use Rattle.lfs_pair.specs.declared.pair.Pair.{Pair}
 
 -- The address of the pair that the header describes.
 abbrev pub header_address : Pair → ℕ × ℕ
-header_address pair = address_view pair.blocks
+header_address pair = address_of_array pair.blocks
 
 -- The address has two different blocks of a device with `count` blocks.
 pub record AreTwoBlocks (count : ℕ) (at : ℕ × ℕ) : Type 0 where
@@ -35,7 +35,7 @@ pub record IsContentHeader (c : RawContent) (pair : Pair) : Type 0 where
   pub slot_count : pair.slot_count ≡ length c.slots
   pub tail : option_map tail_view pair.tail ≡ c.tail
   pub move : move_view pair.move_state ≡ c.move
-  pub complete : pair.is_complete ≡ is_some (complete_content c)
+  pub complete : pair.is_complete ≡ is_some (decoded_content c)
 
 -- The header `now` describes this content, and has the blocks, the active block and the revision
 -- count of the header `was`.

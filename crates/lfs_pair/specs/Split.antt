@@ -2,12 +2,12 @@
 use Rattle.std.specs.Prelude.{ℕ, ◌≡◌, ◌≢◌, ◌⊎◌, ◌+◌, ◌<◌, ◌%◌, ◌^◌, true, List, length, take, drop, Some}
 use Rattle.lfs_model.specs.format.Blocks.{Blocks, SameExceptBlocks, block_bytes}
 use Rattle.lfs_model.specs.format.Disk.{Disk, disk_block}
-use Rattle.lfs_model.specs.session.History.{CallEvent, StayUnprogrammed}
+use Rattle.lfs_model.specs.session.History.{CallEvent, OthersStayUnprogrammed}
 use Rattle.lfs_model.specs.format.Slots.{zero_gstate}
 use Rattle.lfs_model.specs.format.Content.{RawContent, raw_content}
 use Rattle.lfs_model.specs.layers.LoggedContent.{IsWellFormed}
 use Rattle.lfs_model.specs.layers.Changes.{ContentChange}
-use Rattle.lfs_model.specs.layers.WrittenContent.{RawContentFits}
+use Rattle.lfs_model.specs.layers.WrittenContent.{RawContentFitsInPair}
 use Rattle.lfs_pair.specs.FreshPair.{ErasedOneMore, HasFreshContent}
 use Rattle.lfs_pair.specs.declared.pair.Pair.{Pair}
 use Rattle.lfs_pair.specs.Pair.{header_address}
@@ -48,7 +48,7 @@ split_back c cut = record { slots = drop cut c.slots; tail = c.tail; move = zero
 -- If the whole content doesn't fit in one pair, both parts have slots. So the first slot stays in
 -- the old pair.
 abbrev pub BothHaveSlots : ℕ → ℕ → RawContent → ℕ → Type 0
-BothHaveSlots block_size page whole cut = (RawContentFits block_size page whole → ⊥) → (0 < cut) × (cut < length whole.slots)
+BothHaveSlots block_size page whole cut = (RawContentFitsInPair block_size page whole → ⊥) → (0 < cut) × (cut < length whole.slots)
 
 -- These are the two parts into which a split divides a content.
 pub record IsContentCut (block_size page : ℕ) (whole : RawContent) (fresh : ℕ × ℕ) (front back : RawContent) : Type 0 where
@@ -93,7 +93,7 @@ KeepsOutsideBoth at fresh old new = SameExceptBlocks (addresses_blocks at fresh)
 
 -- The unprogrammed bytes of all other blocks stay unprogrammed.
 abbrev pub OutsideBothStaysUnprogrammed : ℕ × ℕ → ℕ × ℕ → List CallEvent → List CallEvent → Type 0
-OutsideBothStaysUnprogrammed at fresh old new = StayUnprogrammed (addresses_blocks at fresh) old new
+OutsideBothStaysUnprogrammed at fresh old new = OthersStayUnprogrammed (addresses_blocks at fresh) old new
 
 -- A power loss in a split leaves the old pair with its old content, or both pairs with their parts.
 pub record LossLeavesSplit (old : Disk) (at fresh : ℕ × ℕ) (changes : List ContentChange) (left : Blocks) : Type 0 where

@@ -7,11 +7,11 @@ use Rattle.lfs_device.specs.declared.geometry.Geometry.{Geometry}
 use Rattle.lfs_device.specs.DeviceCalls.{ChangesOneBlock, ChangesTheseBlocks, ReportsFaults}
 use Rattle.lfs_model.specs.format.Blocks.{Blocks, block_bytes, SameExcept}
 use Rattle.lfs_model.specs.format.Disk.{Disk, disk_block}
-use Rattle.lfs_model.specs.session.History.{AreUnprogrammed, Blank, CallEvent, call_event, blank_count, erase_count, program_count, read_count}
+use Rattle.lfs_model.specs.session.History.{AreUnprogrammed, Blank, CallEvent, call_event, blank_answer_count, erase_count, program_count, read_count}
 use Rattle.lfs_model.specs.format.Tag.{tag_class}
 use Rattle.lfs_model.specs.format.Log.{LogEntry, chain_of, block_revision, block_entries}
 use Rattle.lfs_model.specs.format.Content.{RawContent, has_commit, content_after, empty_raw_content}
-use Rattle.lfs_model.specs.layers.WrittenContent.{RawContentFits, content_entries}
+use Rattle.lfs_model.specs.layers.WrittenContent.{RawContentFitsInPair, content_entries}
 use Rattle.lfs_model.specs.layers.LoggedContent.{AreNamed, IsWellFormed}
 use Rattle.lfs_model.specs.crash.Stops.{SameLog, SameRevision, HasNoLog}
 use Rattle.lfs_tag.specs.Builder.{IsCommitOffset, PartialCommit, earlier_commits, padded_commit_end}
@@ -42,7 +42,7 @@ pub record CanWriteAnew (geometry : Geometry) (b : ℕ) (c : RawContent) (len : 
   pub buf : len ≡ geometry.block_size
   pub logged : IsWellFormed c
   pub names : AreNamed c.slots
-  pub fits : RawContentFits geometry.block_size geometry.page c
+  pub fits : RawContentFitsInPair geometry.block_size geometry.page c
 
 -- The block's log ends at the offset `end`, a page boundary, and its last tag is `last`. The rest
 -- of the block is unprogrammed.
@@ -104,14 +104,14 @@ pub record OnlyAsksBlank {D : Type 0} (g : Ghosts D) (old new : D) : Type 0 wher
 pub record ProgramsOnce (before after : List CallEvent) : Type 0 where
   pub erases : erase_count after ≡ erase_count before
   pub programs : program_count after ≡ program_count before + 1
-  pub blanks : blank_count after ≡ blank_count before
+  pub blanks : blank_answer_count after ≡ blank_answer_count before
 
 -- A block was erased once and programmed once, and its log is one commit with this content.
 pub record IsWrittenAnew (revision : ℕ) (c : RawContent) (block : List ℕ) (before after : List CallEvent) : Type 0 where
   pub holds : HasOneCommit revision c block
   pub erases : erase_count after ≡ erase_count before + 1
   pub programs : program_count after ≡ program_count before + 1
-  pub blanks : blank_count after ≡ blank_count before
+  pub blanks : blank_answer_count after ≡ blank_answer_count before
 
 -- A power loss while a block is erased and written leaves a log with the old revision count, no
 -- log, or the new content.

@@ -3,9 +3,9 @@
 ghost use Rattle.std.specs.Prelude.{◌≡◌, ◌<◌, ◌≤◌, ◌^◌, ◌++◌, true, [], ◌∷◌, length, Some};
 ghost use Rattle.std.specs.List.{list_all};
 ghost use Rattle.std.specs.Option.{option_map};
-ghost use Rattle.lfs_model.specs.format.Slots.{address_view};
+ghost use Rattle.lfs_model.specs.format.Slots.{address_of_array};
 ghost use Rattle.lfs_model.specs.format.Content.{content_after_entry, content_after};
-ghost use Rattle.lfs_model.specs.format.EntryTypes.{tail_if_any as tail_with_pair};
+ghost use Rattle.lfs_model.specs.format.EntryTypes.{tail_if_not_null as tail_with_pair};
 ghost use Rattle.lfs_model.specs.layers.WrittenContent.{log_entry, tail_or_null};
 ghost use Rattle.lfs_model.specs.layers.Changes.{change_entries, entries_of_changes, is_storable, RemoveAttribute};
 ghost use Rattle.lfs_tag.specs.ContentView.{content_view, tail_view};
@@ -73,7 +73,7 @@ fn apply_attribute_removal(
 
 // Returns the tail that a change sets, or None if the change has no pair or two null addresses.
 fn tail_unless_null(hard: bool, pair: Option<[u32; 2]>) -> Option<Tail>
-    ensures { option_map tail_view result ≡ tail_with_pair hard (tail_or_null (option_map address_view pair)) }
+    ensures { option_map tail_view result ≡ tail_with_pair hard (tail_or_null (option_map address_of_array pair)) }
 {
     match pair {
         None => None,

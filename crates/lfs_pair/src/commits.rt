@@ -19,7 +19,7 @@ use crate::change::Change;
 use crate::contents::changed_content;
 use crate::entries::push_changes;
 use crate::pair::Pair;
-use crate::programs::{WrittenCommit, append_commit, write_block_anew};
+use crate::programs::{WrittenCommit, append_commit, rewrite_block};
 use crate::size::content_fits;
 use lfs_device::{BlockDevice, Error};
 use lfs_tag::{CommitBuilder, Content};
@@ -172,7 +172,7 @@ pub(crate) fn compact<D: BlockDevice>(
 {
     let other = pair.inactive_block();
     let revision = pair.revision.wrapping_add(1);
-    let written = write_block_anew(dev, other, revision, content, buf)?;
+    let written = rewrite_block(dev, other, revision, content, buf)?;
     *pair = Pair::written(pair.blocks, other, revision, written, content);
     Ok(())
 }

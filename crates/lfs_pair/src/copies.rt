@@ -3,7 +3,7 @@
 ghost use Rattle.std.specs.Prelude.{◌≡◌, IfErr, IfOk};
 ghost use Rattle.lfs_device.specs.DeviceCalls.{ReportsFaults};
 ghost use Rattle.lfs_device.specs.DeviceDisk.{disk_of_blocks};
-ghost use Rattle.lfs_model.specs.format.Slots.{address_view};
+ghost use Rattle.lfs_model.specs.format.Slots.{address_of_array};
 ghost use Rattle.lfs_model.specs.format.Thread.{address_blocks};
 ghost use Rattle.lfs_pair.specs.ChangeView.{changes_view};
 ghost use Rattle.lfs_pair.specs.Copies.{CanCopyPair, IsPairCopied, IsCopyError};
@@ -38,12 +38,12 @@ pub fn copy<D: BlockDevice>(
     fresh: [u32; 2],
     changes: &[Change<'_>],
 ) -> Result<Pair, Error>
-    requires { CanCopyPair (disk_of_blocks (D.geometry dev.old) (D.blocks dev.old)) (D.history dev.old) pair.now (address_view fresh) (changes_view changes.now) }
+    requires { CanCopyPair (disk_of_blocks (D.geometry dev.old) (D.blocks dev.old)) (D.history dev.old) pair.now (address_of_array fresh) (changes_view changes.now) }
 
     ensures copied { IfOk result (λ copy. IsPairCopied (disk_of_blocks (D.geometry dev.old) (D.blocks dev.old)) (D.history dev.old) (changes_view changes.now) pair.now
-        (disk_of_blocks (D.geometry dev.new) (D.blocks dev.new)) (D.history dev.new) (address_view fresh) copy) }
+        (disk_of_blocks (D.geometry dev.new) (D.blocks dev.new)) (D.history dev.new) (address_of_array fresh) copy) }
     ensures error { IfErr result (λ e. IsCopyError D.BlockDevice dev.old dev.new e) }
-    ensures device { ChangesReadingFew D.BlockDevice 3 (address_blocks (address_view fresh)) dev.old dev.new }
+    ensures device { ChangesReadingFew D.BlockDevice 3 (address_blocks (address_of_array fresh)) dev.old dev.new }
     ensures faults { ReportsFaults D.BlockDevice dev.old dev.new result }
 {
     let block = read_block(alloc, dev, pair.active)?;

@@ -3,9 +3,9 @@
 ghost use Rattle.std.specs.Prelude.{◌≡◌, ◌≢◌, ◌+◌, ◌/◌, ◌<◌, ◌≤◌, ◌^◌, true, [], ◌∷◌, length, map};
 ghost use Rattle.std.specs.List.{list_all};
 ghost use Rattle.std.specs.Option.{option_map};
-ghost use Rattle.lfs_model.specs.format.Slots.{address_view};
-ghost use Rattle.lfs_model.specs.layers.LoggedContent.{AttributesInOrder, IsFormedSlot, AreWellFormed, IsWellFormed, MoveStateFits, AllowedIfAny};
-ghost use Rattle.lfs_model.specs.layers.WrittenContent.{part_entries, attribute_entries, slot_entries, entries_of_slots, tail_entries, tail_entry, move_entry, move_state_entries, content_entries, log_entry};
+ghost use Rattle.lfs_model.specs.format.Slots.{address_of_array};
+ghost use Rattle.lfs_model.specs.layers.LoggedContent.{AttributesInOrder, IsWellFormedSlot, AreWellFormed, IsWellFormed, MoveStateFits, IsNameOrStructIfAny};
+ghost use Rattle.lfs_model.specs.layers.WrittenContent.{name_or_struct_entries, attribute_entries, slot_entries, entries_of_slots, tail_entries, tail_entry, move_entry, move_state_entries, content_entries, log_entry};
 ghost use Rattle.lfs_model.specs.layers.Changes.{change_entries, entries_of_changes, is_storable, RemoveAttribute};
 ghost use Rattle.lfs_tag.specs.ContentView.{part_view, attribute_view, slot_view, tail_view, content_view};
 ghost use Rattle.lfs_tag.specs.FieldsView.{move_view};
@@ -40,7 +40,7 @@ fn push_attribute_removal(builder: &mut CommitBuilder<'_>, id: u16, attr: u8)
 
 // Pushes a tail, with two null addresses if `pair` is None.
 fn push_tail(builder: &mut CommitBuilder<'_>, hard: bool, pair: Option<[u32; 2]>)
-    ensures { builder.new ≡ commit_with_entries (tail_entry hard (option_map address_view pair) ∷ []) builder.old }
+    ensures { builder.new ≡ commit_with_entries (tail_entry hard (option_map address_of_array pair) ∷ []) builder.old }
 {
     let kind = if hard { HARD_TAIL } else { SOFT_TAIL };
     let pair = pair.unwrap_or([NULL_ADDRESS, NULL_ADDRESS]);
@@ -94,8 +94,8 @@ pub(crate) fn push_changes(builder: &mut CommitBuilder<'_>, changes: &[Change<'_
 fn push_part(builder: &mut CommitBuilder<'_>, id: u16, part: &Option<NameOrStruct<'_>>, class: u16)
     requires id { id < 2 ^ 10 }
     requires class { class < 5 }
-    requires part { AllowedIfAny class (option_map part_view part.now) }
-    ensures { builder.new ≡ commit_with_entries (part_entries id (option_map part_view part.now)) builder.old }
+    requires part { IsNameOrStructIfAny class (option_map part_view part.now) }
+    ensures { builder.new ≡ commit_with_entries (name_or_struct_entries id (option_map part_view part.now)) builder.old }
 {
     if let Some(part) = part {
         push_log_entry(builder, part.kind, id, part.bytes);
@@ -121,7 +121,7 @@ fn push_attributes(builder: &mut CommitBuilder<'_>, id: u16, attributes: &[Attri
 // Pushes a slot: its name, its struct and its attributes.
 fn push_slot(builder: &mut CommitBuilder<'_>, id: u16, slot: &Slot<'_>)
     requires id { id < 2 ^ 10 }
-    requires parts { IsFormedSlot (slot_view slot.now) }
+    requires parts { IsWellFormedSlot (slot_view slot.now) }
     ensures { builder.new ≡ commit_with_entries (slot_entries id (slot_view slot.now)) builder.old }
 {
     push_part(builder, id, &slot.name, 0);

@@ -5,7 +5,7 @@ ghost use Rattle.lfs_model.specs.format.Blocks.{block_bytes};
 ghost use Rattle.lfs_device.specs.DeviceDisk.{disk_of_blocks};
 ghost use Rattle.lfs_device.specs.DeviceCalls.{ReadsOnly, ReportsFaults, ReportsOnlyIo};
 ghost use Rattle.lfs_model.specs.session.History.{read_count};
-ghost use Rattle.lfs_model.specs.format.Slots.{address_view};
+ghost use Rattle.lfs_model.specs.format.Slots.{address_of_array};
 ghost use Rattle.lfs_model.specs.format.Log.{block_revision};
 ghost use Rattle.lfs_model.specs.format.Content.{RawContent};
 ghost use Rattle.lfs_pair.specs.Pair.{AreTwoBlocks, FetchFinds, HeaderDescribesLog, later_block_first};
@@ -67,9 +67,9 @@ fn read_revision<D: BlockDevice>(dev: &mut D, block: u32) -> Result<u32, Error>
 // Returns the two blocks of a pair, with the later revision count first. If neither revision count
 // is later, the blocks keep their order.
 fn later_revision_first<D: BlockDevice>(dev: &mut D, blocks: [u32; 2]) -> Result<[u32; 2], Error>
-    requires first { (address_view blocks).0 < (D.geometry dev.old).block_count }
-    requires second { (address_view blocks).1 < (D.geometry dev.old).block_count }
-    ensures later { IfOk result (λ later. address_view later ≡ later_block_first (disk_of_blocks (D.geometry dev.old) (D.blocks dev.old)) (address_view blocks)) }
+    requires first { (address_of_array blocks).0 < (D.geometry dev.old).block_count }
+    requires second { (address_of_array blocks).1 < (D.geometry dev.old).block_count }
+    ensures later { IfOk result (λ later. address_of_array later ≡ later_block_first (disk_of_blocks (D.geometry dev.old) (D.blocks dev.old)) (address_of_array blocks)) }
     ensures reports { ReportsOnlyIo D.BlockDevice dev.old dev.new result }
     ensures device { ReadsOnly D.BlockDevice dev.old dev.new }
     ensures twice { ReadsTwice (D.history dev.old) (D.history dev.new) result }
@@ -96,11 +96,11 @@ fn later_revision_first<D: BlockDevice>(dev: &mut D, blocks: [u32; 2]) -> Result
 ///
 /// Requires two different block numbers below the device's number of blocks.
 pub fn fetch<D: BlockDevice>(alloc: Global, dev: &mut D, blocks: [u32; 2]) -> Result<Pair, Error>
-    requires { AreTwoBlocks (D.geometry dev.old).block_count (address_view blocks) }
-    ensures ok { IfOk result (λ pair. FetchFinds (disk_of_blocks (D.geometry dev.old) (D.blocks dev.old)) (D.history dev.new) (address_view blocks) pair) }
-    ensures fails { FetchFails D.BlockDevice (address_view blocks) dev.old dev.new result }
+    requires { AreTwoBlocks (D.geometry dev.old).block_count (address_of_array blocks) }
+    ensures ok { IfOk result (λ pair. FetchFinds (disk_of_blocks (D.geometry dev.old) (D.blocks dev.old)) (D.history dev.new) (address_of_array blocks) pair) }
+    ensures fails { FetchFails D.BlockDevice (address_of_array blocks) dev.old dev.new result }
     ensures device { ReadsOnly D.BlockDevice dev.old dev.new }
-    ensures reads { FetchReads (disk_of_blocks (D.geometry dev.old) (D.blocks dev.old)) (address_view blocks) (D.history dev.old) (D.history dev.new) result }
+    ensures reads { FetchReads (disk_of_blocks (D.geometry dev.old) (D.blocks dev.old)) (address_of_array blocks) (D.history dev.old) (D.history dev.new) result }
 {
     let [later, other] = later_revision_first(dev, blocks)?;
     let bytes = read_block(alloc, dev, later)?;

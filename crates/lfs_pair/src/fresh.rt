@@ -5,7 +5,7 @@ ghost use Rattle.lfs_device.specs.DeviceDisk.{disk_of_blocks};
 ghost use Rattle.lfs_device.specs.DeviceCalls.{ReportsFaults};
 ghost use Rattle.lfs_model.specs.format.Blocks.{block_bytes};
 ghost use Rattle.lfs_model.specs.format.Content.{has_commit};
-ghost use Rattle.lfs_model.specs.format.Slots.{address_view};
+ghost use Rattle.lfs_model.specs.format.Slots.{address_of_array};
 ghost use Rattle.lfs_tag.specs.ContentView.{content_view};
 ghost use Rattle.lfs_pair.specs.ChangeView.{changes_view};
 ghost use Rattle.lfs_pair.specs.Commits.{HasWrittenContent};
@@ -16,7 +16,7 @@ ghost use Rattle.lfs_model.specs.format.Thread.{address_blocks};
 use crate::change::Change;
 use crate::contents::content_from_empty;
 use crate::pair::Pair;
-use crate::programs::write_block_anew;
+use crate::programs::rewrite_block;
 use lfs_device::{BlockDevice, Error};
 use lfs_tag::{Content, Log};
 use std::alloc::Global;
@@ -56,17 +56,17 @@ pub(crate) fn write_fresh_pair<D: BlockDevice>(
     content: &Content<'_>,
     buf: &mut [u8],
 ) -> Result<Pair, Error>
-    requires { CanWriteFreshPair (disk_of_blocks (D.geometry dev.old) (D.blocks dev.old)) (address_view blocks) (content_view content.now) (length buf.old) }
+    requires { CanWriteFreshPair (disk_of_blocks (D.geometry dev.old) (D.blocks dev.old)) (address_of_array blocks) (content_view content.now) (length buf.old) }
 
-    ensures holds { IfOk result (λ pair. HasWrittenContent (disk_of_blocks (D.geometry dev.new) (D.blocks dev.new)) (D.history dev.new) (address_view blocks) pair (content_view content.now)) }
-    ensures fresh { IfOk result (λ pair. HasFreshContent revision (content_view content.now) (disk_of_blocks (D.geometry dev.new) (D.blocks dev.new)) (address_view blocks) pair) }
+    ensures holds { IfOk result (λ pair. HasWrittenContent (disk_of_blocks (D.geometry dev.new) (D.blocks dev.new)) (D.history dev.new) (address_of_array blocks) pair (content_view content.now)) }
+    ensures fresh { IfOk result (λ pair. HasFreshContent revision (content_view content.now) (disk_of_blocks (D.geometry dev.new) (D.blocks dev.new)) (address_of_array blocks) pair) }
     ensures buf { length buf.new ≡ length buf.old }
     ensures clears { OnOk result (ErasedOneMore 1 (D.history dev.old) (D.history dev.new)) }
-    ensures writes { WritesTheseBlocks D.BlockDevice 2 (address_blocks (address_view blocks)) dev.old dev.new result }
+    ensures writes { WritesTheseBlocks D.BlockDevice 2 (address_blocks (address_of_array blocks)) dev.old dev.new result }
 {
     let [first, second] = blocks;
     erase_cleanly(dev, second, buf)?;
-    let written = write_block_anew(dev, first, revision, content, buf)?;
+    let written = rewrite_block(dev, first, revision, content, buf)?;
     Ok(Pair::written(blocks, first, revision, written, content))
 }
 
@@ -90,11 +90,11 @@ impl Pair {
         blocks: [u32; 2],
         changes: &[Change<'_>],
     ) -> Result<Pair, Error>
-        requires { CanMakeFresh (disk_of_blocks (D.geometry dev.old) (D.blocks dev.old)) (address_view blocks) (changes_view changes.now) }
+        requires { CanMakeFresh (disk_of_blocks (D.geometry dev.old) (D.blocks dev.old)) (address_of_array blocks) (changes_view changes.now) }
 
-        ensures fresh { IfOk result (λ pair. IsFreshPair (D.history dev.old) (changes_view changes.now) (disk_of_blocks (D.geometry dev.new) (D.blocks dev.new)) (D.history dev.new) (address_view blocks) pair) }
+        ensures fresh { IfOk result (λ pair. IsFreshPair (D.history dev.old) (changes_view changes.now) (disk_of_blocks (D.geometry dev.new) (D.blocks dev.new)) (D.history dev.new) (address_of_array blocks) pair) }
         ensures error { IfErr result (λ e. IsWriteError dev.old dev.new e) }
-        ensures device { ChangesReadingFew D.BlockDevice 2 (address_blocks (address_view blocks)) dev.old dev.new }
+        ensures device { ChangesReadingFew D.BlockDevice 2 (address_blocks (address_of_array blocks)) dev.old dev.new }
         ensures faults { ReportsFaults D.BlockDevice dev.old dev.new result }
     {
         let content = content_from_empty(alloc, changes)?;

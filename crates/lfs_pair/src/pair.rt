@@ -1,8 +1,8 @@
 // The header of a metadata pair, which is kept in memory.
 
 ghost use Rattle.std.specs.Prelude.{◌≡◌, is_some, map};
-ghost use Rattle.lfs_model.specs.format.Content.{RawContent, complete_slots};
-ghost use Rattle.lfs_model.specs.format.Slots.{address_view, same_pair};
+ghost use Rattle.lfs_model.specs.format.Content.{RawContent, decoded_slots};
+ghost use Rattle.lfs_model.specs.format.Slots.{address_of_array, same_pair};
 ghost use Rattle.lfs_tag.specs.ContentView.{content_view, slot_view};
 ghost use Rattle.lfs_pair.specs.Pair.{IsContentHeader, IsHeaderWith, IsWrittenHeader, header_address, header_inactive_block};
 
@@ -11,7 +11,7 @@ use lfs_tag::{Content, MoveState, Slot, Tag, Tail};
 
 // Returns whether each slot has a name and a struct.
 pub(crate) fn are_slots_complete(slots: &[Slot<'_>]) -> bool
-    ensures { result ≡ is_some (complete_slots (map slot_view slots.now)) }
+    ensures { result ≡ is_some (decoded_slots (map slot_view slots.now)) }
 {
     for slot in slots {
         if slot.name.is_none() || slot.structure.is_none() {
@@ -24,7 +24,7 @@ pub(crate) fn are_slots_complete(slots: &[Slot<'_>]) -> bool
 /// Returns whether two addresses refer to the same pair. The two blocks of an address may be in
 /// either order.
 pub fn is_same_pair(a: [u32; 2], b: [u32; 2]) -> bool
-    ensures { result ≡ same_pair (address_view a) (address_view b) }
+    ensures { result ≡ same_pair (address_of_array a) (address_of_array b) }
 {
     a[0] == b[0] && a[1] == b[1] || a[0] == b[1] && a[1] == b[0]
 }
@@ -103,7 +103,7 @@ impl Pair {
         written: WrittenCommit,
         content: &Content<'_>,
     ) -> Pair
-        ensures { IsWrittenHeader (address_view blocks) active revision written.end written.last (content_view content.now) result }
+        ensures { IsWrittenHeader (address_of_array blocks) active revision written.end written.last (content_view content.now) result }
     {
         Pair {
             blocks,

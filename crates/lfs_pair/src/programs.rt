@@ -5,7 +5,7 @@ ghost use Rattle.lfs_device.specs.DeviceDisk.{disk_of_blocks};
 ghost use Rattle.lfs_device.specs.DeviceCalls.{ReadsOnly, ReportsOnlyIo};
 ghost use Rattle.lfs_model.specs.format.Blocks.{block_bytes, overwritten_at};
 ghost use Rattle.lfs_model.specs.session.History.{AllCallsSince, HoldsAtLosses, read_count};
-ghost use Rattle.lfs_model.specs.layers.Commit.{encoded_size, four_bytes_at, aligned_end};
+ghost use Rattle.lfs_model.specs.layers.Commit.{encoded_size, four_bytes_at, aligned_commit_end};
 ghost use Rattle.lfs_model.specs.crash.Stops.{ErasesCleanly, LeftByLoss};
 ghost use Rattle.lfs_model.specs.layers.WrittenContent.{content_entries};
 ghost use Rattle.lfs_tag.specs.ContentView.{content_view};
@@ -121,7 +121,7 @@ fn program_first_commit<D: BlockDevice>(
 
 // Erases a block and writes a content into it as the block's first commit. `buf` must be as long as
 // a block.
-pub(crate) fn write_block_anew<D: BlockDevice>(
+pub(crate) fn rewrite_block<D: BlockDevice>(
     dev: &mut D,
     block: u32,
     revision: u32,
@@ -130,7 +130,7 @@ pub(crate) fn write_block_anew<D: BlockDevice>(
 ) -> Result<WrittenCommit, Error>
     requires { CanWriteAnew (D.geometry dev.old) block (content_view content.now) (length buf.old) }
 
-    ensures size { IfOk result (λ written. written.end ≡ aligned_end (D.geometry dev.old).page (4 + encoded_size (content_entries (content_view content.now)))) }
+    ensures size { IfOk result (λ written. written.end ≡ aligned_commit_end (D.geometry dev.old).page (4 + encoded_size (content_entries (content_view content.now)))) }
     ensures written { IfOk result (λ written. EndsBeforeUnprogrammed (disk_of_blocks (D.geometry dev.new) (D.blocks dev.new)) (D.history dev.new) block written.end written.last) }
     ensures anew { OnOk result (IsWrittenAnew revision (content_view content.now) (block_bytes (D.blocks dev.new) block) (D.history dev.old) (D.history dev.new)) }
     ensures writes { WritesOnlyBlock D.BlockDevice 1 block dev.old dev.new result }

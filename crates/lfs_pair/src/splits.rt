@@ -4,7 +4,7 @@ ghost use Rattle.std.specs.Prelude.{◌≡◌, ◌+◌, IfErr, IfOk};
 ghost use Rattle.lfs_device.specs.DeviceDisk.{disk_of_blocks};
 ghost use Rattle.lfs_device.specs.DeviceCalls.{ReportsFaults};
 ghost use Rattle.lfs_model.specs.session.History.{AllCallsSince, HoldsAtLosses};
-ghost use Rattle.lfs_model.specs.format.Slots.{address_view};
+ghost use Rattle.lfs_model.specs.format.Slots.{address_of_array};
 ghost use Rattle.lfs_model.specs.crash.Stops.{ErasesCleanly, LeftByLoss};
 ghost use Rattle.lfs_tag.specs.ContentView.{content_view};
 ghost use Rattle.lfs_pair.specs.Pair.{header_address};
@@ -51,15 +51,15 @@ pub fn split<D: BlockDevice>(
     block: &[u8],
     changes: &[Change<'_>],
 ) -> Result<Pair, Error>
-    requires { CanSplitWithBlock (disk_of_blocks (D.geometry dev.old) (D.blocks dev.old)) (D.history dev.old) pair.old (address_view fresh) (changes_view changes.now) block.now }
+    requires { CanSplitWithBlock (disk_of_blocks (D.geometry dev.old) (D.blocks dev.old)) (D.history dev.old) pair.old (address_of_array fresh) (changes_view changes.now) block.now }
 
-    ensures splits { IfOk result (λ fresh_pair. SplitsPair (disk_of_blocks (D.geometry dev.old) (D.blocks dev.old)) (D.history dev.old) (changes_view changes.now) pair.old (address_view fresh)
+    ensures splits { IfOk result (λ fresh_pair. SplitsPair (disk_of_blocks (D.geometry dev.old) (D.blocks dev.old)) (D.history dev.old) (changes_view changes.now) pair.old (address_of_array fresh)
         (disk_of_blocks (D.geometry dev.new) (D.blocks dev.new)) (D.history dev.new) pair.new fresh_pair) }
     ensures error { IfErr result (λ e. CommitFails D.BlockDevice dev.old dev.new pair.old pair.new e) }
-    ensures device { ChangesReadingFew D.BlockDevice 3 (addresses_blocks (header_address pair.old) (address_view fresh)) dev.old dev.new }
+    ensures device { ChangesReadingFew D.BlockDevice 3 (addresses_blocks (header_address pair.old) (address_of_array fresh)) dev.old dev.new }
     ensures faults { ReportsFaults D.BlockDevice dev.old dev.new result }
     ensures stops { AllCallsSince ErasesCleanly (D.history dev.old) (D.history dev.new)
-        → HoldsAtLosses LeftByLoss (D.history dev.old) (D.history dev.new) (LossLeavesSplit (disk_of_blocks (D.geometry dev.old) (D.blocks dev.old)) (header_address pair.old) (address_view fresh) (changes_view changes.now)) }
+        → HoldsAtLosses LeftByLoss (D.history dev.old) (D.history dev.new) (LossLeavesSplit (disk_of_blocks (D.geometry dev.old) (D.blocks dev.old)) (header_address pair.old) (address_of_array fresh) (changes_view changes.now)) }
 {
     let geometry = dev.geometry();
     let mut front = changed_content(alloc, pair, block, changes)?;
@@ -78,7 +78,7 @@ fn split_off_back<'a>(
     geometry: Geometry,
 ) -> Result<Content<'a>, Error>
     requires { AreSplittable geometry.block_size geometry.page (content_view content.old).slots }
-    ensures parts { IfOk result (λ back. IsContentCut geometry.block_size geometry.page (content_view content.old) (address_view fresh) (content_view content.new) (content_view back)) }
+    ensures parts { IfOk result (λ back. IsContentCut geometry.block_size geometry.page (content_view content.old) (address_of_array fresh) (content_view content.new) (content_view back)) }
     ensures errors { IfErr result (λ e. e ≡ Error.NoMemory) }
 {
     let cut = middle_cut(&content.slots, geometry);

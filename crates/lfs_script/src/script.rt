@@ -63,8 +63,8 @@ impl<'a, R: Files + AllocGlobal> Script<'a, R> {
     }
 
     // Returns a new device with the script's settings for erases and blank bytes.
-    fn prepared(&self, device: RamDevice, erased: Erased) -> RamDevice {
-        let device = device.with_erased(erased);
+    fn device_with_options(&self, device: RamDevice, erased: Erased) -> RamDevice {
+        let device = device.with_erase_behavior(erased);
         if self.checks_blanks {
             device.with_blank_checks()
         } else {
@@ -73,7 +73,7 @@ impl<'a, R: Files + AllocGlobal> Script<'a, R> {
     }
 
     // Stores the new session, or the device that an error returns.
-    fn keep_start(&mut self, begun: Result<Session<Device>, (Device, Error)>) -> Answer {
+    fn store_mount_result(&mut self, begun: Result<Session<Device>, (Device, Error)>) -> Answer {
         match begun {
             Ok(session) => {
                 self.device = ScriptDevice::Session(session);
@@ -92,7 +92,7 @@ impl<'a, R: Files + AllocGlobal> Script<'a, R> {
             Err(error) => return Answer::Error(error),
         };
         let begun = mount(self.rt.alloc(), device);
-        self.keep_start(begun)
+        self.store_mount_result(begun)
     }
 
     fn format(&mut self, device: RamDevice, order: NameOrder, fault: PlannedFault) -> Answer {
@@ -101,7 +101,7 @@ impl<'a, R: Files + AllocGlobal> Script<'a, R> {
             Err(error) => return Answer::Error(error),
         };
         let begun = format_ordered(self.rt.alloc(), device, order);
-        self.keep_start(begun)
+        self.store_mount_result(begun)
     }
 
     // Ends the session, and moves its device out.
@@ -134,7 +134,7 @@ impl<'a, R: Files + AllocGlobal> Script<'a, R> {
         };
         match RamDevice::blank(self.rt.alloc(), geometry) {
             Ok(device) => {
-                let device = self.prepared(device, erased);
+                let device = self.device_with_options(device, erased);
                 self.format(device, order, NO_FAULT)
             }
             Err(error) => Answer::Error(error),
@@ -147,7 +147,7 @@ impl<'a, R: Files + AllocGlobal> Script<'a, R> {
         };
         match device_of_bytes(bytes, block_size, page, self.profile) {
             Ok(device) => {
-                let device = self.prepared(device, erased);
+                let device = self.device_with_options(device, erased);
                 self.mount(device, NO_FAULT)
             }
             Err(error) => Answer::Error(error),
@@ -175,7 +175,7 @@ impl<'a, R: Files + AllocGlobal> Script<'a, R> {
         };
         match RamDevice::from_bytes(geometry, bytes) {
             Ok(device) => {
-                let device = self.prepared(device, erased);
+                let device = self.device_with_options(device, erased);
                 self.device = ScriptDevice::Device(device_without_fault(device));
                 answer
             }

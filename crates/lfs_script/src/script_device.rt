@@ -30,7 +30,7 @@ pub fn plan_fault(alloc: Global, device: RamDevice, fault: PlannedFault) -> Resu
         FaultExtent::Nothing => device,
         FaultExtent::FirstBytes(count) => device.torn(count),
         FaultExtent::AllButFirst(count) => {
-            device.torn_erase(count, Vec::from_elem(alloc, 0u8, block_size)?)
+            device.with_torn_erase(count, Vec::from_elem(alloc, 0u8, block_size)?)
         }
         FaultExtent::Whole => device.whole(),
     };

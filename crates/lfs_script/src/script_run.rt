@@ -1,7 +1,7 @@
 // Scripts, which are read and performed line by line.
 
 use crate::script::Script;
-use lfs_script_lines::{LineError, LineObjection, push_answer, read_line};
+use lfs_script_lines::{LineError, LineRefusal, push_answer, read_line};
 use std::alloc::AllocError;
 use std::io::{BufRead, ErrorKind, Write};
 use std::rt::Files;
@@ -12,7 +12,7 @@ pub enum ScriptEnd {
     /// The script ended after its last line.
     Done,
     /// A line isn't a command. The values are the line's number, counted from 1, and the reason.
-    Line(u64, LineObjection),
+    Line(u64, LineRefusal),
     /// Memory couldn't be allocated.
     NoMemory,
     /// A line of the script couldn't be read.

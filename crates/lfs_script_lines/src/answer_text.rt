@@ -1,7 +1,7 @@
 // The lines that scripts print.
 
 use crate::answer::{Answer, SessionDifference};
-use crate::words::push_word;
+use crate::words::push_escaped_word;
 use lfs_device::Error;
 use lfs_fs::{Gstate, Item, Kind, Reply};
 use std::io;
@@ -19,7 +19,7 @@ fn push_listed_items(text: &mut Vec<u8>, items: &[Item]) -> io::Result<()> {
             Kind::File => write!(text, " f:{}:", item.size)?,
             Kind::Dir => write!(text, " d:0:")?,
         }
-        push_word(text, item.name.as_slice())?;
+        push_escaped_word(text, item.name.as_slice())?;
     }
     Ok(())
 }
@@ -41,7 +41,7 @@ fn push_reply(text: &mut Vec<u8>, reply: &Reply) -> io::Result<()> {
         Reply::Fd(fd) => write!(text, "fd {}", *fd),
         Reply::Bytes(bytes) => {
             write!(text, "bytes ")?;
-            push_word(text, bytes)?;
+            push_escaped_word(text, bytes)?;
             Ok(())
         }
         Reply::Count(count) => write!(text, "count {}", *count),
@@ -61,17 +61,17 @@ fn push_session_difference(text: &mut Vec<u8>, difference: &SessionDifference) -
     match difference {
         SessionDifference::Entry(path) => {
             write!(text, "differs entry ")?;
-            push_word(text, path)?;
+            push_escaped_word(text, path)?;
             Ok(())
         }
         SessionDifference::Bytes(path) => {
             write!(text, "differs bytes ")?;
-            push_word(text, path)?;
+            push_escaped_word(text, path)?;
             Ok(())
         }
         SessionDifference::Attribute(path, kind) => {
             write!(text, "differs attribute ")?;
-            push_word(text, path)?;
+            push_escaped_word(text, path)?;
             write!(text, " {:02x}", *kind)
         }
         SessionDifference::Gstate => write!(text, "differs gstate"),

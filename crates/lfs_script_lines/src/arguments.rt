@@ -3,8 +3,8 @@
 ghost use Rattle.std.specs.Prelude.{◌≤◌};
 
 use crate::lines::LineError;
-use crate::refusal::LineObjection;
-use crate::words::read_word;
+use crate::refusal::LineRefusal;
+use crate::words::unescape_word;
 use bitflags::Flags;
 use lfs_fs::OpenFlags;
 use std::alloc::Global;
@@ -34,15 +34,15 @@ pub(crate) fn read_number(word: &[u8], base: u32) -> Option<u32>
 
 // Returns the refusal of the word at an index, which isn't of the kind that the command needs
 // there.
-fn no_such_word(place: usize, kind: &'static str) -> LineError {
-    LineError::Refused(LineObjection::Word(place, kind))
+fn wrong_word_error(place: usize, kind: &'static str) -> LineError {
+    LineError::Refused(LineRefusal::Word(place, kind))
 }
 
 // Parses the word at an index as a decimal number.
 pub(crate) fn number_at(words: &[&[u8]], place: usize) -> Result<u32, LineError> {
     match read_number(word_at(words, place), 10) {
         Some(number) => Ok(number),
-        None => Err(no_such_word(place, "no decimal number up to 4294967295")),
+        None => Err(wrong_word_error(place, "no decimal number up to 4294967295")),
     }
 }
 
@@ -50,7 +50,7 @@ pub(crate) fn number_at(words: &[&[u8]], place: usize) -> Result<u32, LineError>
 pub(crate) fn flags_at(words: &[&[u8]], place: usize) -> Result<OpenFlags, LineError> {
     match read_number(word_at(words, place), 16) {
         Some(bits) => Ok(OpenFlags::from_bits_retain(bits)),
-        None => Err(no_such_word(place, "no hexadecimal number up to ffffffff")),
+        None => Err(wrong_word_error(place, "no hexadecimal number up to ffffffff")),
     }
 }
 
@@ -58,14 +58,14 @@ pub(crate) fn flags_at(words: &[&[u8]], place: usize) -> Result<OpenFlags, LineE
 pub(crate) fn byte_at(words: &[&[u8]], place: usize) -> Result<u8, LineError> {
     match read_number(word_at(words, place), 16) {
         Some(number) if number < 256 => Ok(number as u8),
-        _ => Err(no_such_word(place, "no hexadecimal number up to ff")),
+        _ => Err(wrong_word_error(place, "no hexadecimal number up to ff")),
     }
 }
 
 // Unescapes the word at an index.
 pub(crate) fn bytes_at(alloc: Global, words: &[&[u8]], place: usize) -> Result<Vec<u8>, LineError> {
-    match read_word(alloc, word_at(words, place))? {
+    match unescape_word(alloc, word_at(words, place))? {
         Some(bytes) => Ok(bytes),
-        None => Err(no_such_word(place, "not spelled as bytes are (--help says how)")),
+        None => Err(wrong_word_error(place, "not spelled as bytes are (--help says how)")),
     }
 }

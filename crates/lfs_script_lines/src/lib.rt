@@ -18,4 +18,4 @@ pub use answer::{Answer, DeviceCallCounts, SessionDifference};
 pub use answer_text::push_answer;
 pub use command::{Command, ComparisonScope, Operation};
 pub use lines::{LineError, read_line};
-pub use refusal::LineObjection;
+pub use refusal::LineRefusal;

@@ -7,14 +7,14 @@ use crate::operations::operation_of_words;
 use crate::options::{
     erased_at, fault_of_words, order_and_erased, profile_of_words, scope_of_words,
 };
-use crate::refusal::LineObjection;
+use crate::refusal::LineRefusal;
 use std::alloc::{AllocError, AllocFailed, Global};
 
 /// The reason why a line couldn't be parsed.
 #[derive(Clone, Copy)]
 pub enum LineError {
     /// The line isn't a command, for this reason.
-    Refused(LineObjection),
+    Refused(LineRefusal),
     /// Memory couldn't be allocated.
     NoMemory,
 }
@@ -113,20 +113,20 @@ fn command_of_words(
 // Parses the name of a line's command. Refuses two adjacent spaces, and too few or too many words.
 fn name_of_words(words: &[&[u8]]) -> Result<CommandName, LineError> {
     if words.iter().any(|word| word.is_empty()) {
-        return Err(LineError::Refused(LineObjection::Line("two spaces stand side by side")));
+        return Err(LineError::Refused(LineRefusal::Line("two spaces stand side by side")));
     }
     let Some(name) = command_of_word(word_at(words, 0)) else {
-        return Err(LineError::Refused(LineObjection::Line(
+        return Err(LineError::Refused(LineRefusal::Line(
             "no command has this name (--help lists them)",
         )));
     };
     let behind = words.len().saturating_sub(1);
     let (least, most) = name.argument_counts();
     if behind < least {
-        return Err(LineError::Refused(LineObjection::Words("too few", name.usage())));
+        return Err(LineError::Refused(LineRefusal::Words("too few", name.usage())));
     }
     if behind > most {
-        return Err(LineError::Refused(LineObjection::Words("too many", name.usage())));
+        return Err(LineError::Refused(LineRefusal::Words("too many", name.usage())));
     }
     Ok(name)
 }
@@ -140,7 +140,7 @@ fn without_trailing_byte(text: &[u8], end: u8) -> &[u8] {
 }
 
 // Returns the text without leading and trailing spaces.
-fn without_spaces_around(text: &[u8]) -> &[u8] {
+fn trim_spaces(text: &[u8]) -> &[u8] {
     let mut start = text.len();
     let mut end = 0;
     for (place, byte) in text.iter().enumerate() {
@@ -154,7 +154,7 @@ fn without_spaces_around(text: &[u8]) -> &[u8] {
 
 // Returns a line without its newline, a CR before the newline, and leading and trailing spaces.
 fn trimmed_line(line: &[u8]) -> &[u8] {
-    without_spaces_around(without_trailing_byte(without_trailing_byte(line, b'\n'), b'\r'))
+    trim_spaces(without_trailing_byte(without_trailing_byte(line, b'\n'), b'\r'))
 }
 
 /// Parses the command of a line. Returns None if the line is empty or begins with `#`.

@@ -7,7 +7,7 @@ use crate::names::CommandName;
 use std::alloc::Global;
 
 // Parses an operation on an open file, or on the whole session.
-fn any_operation(
+fn non_path_operation(
     alloc: Global,
     name: CommandName,
     words: &[&[u8]],
@@ -77,6 +77,6 @@ pub(crate) fn operation_of_words(
         | CommandName::Remove
         | CommandName::List
         | CommandName::Stat => path_operation(alloc, name, words),
-        _ => any_operation(alloc, name, words),
+        _ => non_path_operation(alloc, name, words),
     }
 }

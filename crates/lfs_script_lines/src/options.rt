@@ -3,12 +3,12 @@
 use crate::arguments::{byte_at, number_at, word_at};
 use crate::command::ComparisonScope;
 use crate::lines::LineError;
-use crate::refusal::LineObjection;
+use crate::refusal::LineRefusal;
 use lfs_device::{CountedCalls, Erased, FaultExtent, PlannedFault};
 use lfs_model::{AcceptedVersions, NameOrder, Profile};
 
-fn no_options(place: usize) -> LineError {
-    LineError::Refused(LineObjection::Options(place))
+fn unknown_options_error(place: usize) -> LineError {
+    LineError::Refused(LineRefusal::Options(place))
 }
 
 fn is_keyword(word: &[u8], keyword: &[u8]) -> bool {
@@ -36,7 +36,7 @@ pub(crate) fn erased_at(words: &[&[u8]], place: usize) -> Result<Erased, LineErr
             words,
             place.saturating_add(1),
         )?)),
-        _ => Err(no_options(place)),
+        _ => Err(unknown_options_error(place)),
     }
 }
 
@@ -60,7 +60,7 @@ pub(crate) fn order_and_erased(words: &[&[u8]]) -> Result<(NameOrder, Erased), L
 }
 
 // Parses what a failing call does to the device, starting at the word at an index.
-fn extent_at(words: &[&[u8]], place: usize) -> Result<FaultExtent, LineError> {
+fn fault_extent_at(words: &[&[u8]], place: usize) -> Result<FaultExtent, LineError> {
     let word = word_at(words, place);
     match words.len().saturating_sub(place) {
         0 => Ok(FaultExtent::Nothing),
@@ -73,7 +73,7 @@ fn extent_at(words: &[&[u8]], place: usize) -> Result<FaultExtent, LineError> {
             words,
             place.saturating_add(1),
         )?)),
-        _ => Err(no_options(place)),
+        _ => Err(unknown_options_error(place)),
     }
 }
 
@@ -93,13 +93,13 @@ fn kind_of_word(word: &[u8]) -> Option<CountedCalls> {
 }
 
 // Parses which device call fails, if at least two words follow the command's name.
-fn given_fault(words: &[&[u8]]) -> Result<PlannedFault, LineError> {
+fn parse_fault(words: &[&[u8]]) -> Result<PlannedFault, LineError> {
     let Some(which) = kind_of_word(word_at(words, 1)) else {
-        return Err(no_options(1));
+        return Err(unknown_options_error(1));
     };
     let nth = number_at(words, 2)?;
     let stops = is_keyword(word_at(words, 3), b"stop");
-    let extent = extent_at(words, if stops { 4 } else { 3 })?;
+    let extent = fault_extent_at(words, if stops { 4 } else { 3 })?;
     Ok(PlannedFault {
         which,
         nth: u64::from(nth),
@@ -119,13 +119,13 @@ pub(crate) fn fault_of_words(words: &[&[u8]]) -> Result<PlannedFault, LineError>
             extent: FaultExtent::Nothing,
             bad_block: None,
         }),
-        2 => Err(no_options(1)),
-        _ => given_fault(words),
+        2 => Err(unknown_options_error(1)),
+        _ => parse_fault(words),
     }
 }
 
 // Returns the profile with one changed limit. Returns None if `name` isn't the name of a limit.
-fn with_limit(profile: Profile, name: &[u8], number: u32) -> Option<Profile> {
+fn set_profile_limit(profile: Profile, name: &[u8], number: u32) -> Option<Profile> {
     let mut profile = profile;
     if is_keyword(name, b"name-max") {
         profile.name_max = number;
@@ -155,11 +155,11 @@ pub(crate) fn profile_of_words(words: &[&[u8]]) -> Result<Profile, LineError> {
             profile.versions = AcceptedVersions::AlsoTwoOne;
         } else {
             let behind = place.saturating_add(1);
-            if behind == words.len() || with_limit(profile, word, 0).is_none() {
-                return Err(no_options(place));
+            if behind == words.len() || set_profile_limit(profile, word, 0).is_none() {
+                return Err(unknown_options_error(place));
             }
             let number = number_at(words, behind)?;
-            profile = with_limit(profile, word, number).unwrap_or(profile);
+            profile = set_profile_limit(profile, word, number).unwrap_or(profile);
             is_number = true;
         }
     }

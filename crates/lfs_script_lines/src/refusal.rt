@@ -4,7 +4,7 @@ use std::fmt;
 
 /// The reason why a line isn't a command. Words are counted from 0, which is the command's name.
 #[derive(Clone, Copy)]
-pub enum LineObjection {
+pub enum LineRefusal {
     /// The line is refused for this reason.
     Line(&'static str),
     /// The line has too few or too many words, and this is the usage of the command.
@@ -15,15 +15,15 @@ pub enum LineObjection {
     Options(usize),
 }
 
-impl fmt::Display for LineObjection {
+impl fmt::Display for LineRefusal {
     fn fmt<W: fmt::Write>(&self, f: &mut fmt::Formatter<W>) -> fmt::Result {
         match self {
-            LineObjection::Line(fault) => write!(f, "{}", *fault),
-            LineObjection::Words(fault, usage) => write!(f, "{} words: {}", *fault, *usage),
-            LineObjection::Word(place, kind) => {
+            LineRefusal::Line(fault) => write!(f, "{}", *fault),
+            LineRefusal::Words(fault, usage) => write!(f, "{} words: {}", *fault, *usage),
+            LineRefusal::Word(place, kind) => {
                 write!(f, "word {} is {}", place.saturating_add(1), *kind)
             }
-            LineObjection::Options(place) => write!(
+            LineRefusal::Options(place) => write!(
                 f,
                 "from word {} on there are no options of the command",
                 place.saturating_add(1)

@@ -7,7 +7,7 @@ use std::alloc::{AllocError, Global};
 
 // The part of an escape sequence that has been read.
 #[derive(Clone, Copy)]
-enum EscapePart {
+enum EscapeState {
     Text,
     Backslash,
     Mark,
@@ -17,8 +17,8 @@ enum EscapePart {
 
 // The result of reading one more byte of a word.
 #[derive(Clone, Copy)]
-enum EscapeOutcome {
-    To(EscapePart),
+enum EscapeStep {
+    To(EscapeState),
     Byte(u8),
     Never,
 }
@@ -38,20 +38,20 @@ fn hex_value(digit: u8) -> Option<u8> {
 }
 
 // Returns the result of reading one more byte after a part of an escape sequence.
-fn next_escape_outcome(part: EscapePart, byte: u8) -> EscapeOutcome {
+fn next_escape_step(part: EscapeState, byte: u8) -> EscapeStep {
     match part {
-        EscapePart::Text if byte == b'\\' => EscapeOutcome::To(EscapePart::Backslash),
-        EscapePart::Text if is_unescaped_byte(byte) => EscapeOutcome::Byte(byte),
-        EscapePart::Backslash if byte == b'x' => EscapeOutcome::To(EscapePart::Mark),
-        EscapePart::Mark => match hex_value(byte) {
-            Some(high) => EscapeOutcome::To(EscapePart::Digit(high)),
-            None => EscapeOutcome::Never,
+        EscapeState::Text if byte == b'\\' => EscapeStep::To(EscapeState::Backslash),
+        EscapeState::Text if is_unescaped_byte(byte) => EscapeStep::Byte(byte),
+        EscapeState::Backslash if byte == b'x' => EscapeStep::To(EscapeState::Mark),
+        EscapeState::Mark => match hex_value(byte) {
+            Some(high) => EscapeStep::To(EscapeState::Digit(high)),
+            None => EscapeStep::Never,
         },
-        EscapePart::Digit(high) => match hex_value(byte) {
-            Some(low) => EscapeOutcome::Byte(high << 4 | low),
-            None => EscapeOutcome::Never,
+        EscapeState::Digit(high) => match hex_value(byte) {
+            Some(low) => EscapeStep::Byte(high << 4 | low),
+            None => EscapeStep::Never,
         },
-        _ => EscapeOutcome::Never,
+        _ => EscapeStep::Never,
     }
 }
 
@@ -59,25 +59,25 @@ fn next_escape_outcome(part: EscapePart, byte: u8) -> EscapeOutcome {
 // formed.
 fn read_escaped_text(alloc: Global, word: &[u8]) -> Result<Option<Vec<u8>>, AllocError> {
     let mut bytes = Vec::new(alloc);
-    let mut part = EscapePart::Text;
+    let mut part = EscapeState::Text;
     for byte in word {
-        match next_escape_outcome(part, *byte) {
-            EscapeOutcome::To(next) => part = next,
-            EscapeOutcome::Byte(value) => {
+        match next_escape_step(part, *byte) {
+            EscapeStep::To(next) => part = next,
+            EscapeStep::Byte(value) => {
                 bytes.push(value)?;
-                part = EscapePart::Text;
+                part = EscapeState::Text;
             }
-            EscapeOutcome::Never => return Ok(None),
+            EscapeStep::Never => return Ok(None),
         }
     }
     match part {
-        EscapePart::Text => Ok(Some(bytes)),
+        EscapeState::Text => Ok(Some(bytes)),
         _ => Ok(None),
     }
 }
 
 // Returns how often a word repeats its text, and the text. The number saturates.
-fn repetition(word: &[u8]) -> Option<(u64, &[u8])> {
+fn split_repeat_count(word: &[u8]) -> Option<(u64, &[u8])> {
     let mut count = 1u64;
     let mut rest = word;
     for _ in 0..word.len() {
@@ -96,8 +96,8 @@ fn repetition(word: &[u8]) -> Option<(u64, &[u8])> {
 /// In a word, `\xNN` stands for any byte, and each byte from 0x21 to 0x7e except `\` stands for
 /// itself. `\e` stands for the empty text, and `*COUNT:WORD` repeats the bytes of a word COUNT
 /// times.
-pub(crate) fn read_word(alloc: Global, word: &[u8]) -> Result<Option<Vec<u8>>, AllocError> {
-    let Some((count, rest)) = repetition(word) else {
+pub(crate) fn unescape_word(alloc: Global, word: &[u8]) -> Result<Option<Vec<u8>>, AllocError> {
+    let Some((count, rest)) = split_repeat_count(word) else {
         return Ok(None);
     };
     if rest == b"\\e".as_slice() {
@@ -119,8 +119,8 @@ fn hex_digit(value: u8) -> u8
     }
 }
 
-/// Appends the word that `read_word` unescapes to the given bytes.
-pub(crate) fn push_word(text: &mut Vec<u8>, bytes: &[u8]) -> Result<(), AllocError> {
+/// Appends the word that `unescape_word` unescapes to the given bytes.
+pub(crate) fn push_escaped_word(text: &mut Vec<u8>, bytes: &[u8]) -> Result<(), AllocError> {
     if bytes.is_empty() {
         text.extend_from_slice(b"\\e")?;
     }

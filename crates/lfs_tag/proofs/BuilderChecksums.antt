@@ -1,7 +1,7 @@
 -- The checksum entry of a commit's pages in a block.
 use Rattle.std.proofs.Common.{◌≡◌, ℕ, zero, suc, ◌+◌, ◌*◌, ◌/◌, ◌%◌, ◌^◌, ◌<◌, ◌≤◌, Bool, true, false, cond, ltb, leb, ◌||◌, ◌⊎◌, inl, inr, List, length, take, drop, get_or, bit_xor, Option, Some, None, IfSome, refl, sym, ap, ◌∙◌, arith}
 use Rattle.std.specs.Int.Bits.{xor_zero_l}
-use Rattle.lfs_tag.proofs.Common.{nat_tests, xor_shr, IsValidTag, tag_type, tag_length, tag_class, tag_chunk, tag_data_size, tag_before_next, make_tag, LogEntry, tag_at, is_page, no_id, four_bytes_at, checksum_type, PartialCommit, checksum_start, padded_commit_end}
+use Rattle.lfs_tag.proofs.Common.{nat_tests, xor_shr, IsValidTag, tag_type, tag_length, tag_class, tag_chunk, tag_data_size, tag_for_next_xor, make_tag, LogEntry, tag_at, is_valid_page_size, no_id, four_bytes_at, checksum_type, PartialCommit, checksum_start, padded_commit_end}
 use Rattle.byteorder.specs.Endian.{big_number}
 use Rattle.byteorder.specs.Numbers.{big_from-take}
 use Rattle.lfs_model.specs.format.Log.{entry_at}
@@ -9,7 +9,7 @@ use Rattle.lfs_tag.proofs.BuilderCommits.{IsChecksumKind, class_of_kind, not_for
 
 -- ---- the checksum's tag
 
-page_bounds : (n : ℕ) → is_page n ≡ true → (8 ≤ n) × (n ≤ 512)
+page_bounds : (n : ℕ) → is_valid_page_size n ≡ true → (8 ≤ n) × (n ≤ 512)
 page_bounds n h = (grind (arith, nat_tests, h), grind (arith, nat_tests, h))
 
 -- its length, and the padding
@@ -17,7 +17,7 @@ pub record Padded (b : PartialCommit) : Type 0 where
   pub low : checksum_start b + 8 ≤ padded_commit_end b
   pub high : padded_commit_end b < checksum_start b + 8 + 512
 
-pub padded : (b : PartialCommit) → is_page b.page ≡ true → Padded b
+pub padded : (b : PartialCommit) → is_valid_page_size b.page ≡ true → Padded b
 padded b h =
     let bounds = page_bounds b.page h in
     record { low = omega arith; high = omega (arith, bounds.0, bounds.1) }
@@ -75,7 +75,7 @@ turns : (bytes : List ℕ) → AreBytes bytes → big_number 4 bytes / 2 ^ 31 + 
 turns bytes h = grind (arith, nat_tests, top_byte bytes h, h 0)
 
 -- what a checksum's tag carries: the lowest bit of its kind is in the top bit
-carried_is : (kind size : ℕ) → IsKind kind → size < 2 ^ 10 → tag_before_next (make_tag kind no_id size) ≡ bit_xor (make_tag kind no_id size) (kind % 2 * 2 ^ 31)
+carried_is : (kind size : ℕ) → IsKind kind → size < 2 ^ 10 → tag_for_next_xor (make_tag kind no_id size) ≡ bit_xor (make_tag kind no_id size) (kind % 2 * 2 ^ 31)
 carried_is kind size k small =
     let is = kind_is kind size k small in
     let class : tag_class (make_tag kind no_id size) ≡ 5 = class_of_kind (make_tag kind no_id size) (kind_of_cases kind (make_tag kind no_id size) k is) in
@@ -84,7 +84,7 @@ carried_is kind size k small =
     rw (class, plain, bit) refl
 
 pub nothing_follows : (block : List ℕ) (end size : ℕ) (next : Option (List ℕ)) → IfSome next AreBytes → size < 2 ^ 10 → four_bytes_at block end ≡ next
-    → entry_at block end (tag_before_next (make_tag (checksum_type next) no_id size)) ≡ None
+    → entry_at block end (tag_for_next_xor (make_tag (checksum_type next) no_id size)) ≡ None
 unfolding entry_at
 nothing_follows block end size None are small is =
     let short : ltb (length block) (end + 4) ≡ true = reported (ltb (length block) (end + 4)) is in
@@ -97,11 +97,11 @@ nothing_follows block end size (Some bytes) are small is =
     let tag = make_tag (checksum_type (Some bytes)) no_id size in
     let held : take 4 (drop end block) ≡ bytes = reported (ltb (length block) (end + 4)) is in
     let number : big_number 4 (drop end block) ≡ big_number 4 bytes = sym (big_from-take 0 4 4 (drop end block) (omega arith)) ∙ ap (big_number 4) held in
-    let high : tag_at block end (tag_before_next tag) / 2 ^ 31 ≡ 1 =
+    let high : tag_at block end (tag_for_next_xor tag) / 2 ^ 31 ≡ 1 =
     rw (number, carried_is (checksum_type (Some bytes)) size (kind_cases (Some bytes)) small)
     (top_of tag (big_number 4 bytes) (checksum_type (Some bytes) % 2) (valid_is (checksum_type (Some bytes)) size (kind_cases (Some bytes)) small) (turns bytes are)) in
-    let invalid : leb (2 ^ 31) (tag_at block end (tag_before_next tag)) ≡ true = grind (arith, nat_tests, high) in
-    rw invalid (either (ltb (length block) (end + 4)) (ltb (length block) (end + 4 + tag_data_size (tag_at block end (tag_before_next tag)))) _)
+    let invalid : leb (2 ^ 31) (tag_at block end (tag_for_next_xor tag)) ≡ true = grind (arith, nat_tests, high) in
+    rw invalid (either (ltb (length block) (end + 4)) (ltb (length block) (end + 4 + tag_data_size (tag_at block end (tag_for_next_xor tag)))) _)
   where
     reported : (t : Bool) → cond t None (Some (take 4 (drop end block))) ≡ Some bytes → take 4 (drop end block) ≡ bytes
     reported true h = absurd (cc)

@@ -1,6 +1,6 @@
 -- The bytes of a commit are read back as that commit.
 use Rattle.std.proofs.Common.{◌≡◌, subst, ℕ, ◌+◌, ◌-◌, ◌/◌, ◌^◌, ◌<◌, ◌≤◌, true, false, eqb, leb, ◌||◌, ◌⊎◌, inl, inr, List, [], ◌∷◌, ◌++◌, length, take, drop, slice_range, bit_xor, Some, refl, sym, ap, eq-eqb, ◌∙◌, arith, add-zero, append_assoc, length-append}
-use Rattle.lfs_tag.proofs.Common.{xor_assoc, xor_zero_r, nat_tests, drop-drop, length-drop, sum_by-cons, take-append_seam, drop-append_seam, IsValidTag, tag_type, tag_length, tag_class, tag_data_size, tag_before_next, LogEntry, entry_end, is_checksum_entry, IsCommit, encoded_entries, encoded_size, carried_tag, AreStorableEntries}
+use Rattle.lfs_tag.proofs.Common.{xor_assoc, xor_zero_r, nat_tests, drop-drop, length-drop, sum_by-cons, take-append_seam, drop-append_seam, IsValidTag, tag_type, tag_length, tag_class, tag_data_size, tag_for_next_xor, LogEntry, entry_end, is_checksum_entry, IsCommit, encoded_entries, encoded_size, carried_tag, AreStorableEntries}
 use Rattle.std.specs.Int.Bits.{xor_self}
 use Rattle.byteorder.specs.Endian.{big_number, big_bytes, little_number, little_bytes}
 use Rattle.byteorder.specs.Numbers.{big_number-reads_back, little_number-reads_back}
@@ -40,14 +40,14 @@ pub entries_read : (block rest : List ℕ) (start at before : ℕ) (es : List Lo
 entries_read block rest start at before [] ck end last all here base = rw add-zero at base
 entries_read block rest start at before (e ∷ es) ck end last all here base =
     let tag = big_bytes 4 (bit_xor e.tag before) in
-    let later = encoded_entries (tag_before_next e.tag) es in
+    let later = encoded_entries (tag_for_next_xor e.tag) es in
     let more = later ++ rest in
     let here' : drop at block ≡ tag ++ (e.bytes ++ more) = here ∙ append_assoc (tag ++ e.bytes) later rest ∙ append_assoc tag e.bytes more in
     let read = entry_read block more at before e all.0.valid all.0.size all.0.fits here' in
     let behind : drop (entry_end at e) block ≡ more =
     sym (drop-drop (length e.bytes) (at + 4) block) ∙ ap (drop (length e.bytes)) (sym (drop-drop 4 at block) ∙ ap (drop 4) here') ∙ drop-append_seam e.bytes more in
     let place : at + encoded_size (e ∷ es) ≡ entry_end at e + encoded_size es = omega (arith, sum_by-cons (λ (e : LogEntry). 4 + length e.bytes) e es) in
-    let ends = entries_read block rest start (entry_end at e) (tag_before_next e.tag) es ck end last all.1 behind (rw place at base) in
+    let ends = entries_read block rest start (entry_end at e) (tag_for_next_xor e.tag) es ck end last all.1 behind (rw place at base) in
     commit_cons block start at before e (es ++ ck ∷ []) end last read all.0.other
     (subst (λ (n : ℕ). IsCommit block start (entry_end at e) n (es ++ ck ∷ []) end last) (carried_other e all.0.other) ends)
 
@@ -73,7 +73,7 @@ kind_passes tag (inr h) = rw h refl
 pub closing : (block front rest pad : List ℕ) (start at tag before sum : ℕ) → IsChecksumKind tag → IsValidTag tag → bit_xor tag before < 2 ^ 32 → sum < 2 ^ 32
     → 4 + length pad ≡ tag_length tag → tag_length tag ≤ 1022 → at ≡ start + length front → sum ≡ crc_of 0xffffffff (front ++ big_bytes 4 (bit_xor tag before))
     → drop start block ≡ front ++ (big_bytes 4 (bit_xor tag before) ++ ((little_bytes 4 sum ++ pad) ++ rest))
-    → IsCommit block start at before (record { tag = tag; bytes = little_bytes 4 sum ++ pad } ∷ []) (at + 4 + tag_length tag) (tag_before_next tag)
+    → IsCommit block start at before (record { tag = tag; bytes = little_bytes 4 sum ++ pad } ∷ []) (at + 4 + tag_length tag) (tag_for_next_xor tag)
 unfolding closes
 closing block front rest pad start at tag before sum kind valid fits small size most place covers here =
     let e : LogEntry = record { tag = tag; bytes = little_bytes 4 sum ++ pad } in

@@ -1,35 +1,35 @@
 -- One more entry in a commit.
 use Rattle.std.proofs.Common.{◌≡◌, false, ℕ, ◌+◌, ◌-◌, ◌≤◌, ◌^◌, List, [], ◌∷◌, ◌++◌, length, take, min, bit_xor, Option, Some, None, refl, sym, ap, ◌∙◌, arith, append_assoc, length-append}
-use Rattle.lfs_tag.proofs.Common.{append-nil, sum_by-cons, overwritten_at, tag_before_next, LogEntry, is_checksum_entry, encoded_entries, encoded_size, PartialCommit, commit_adding_entry, entries_start, checksum_start, carried_tag, revision_bytes, checksummed_bytes, IsStorableEntry, AreStorableEntries, BuildsCommit}
+use Rattle.lfs_tag.proofs.Common.{append-nil, sum_by-cons, overwritten_at, tag_for_next_xor, LogEntry, is_checksum_entry, encoded_entries, encoded_size, PartialCommit, commit_adding_entry, entries_start, checksum_start, carried_tag, revision_bytes, checksummed_bytes, IsStorableEntry, AreStorableEntries, BuildsCommit}
 use Rattle.std.proofs.lemmas.List.Sums.{sum_by_push}
 use Rattle.byteorder.specs.Endian.{big_bytes}
 use Rattle.lfs_tag.proofs.BuilderWrites.{take-overwritten}
 
 -- what isn't a checksum carries its tag
-pub carried_other : (e : LogEntry) → is_checksum_entry e ≡ false → tag_before_next e.tag ≡ e.tag
+pub carried_other : (e : LogEntry) → is_checksum_entry e ≡ false → tag_for_next_xor e.tag ≡ e.tag
 carried_other e other = rw other refl
 
 stored-push : (before : ℕ) (es : List LogEntry) (e : LogEntry) → encoded_entries before (es ++ e ∷ []) ≡ encoded_entries before es ++ (big_bytes 4 (bit_xor e.tag (carried_tag before es)) ++ e.bytes)
 stored-push before [] e = append-nil (big_bytes 4 (bit_xor e.tag before) ++ e.bytes)
 stored-push before (d ∷ es) e =
     let first = big_bytes 4 (bit_xor d.tag before) ++ d.bytes in
-    ap (λ (l : List ℕ). first ++ l) (stored-push (tag_before_next d.tag) es e)
-    ∙ sym (append_assoc first (encoded_entries (tag_before_next d.tag) es) (big_bytes 4 (bit_xor e.tag (carried_tag (tag_before_next d.tag) es)) ++ e.bytes))
+    ap (λ (l : List ℕ). first ++ l) (stored-push (tag_for_next_xor d.tag) es e)
+    ∙ sym (append_assoc first (encoded_entries (tag_for_next_xor d.tag) es) (big_bytes 4 (bit_xor e.tag (carried_tag (tag_for_next_xor d.tag) es)) ++ e.bytes))
 
-carried_tag-push : (before : ℕ) (es : List LogEntry) (e : LogEntry) → carried_tag before (es ++ e ∷ []) ≡ tag_before_next e.tag
+carried_tag-push : (before : ℕ) (es : List LogEntry) (e : LogEntry) → carried_tag before (es ++ e ∷ []) ≡ tag_for_next_xor e.tag
 carried_tag-push before [] e = refl
-carried_tag-push before (d ∷ es) e = carried_tag-push (tag_before_next d.tag) es e
+carried_tag-push before (d ∷ es) e = carried_tag-push (tag_for_next_xor d.tag) es e
 
 AreStorableEntries-push : (before : ℕ) (es : List LogEntry) (e : LogEntry) → AreStorableEntries before es → IsStorableEntry (carried_tag before es) e → AreStorableEntries before (es ++ e ∷ [])
 AreStorableEntries-push before [] e all one = (one, tt)
-AreStorableEntries-push before (d ∷ es) e all one = (all.0, AreStorableEntries-push (tag_before_next d.tag) es e all.1 one)
+AreStorableEntries-push before (d ∷ es) e all one = (all.0, AreStorableEntries-push (tag_for_next_xor d.tag) es e all.1 one)
 
 encoded_size-push : (es : List LogEntry) (e : LogEntry) → encoded_size (es ++ e ∷ []) ≡ encoded_size es + (4 + length e.bytes)
 encoded_size-push es e = sum_by_push (λ (e : LogEntry). 4 + length e.bytes) es e
 
 pub length-stored : (before : ℕ) (es : List LogEntry) → length (encoded_entries before es) ≡ encoded_size es
 length-stored before [] = refl
-length-stored before (e ∷ es) = omega (arith, length-append e.bytes (encoded_entries (tag_before_next e.tag) es), length-stored (tag_before_next e.tag) es, sum_by-cons (λ (e : LogEntry). 4 + length e.bytes) e es)
+length-stored before (e ∷ es) = omega (arith, length-append e.bytes (encoded_entries (tag_for_next_xor e.tag) es), length-stored (tag_for_next_xor e.tag) es, sum_by-cons (λ (e : LogEntry). 4 + length e.bytes) e es)
 
 pub length-checksummed_bytes : (b : PartialCommit) → length (checksummed_bytes b) ≡ checksum_start b
 length-checksummed_bytes b = by_revision b.revision

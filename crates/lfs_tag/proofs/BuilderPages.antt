@@ -1,6 +1,6 @@
 -- A commit's pages, programmed into a block.
 use Rattle.std.proofs.Common.{◌≡◌, ℕ, ◌+◌, ◌-◌, ◌^◌, ◌<◌, ◌≤◌, true, false, ltb, List, [], ◌∷◌, ◌++◌, length, take, drop, bit_xor, Option, Some, None, IfSome, unwrap_or, refl, sym, ap, subst, ◌∙◌, arith, append_assoc, length-append, replicate}
-use Rattle.lfs_tag.proofs.Common.{le-ltb, drop-drop, length-take-le, length-replicate, drop-append_seam, tag_before_next, tag_length, LogEntry, with_commit, IsCommit, commit_at, block_entries, is_page, overwritten_at, encoded_entries, encoded_size, four_bytes_at, checksum_type, PartialCommit, entries_start, checksum_start, padded_commit_end, checksum_tag, carried_tag, revision_bytes, checksummed_bytes, AreStorableEntries, commit_none, commit_complete, chain_on, chain_none}
+use Rattle.lfs_tag.proofs.Common.{le-ltb, drop-drop, length-take-le, length-replicate, drop-append_seam, tag_for_next_xor, tag_length, LogEntry, with_commit, IsCommit, commit_at, block_entries, is_valid_page_size, overwritten_at, encoded_entries, encoded_size, four_bytes_at, checksum_type, PartialCommit, entries_start, checksum_start, padded_commit_end, checksum_tag, carried_tag, revision_bytes, checksummed_bytes, AreStorableEntries, commit_none, commit_complete, chain_on, chain_none}
 use Rattle.std.proofs.lemmas.List.{take-append-drop}
 use Rattle.byteorder.specs.Endian.{big_bytes, little_number, little_bytes}
 use Rattle.byteorder.specs.Numbers.{little_from-take, little_from-append, little_number-reads_back}
@@ -16,7 +16,7 @@ use Rattle.lfs_tag.proofs.BuilderChecksums.{AreBytes, padded, kind_cases, kind_i
 
 -- what the pages of a commit are
 pub record ArePages (b : PartialCommit) (next : Option (List ℕ)) (pages : List ℕ) (last sum : ℕ) : Type 0 where
-  pub power : is_page b.page ≡ true
+  pub power : is_valid_page_size b.page ≡ true
   pub last_is : last ≡ carried_tag b.previous b.entries
   pub revision : IfSome b.revision (λ r. r < 2 ^ 32)
   pub entries : AreStorableEntries b.previous b.entries
@@ -79,7 +79,7 @@ module _ (b : PartialCommit) (next : Option (List ℕ)) (pages : List ℕ) (last
       let at : checksum_start b + 8 ≡ length front = omega (arith, length-checksummed_bytes b, length-append (checksummed_bytes b) (tag_bytes ++ little_bytes 4 sum)) in
       ap (drop (checksum_start b + 8)) joined ∙ ap (λ (n : ℕ). drop n (front ++ pad)) at ∙ drop-append_seam front pad
 
-  commit_here : (new rest : List ℕ) (start : ℕ) → drop start new ≡ pages ++ rest → IsCommit new start (start + entries_start b.revision) b.previous (b.entries ++ ck ∷ []) (start + length pages) (tag_before_next tag)
+  commit_here : (new rest : List ℕ) (start : ℕ) → drop start new ≡ pages ++ rest → IsCommit new start (start + entries_start b.revision) b.previous (b.entries ++ ck ∷ []) (start + length pages) (tag_for_next_xor tag)
   commit_here new rest start here =
       let head = revision_bytes b.revision in
       let es = encoded_entries b.previous b.entries in
@@ -96,12 +96,12 @@ module _ (b : PartialCommit) (next : Option (List ℕ)) (pages : List ℕ) (last
       let closed = closing new (checksummed_bytes b) rest pad start at tag last sum kind (valid_is (checksum_type next) size (kind_cases next) size_small) h.fits h.small
       (omega (arith, tag_len, pad_len, p.low)) (omega (arith, tag_len, p.low, p.high)) (omega (arith, length-checksummed_bytes b)) h.sum_is whole in
       let end : at + 4 + tag_length tag ≡ start + length pages = omega (arith, tag_len, p.low, length-pages) in
-      let base : IsCommit new start at (carried_tag b.previous b.entries) (ck ∷ []) (start + length pages) (tag_before_next tag) =
-      subst (λ (n : ℕ). IsCommit new start at n (ck ∷ []) (start + length pages) (tag_before_next tag)) h.last_is (subst (λ (n : ℕ). IsCommit new start at last (ck ∷ []) n (tag_before_next tag)) end closed) in
-      entries_read new (tag_bytes ++ (filled ++ rest)) start first b.previous b.entries ck (start + length pages) (tag_before_next tag) h.entries behind base
+      let base : IsCommit new start at (carried_tag b.previous b.entries) (ck ∷ []) (start + length pages) (tag_for_next_xor tag) =
+      subst (λ (n : ℕ). IsCommit new start at n (ck ∷ []) (start + length pages) (tag_for_next_xor tag)) h.last_is (subst (λ (n : ℕ). IsCommit new start at last (ck ∷ []) n (tag_for_next_xor tag)) end closed) in
+      entries_read new (tag_bytes ++ (filled ++ rest)) start first b.previous b.entries ck (start + length pages) (tag_for_next_xor tag) h.entries behind base
 
-  none_here : (new : List ℕ) (end : ℕ) → four_bytes_at new end ≡ next → commit_at new end end (tag_before_next tag) ≡ None
-  none_here new end is = commit_none new end end (tag_before_next tag) (nothing_follows new end size next h.bytes size_small is)
+  none_here : (new : List ℕ) (end : ℕ) → four_bytes_at new end ≡ next → commit_at new end end (tag_for_next_xor tag) ≡ None
+  none_here new end is = commit_none new end end (tag_for_next_xor tag) (nothing_follows new end size next h.bytes size_small is)
 
 -- ---- in a block
 
@@ -156,24 +156,24 @@ module _ (b : PartialCommit) (next : Option (List ℕ)) (pages : List ℕ) (last
       rw (same_len, behind) refl
 
   log_of : (r : Option ℕ) → entries_start b.revision ≡ entries_start r → IsCommitOffset r b.previous block at → four_bytes_at block (at + length pages) ≡ next
-      → chain_of new ≡ record { commits = earlier_commits r block ++ (b.entries ++ ck b next pages last sum h ∷ []) ∷ []; end = at + length pages; last = tag_before_next (checksum_tag b next) }
+      → chain_of new ≡ record { commits = earlier_commits r block ++ (b.entries ++ ck b next pages last sum h ∷ []) ∷ []; end = at + length pages; last = tag_for_next_xor (checksum_tag b next) }
   log_of None starts goes nexts =
       let es = b.entries ++ ck b next pages last sum h ∷ [] in
-      let commit : IsCommit new at at b.previous es (at + length pages) (tag_before_next (checksum_tag b next)) =
-      subst (λ (n : ℕ). IsCommit new at n b.previous es (at + length pages) (tag_before_next (checksum_tag b next)))
+      let commit : IsCommit new at at b.previous es (at + length pages) (tag_for_next_xor (checksum_tag b next)) =
+      subst (λ (n : ℕ). IsCommit new at n b.previous es (at + length pages) (tag_for_next_xor (checksum_tag b next)))
       (let place : at + entries_start b.revision ≡ at = omega (arith, starts) in place) (commit_here b next pages last sum h new rest at here) in
       let none = none_here b next pages last sum h new (at + length pages) (same_next ∙ nexts) in
-      let r = behind_chain block pages rest at b.previous es (at + length pages) (tag_before_next (checksum_tag b next)) (omega arith) goes.0 goes.1 goes.2 (rw joined at commit) (rw joined at none) in
+      let r = behind_chain block pages rest at b.previous es (at + length pages) (tag_for_next_xor (checksum_tag b next)) (omega arith) goes.0 goes.1 goes.2 (rw joined at commit) (rw joined at none) in
       ap chain_of joined ∙ r
   log_of (Some revision) starts goes nexts =
       let es = b.entries ++ ck b next pages last sum h ∷ [] in
-      let commit : IsCommit new 0 4 0xffffffff es (at + length pages) (tag_before_next (checksum_tag b next)) =
-      subst (λ (n : ℕ). IsCommit new n 4 0xffffffff es (at + length pages) (tag_before_next (checksum_tag b next))) goes.0
-      (subst (λ (n : ℕ). IsCommit new at 4 n es (at + length pages) (tag_before_next (checksum_tag b next))) goes.1
-      (subst (λ (n : ℕ). IsCommit new at n b.previous es (at + length pages) (tag_before_next (checksum_tag b next)))
+      let commit : IsCommit new 0 4 0xffffffff es (at + length pages) (tag_for_next_xor (checksum_tag b next)) =
+      subst (λ (n : ℕ). IsCommit new n 4 0xffffffff es (at + length pages) (tag_for_next_xor (checksum_tag b next))) goes.0
+      (subst (λ (n : ℕ). IsCommit new at 4 n es (at + length pages) (tag_for_next_xor (checksum_tag b next))) goes.1
+      (subst (λ (n : ℕ). IsCommit new at n b.previous es (at + length pages) (tag_for_next_xor (checksum_tag b next)))
       (let place : at + entries_start b.revision ≡ 4 = omega (arith, starts, goes.0) in place) (commit_here b next pages last sum h new rest at here))) in
       let none = none_here b next pages last sum h new (at + length pages) (same_next ∙ nexts) in
-      at_beginning new es (at + length pages) (tag_before_next (checksum_tag b next)) commit none
+      at_beginning new es (at + length pages) (tag_for_next_xor (checksum_tag b next)) commit none
 
   revision_is : (r : Option ℕ) → b.revision ≡ r → IsCommitOffset r b.previous block at → block_revision new ≡ unwrap_or r (block_revision block)
   revision_is None is goes =
@@ -201,7 +201,7 @@ committed b next pages last sum h =
     let kind = checksum_type next in
     record {
       log = λ block at goes within nexts.
-          subst (λ (e : LogEntry). chain_of (overwritten_at block at pages) ≡ record { commits = earlier_commits b.revision block ++ (b.entries ++ e ∷ []) ∷ []; end = at + length pages; last = tag_before_next (checksum_tag b next) })
+          subst (λ (e : LogEntry). chain_of (overwritten_at block at pages) ≡ record { commits = earlier_commits b.revision block ++ (b.entries ++ e ∷ []) ∷ []; end = at + length pages; last = tag_for_next_xor (checksum_tag b next) })
           (named b next pages last sum h) (log_of b next pages last sum h block at within b.revision refl goes nexts);
       revision = λ block at goes within. revision_is b next pages last sum h block at within b.revision refl goes;
       class = class_of_kind (checksum_tag b next) (kind_of_cases kind (checksum_tag b next) (kind_cases next) (kind_is kind size (kind_cases next) (size_small b next pages last sum h)));

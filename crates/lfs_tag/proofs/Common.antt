@@ -2,16 +2,16 @@
 pub use Rattle.lfs_model.proofs.Chains.{chain_none, chain_on, chain_sound, commit_complete, commit_none, commit_space, lies, stop}
 pub use Rattle.lfs_model.proofs.Checksums.{AreBytes, crc-append}
 pub use Rattle.lfs_model.specs.format.Blocks.{overwritten_at}
-pub use Rattle.lfs_model.specs.format.Content.{RawContent, RawSlot, attribute_bytes, attributes_after, attributes_with, attributes_without, slot_changed_at, content_after, content_after_entry, empty_raw_content, empty_slot, has_commit, padded_slots, slot_of_id, slots_after, entry_part}
+pub use Rattle.lfs_model.specs.format.Content.{RawContent, RawSlot, attribute_bytes, attributes_after, attributes_with, attributes_without, slot_changed_at, content_after, content_after_entry, empty_raw_content, empty_slot, has_commit, padded_slots, slot_of_id, slots_after, entry_type_bytes}
 pub use Rattle.lfs_model.specs.format.Crc.{crc_after_bit}
 pub use Rattle.lfs_model.specs.format.EntryTypes.{create_tag_type, delete_tag_type, has_needed_id, is_attribute_removal, is_known_tag, no_id}
-pub use Rattle.lfs_model.specs.format.Geometry.{is_page}
-pub use Rattle.lfs_model.specs.format.Log.{AreAdjacent, IsCommit, LogEntry, block_entries, commit_at, entry_end, is_checksum_entry, longest_sequence, tag_at, with_commit}
+pub use Rattle.lfs_model.specs.format.Geometry.{is_valid_page_size}
+pub use Rattle.lfs_model.specs.format.Log.{AreAdjacentCommits, IsCommit, LogEntry, block_entries, commit_at, entry_end, is_checksum_entry, longest_sequence, tag_at, with_commit}
 pub use Rattle.lfs_model.specs.format.Names.{Name, is_equal}
 pub use Rattle.lfs_model.specs.format.Slots.{Attributes}
-pub use Rattle.lfs_model.specs.format.Tag.{IsValidTag, tag_class, make_tag, tag_before_next, tag_chunk, tag_data_size, tag_id, tag_length, tag_type}
+pub use Rattle.lfs_model.specs.format.Tag.{IsValidTag, tag_class, make_tag, tag_for_next_xor, tag_chunk, tag_data_size, tag_id, tag_length, tag_type}
 pub use Rattle.lfs_model.specs.layers.Commit.{checksum_type, encoded_entries, encoded_size, four_bytes_at}
-pub use Rattle.lfs_model.specs.layers.Lookup.{part_bytes}
+pub use Rattle.lfs_model.specs.layers.Lookup.{bytes_if_type}
 pub use Rattle.lfs_tag.specs.Builder.{PartialCommit, checksum_start, checksum_tag, commit_adding_entry, entries_start, padded_commit_end}
 pub use Rattle.lfs_tag.specs.BuilderKeeps.{AreStorableEntries, BuildsCommit, IsStorableEntry, carried_tag, checksummed_bytes, revision_bytes}
 pub use Rattle.lfs_tag.specs.ContentView.{attribute_view, part_view, index_for_attribute, slot_view}

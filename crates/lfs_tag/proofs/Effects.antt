@@ -1,16 +1,16 @@
 -- The effect of one entry on the slots, by its kind.
 use Rattle.std.proofs.Common.{◌≡◌, ◌≢◌, ℕ, ◌<◌, ◌≤◌, Bool, true, false, ◌&&◌, not, cond, eqb, ltb, leb, is_some, List, length, insert, remove, Option, Some, None, refl, sym, ap, ◌∙◌, arith, inl, inr, ◌⊎◌}
-use Rattle.lfs_tag.proofs.Common.{option_map, cases_lt, eqb-true, nat_tests, same_Some, get_or_past, tag_type, tag_id, tag_class, LogEntry, RawSlot, RawContent, empty_slot, slot_of_id, slot_changed_at, padded_slots, entry_part, attributes_after, slots_after, content_after_entry, is_known_tag, has_needed_id, is_attribute_removal, create_tag_type, delete_tag_type}
+use Rattle.lfs_tag.proofs.Common.{option_map, cases_lt, eqb-true, nat_tests, same_Some, get_or_past, tag_type, tag_id, tag_class, LogEntry, RawSlot, RawContent, empty_slot, slot_of_id, slot_changed_at, padded_slots, entry_type_bytes, attributes_after, slots_after, content_after_entry, is_known_tag, has_needed_id, is_attribute_removal, create_tag_type, delete_tag_type}
 use Rattle.std.proofs.lemmas.Bool.{ltb-true, leb-true}
 use Rattle.std.proofs.lemmas.Option.{cond_some}
 
 -- the slots before an entry and after it
 pub data Effect (s t : List RawSlot) (e : LogEntry) : Type 0 where
   rests : 5 ≤ tag_class e.tag → t ≡ s → Effect s t e
-  names : tag_class e.tag ≡ 0 → is_attribute_removal e.tag ≡ false → t ≡ slot_changed_at (λ r. record r { name = entry_part e }) (padded_slots s (tag_id e.tag)) (tag_id e.tag) → Effect s t e
+  names : tag_class e.tag ≡ 0 → is_attribute_removal e.tag ≡ false → t ≡ slot_changed_at (λ r. record r { name = entry_type_bytes e }) (padded_slots s (tag_id e.tag)) (tag_id e.tag) → Effect s t e
   creates : tag_class e.tag ≡ 4 → tag_type e.tag ≡ create_tag_type → tag_id e.tag ≤ length s → t ≡ insert s (tag_id e.tag) empty_slot → Effect s t e
   deletes : tag_class e.tag ≡ 4 → tag_type e.tag ≢ create_tag_type → tag_id e.tag < length s → t ≡ remove s (tag_id e.tag) → Effect s t e
-  structures : tag_class e.tag ≡ 2 → is_attribute_removal e.tag ≡ false → tag_id e.tag < length s → t ≡ slot_changed_at (λ r. record r { struct = entry_part e }) s (tag_id e.tag) → Effect s t e
+  structures : tag_class e.tag ≡ 2 → is_attribute_removal e.tag ≡ false → tag_id e.tag < length s → t ≡ slot_changed_at (λ r. record r { struct = entry_type_bytes e }) s (tag_id e.tag) → Effect s t e
   attributes : tag_class e.tag ≡ 3 → tag_id e.tag < length s → t ≡ slot_changed_at (λ r. record r { attributes = attributes_after e r.attributes }) s (tag_id e.tag) → Effect s t e
 
 -- which way a test went

@@ -1,6 +1,6 @@
 -- Entries and commits in the front of a block stay when the bytes behind it change.
 use Rattle.std.proofs.Common.{◌≡◌, ℕ, ◌+◌, ◌-◌, ◌^◌, ◌<◌, ◌≤◌, Bool, true, false, cond, ltb, leb, List, [], ◌∷◌, ◌++◌, length, take, drop, bit_xor, ◌||◌, ◌/◌, Option, Some, None, refl, sym, ap, subst, ◌∙◌, arith, length-append}
-use Rattle.lfs_tag.proofs.Common.{le-ltb, nat_tests, xor_shr, length-drop, tag_data_size, LogEntry, with_commit, tag_at, entry_end, IsCommit, AreAdjacent, commit_at, longest_sequence, lies, commit_none, commit_space, commit_complete, chain_on, chain_none, chain_sound}
+use Rattle.lfs_tag.proofs.Common.{le-ltb, nat_tests, xor_shr, length-drop, tag_data_size, LogEntry, with_commit, tag_at, entry_end, IsCommit, AreAdjacentCommits, commit_at, longest_sequence, lies, commit_none, commit_space, commit_complete, chain_on, chain_none, chain_sound}
 use Rattle.std.proofs.lemmas.List.{drop-append-le, take-append-le}
 use Rattle.byteorder.specs.Endian.{big_number}
 use Rattle.byteorder.specs.Numbers.{big_from-append}
@@ -64,13 +64,13 @@ commit_moves front x y start at before (e ∷ f ∷ es) end last le within h =
     let w = commit_space (front ++ x) start (entry_end at e) e.tag (f ∷ es) end last h.2 in
     (entry_moves front x y at before e (omega (arith, w.after, within)) h.0, h.1, commit_moves front x y start (entry_end at e) e.tag (f ∷ es) end last (omega arith) within h.2)
 
-chain_space : (block : List ℕ) (start at before : ℕ) (cs : List (List LogEntry)) (end last : ℕ) → AreAdjacent block start at before cs end last → at ≤ end
+chain_space : (block : List ℕ) (start at before : ℕ) (cs : List (List LogEntry)) (end last : ℕ) → AreAdjacentCommits block start at before cs end last → at ≤ end
 chain_space block start at before [] end last h = omega (arith, h.0)
 chain_space block start at before (c ∷ cs) end last h =
     let w = commit_space block start at before c h.0 h.1 h.2 in
     omega (arith, w.after, chain_space block h.0 h.0 h.1 cs end last h.3)
 
-pub chain_moves : (front x y : List ℕ) (start at before : ℕ) (cs : List (List LogEntry)) (end last : ℕ) → start ≤ at → end ≤ length front → AreAdjacent (front ++ x) start at before cs end last → AreAdjacent (front ++ y) start at before cs end last
+pub chain_moves : (front x y : List ℕ) (start at before : ℕ) (cs : List (List LogEntry)) (end last : ℕ) → start ≤ at → end ≤ length front → AreAdjacentCommits (front ++ x) start at before cs end last → AreAdjacentCommits (front ++ y) start at before cs end last
 chain_moves front x y start at before [] end last le within h = h
 chain_moves front x y start at before (c ∷ cs) end last le within h =
     let after = chain_space (front ++ x) h.0 h.0 h.1 cs end last h.3 in
@@ -83,8 +83,8 @@ abbrev pub next_start : List (List LogEntry) → ℕ → ℕ → ℕ
 next_start [] start end = start
 next_start (c ∷ cs) start end = end
 
-chain_more : (block : List ℕ) (start at before : ℕ) (cs : List (List LogEntry)) (end last : ℕ) (es : List LogEntry) (end' last' : ℕ) → AreAdjacent block start at before cs end last
-    → IsCommit block (next_start cs start end) end last es end' last' → AreAdjacent block start at before (cs ++ es ∷ []) end' last'
+chain_more : (block : List ℕ) (start at before : ℕ) (cs : List (List LogEntry)) (end last : ℕ) (es : List LogEntry) (end' last' : ℕ) → AreAdjacentCommits block start at before cs end last
+    → IsCommit block (next_start cs start end) end last es end' last' → AreAdjacentCommits block start at before (cs ++ es ∷ []) end' last'
 chain_more block start at before [] end last es end' last' h k = (end', last', rw (← h.0, ← h.1) k, (refl, refl))
 chain_more block start at before (c ∷ []) end last es end' last' h k =
     (h.0, h.1, h.2, chain_more block h.0 h.0 h.1 [] end last es end' last' h.3 (rw (← h.3.0) k))
@@ -92,7 +92,7 @@ chain_more block start at before (c ∷ d ∷ cs) end last es end' last' h k =
     (h.0, h.1, h.2, chain_more block h.0 h.0 h.1 (d ∷ cs) end last es end' last' h.3 k)
 
 -- a chain that nothing follows is the computed one
-pub chain_is : (block : List ℕ) (start at before : ℕ) (cs : List (List LogEntry)) (end last : ℕ) → AreAdjacent block start at before cs end last
+pub chain_is : (block : List ℕ) (start at before : ℕ) (cs : List (List LogEntry)) (end last : ℕ) → AreAdjacentCommits block start at before cs end last
     → commit_at block (next_start cs start end) end last ≡ None → longest_sequence block start at before ≡ record { commits = cs; end = end; last = last }
 chain_is block start at before [] end last h none = chain_none block start at before (rw (h.0, h.1) at none) ∙ rw (h.0, h.1) refl
 chain_is block start at before (c ∷ []) end last h none =
@@ -110,7 +110,7 @@ pub appended : (front x y : List ℕ) (es : List LogEntry) (end last : ℕ) → 
 unfolding chain_of
 appended front x y es end last ends commit none =
     let old = chain_of (front ++ x) in
-    let was : AreAdjacent (front ++ x) 0 4 0xffffffff old.commits old.end old.last = chain_sound (length (front ++ x) - 4) (front ++ x) 0 4 0xffffffff in
+    let was : AreAdjacentCommits (front ++ x) 0 4 0xffffffff old.commits old.end old.last = chain_sound (length (front ++ x) - 4) (front ++ x) 0 4 0xffffffff in
     let kept = chain_moves front x y 0 4 0xffffffff old.commits old.end old.last (omega arith) (omega (arith, ends)) was in
     let here : IsCommit (front ++ y) (next_start old.commits 0 old.end) old.end old.last es end last = rw ends commit in
     let whole = chain_more (front ++ y) 0 4 0xffffffff old.commits old.end old.last es end last kept here in

@@ -1,6 +1,6 @@
 -- The comparisons after a log's entries are those of its slots, and the first slot searched for is the result.
 use Rattle.std.proofs.Common.{◌≡◌, ℕ, zero, suc, ◌+◌, ◌-◌, ◌<◌, ◌≤◌, ◌^◌, Bool, true, false, ◌&&◌, not, cond, eqb, ltb, leb, List, [], ◌∷◌, ◌++◌, length, map, drop, replicate, set, get_or, drop-cons, Option, Some, None, refl, sym, ap, subst, ◌∙◌, arith, inl, inr}
-use Rattle.lfs_tag.proofs.Common.{option_and_then, option_map_or, cases_lt, nat_tests, option_and_then_some, same_Some, map-append, map-set, length-map, get_or_past, tag_type, tag_id, tag_class, LogEntry, block_entries, Name, is_equal, RawSlot, RawContent, empty_slot, slot_of_id, slot_changed_at, padded_slots, entry_part, attributes_after, content_after_entry, content_after, empty_raw_content, create_tag_type, comparison_with_slot, comparisons_after, first_wanted_slot, IsNameLookup, lookup_of_comparisons}
+use Rattle.lfs_tag.proofs.Common.{option_and_then, option_map_or, cases_lt, nat_tests, option_and_then_some, same_Some, map-append, map-set, length-map, get_or_past, tag_type, tag_id, tag_class, LogEntry, block_entries, Name, is_equal, RawSlot, RawContent, empty_slot, slot_of_id, slot_changed_at, padded_slots, entry_type_bytes, attributes_after, content_after_entry, content_after, empty_raw_content, create_tag_type, comparison_with_slot, comparisons_after, first_wanted_slot, IsNameLookup, lookup_of_comparisons}
 use Rattle.std.specs.declared.cmp.Ordering.{Ordering}
 use Rattle.std.specs.declared.cmp.Ordering.TheVariants.{Less, Equal, Greater}
 use Rattle.lfs_model.proofs.Orders.{same_by}
@@ -34,7 +34,7 @@ same_ranks order name f same [] i = refl
 same_ranks order name f same (s ∷ slots) zero = ap (λ r. r ∷ map (comparison_with_slot order name) slots) (ap (λ n. option_map_or (λ other. ordering_comparison (name_cmp order name other)) (option_and_then (λ (p : ℕ × List ℕ). cond (eqb p.0 superblock_name_type) None (Some p.1)) n) slot.NoneOrLess) (same s))
 same_ranks order name f same (s ∷ slots) (suc i) = ap (λ rs. comparison_with_slot order name s ∷ rs) (same_ranks order name f same slots i)
 
-named_rank : (order : NameOrder) (name : Name) (e : LogEntry) (r : RawSlot) → comparison_with_slot order name (record r { name = entry_part e }) ≡ comparison_with_entry order name e
+named_rank : (order : NameOrder) (name : Name) (e : LogEntry) (r : RawSlot) → comparison_with_slot order name (record r { name = entry_type_bytes e }) ≡ comparison_with_entry order name e
 named_rank order name e r = by_test (eqb (tag_type e.tag) superblock_name_type)
   where
     by_test : (b : Bool) → option_map_or (λ other. ordering_comparison (name_cmp order name other)) (cond b None (Some e.bytes)) slot.NoneOrLess ≡ cond b slot.NoneOrLess (ordering_comparison (name_cmp order name e.bytes))
@@ -51,7 +51,7 @@ rank_step order name s t e (names class keeps is) =
     let i = tag_id e.tag in
     let all = padded_slots s i in
     let r = slot_of_id all i in
-    rw (a, is) (ap (λ rs. set rs i (comparison_with_entry order name e)) (sym (up_to_ranks order name s i)) ∙ ap (set (map (comparison_with_slot order name) all) i) (sym (named_rank order name e r)) ∙ sym (map-set (comparison_with_slot order name) all i (record r { name = entry_part e })))
+    rw (a, is) (ap (λ rs. set rs i (comparison_with_entry order name e)) (sym (up_to_ranks order name s i)) ∙ ap (set (map (comparison_with_slot order name) all) i) (sym (named_rank order name e r)) ∙ sym (map-set (comparison_with_slot order name) all i (record r { name = entry_type_bytes e })))
 rank_step order name s t e (creates class create le is) =
     let a : eqb (tag_class e.tag) 0 ≡ false = grind (arith, nat_tests) in
     let b : eqb (tag_class e.tag) 4 ≡ true = grind (arith, nat_tests) in
@@ -69,7 +69,7 @@ rank_step order name s t e (deletes class delete lt is) =
 rank_step order name s t e (structures class keeps lt is) =
     let a : eqb (tag_class e.tag) 0 ≡ false = grind (arith, nat_tests) in
     let b : eqb (tag_class e.tag) 4 ≡ false = grind (arith, nat_tests) in
-    rw (a, b, is) (sym (same_ranks order name (λ r. record r { struct = entry_part e }) (λ r. refl) s (tag_id e.tag)))
+    rw (a, b, is) (sym (same_ranks order name (λ r. record r { struct = entry_type_bytes e }) (λ r. refl) s (tag_id e.tag)))
 rank_step order name s t e (attributes class lt is) =
     let a : eqb (tag_class e.tag) 0 ≡ false = grind (arith, nat_tests) in
     let b : eqb (tag_class e.tag) 4 ≡ false = grind (arith, nat_tests) in

@@ -1,6 +1,6 @@
 -- Entries one after the other, from the front and from the back.
 use Rattle.std.proofs.Common.{◌≡◌, ℕ, zero, suc, ◌+◌, ◌-◌, ◌*◌, ◌%◌, ◌^◌, ◌<◌, ◌≤◌, Bool, true, false, cond, ltb, List, [], ◌∷◌, ◌++◌, length, drop, slice_range, Option, Some, None, refl, sym, ap, ◌∙◌, arith}
-use Rattle.lfs_tag.proofs.Common.{option_map_or, bit_xor, xor_zero_r, xor_mod, nat_tests, length-append, tag_chunk, tag_data_size, tag_before_next, LogEntry, entry_end, is_checksum_entry, IsCommit, AreAdjacent, block_entries, has_commit, lies, commit_space, chain_sound}
+use Rattle.lfs_tag.proofs.Common.{option_map_or, bit_xor, xor_zero_r, xor_mod, nat_tests, length-append, tag_chunk, tag_data_size, tag_for_next_xor, LogEntry, entry_end, is_checksum_entry, IsCommit, AreAdjacentCommits, block_entries, has_commit, lies, commit_space, chain_sound}
 use Rattle.byteorder.specs.Endian.{big_number}
 use Rattle.lfs_model.specs.format.Tag.{is_commit_end}
 use Rattle.std.specs.List.{flat_map}
@@ -19,11 +19,11 @@ run_fuel (suc n) zero block at before end p q = run_zero (suc n) block at before
 run_fuel (suc n) (suc m) block at before end p q =
     elim (entry_at block at before) as (λ o. step n o ≡ step m o) [
       | None ↦ refl
-      | Some e ↦ ap (λ (es : List LogEntry). cond (ltb at end) (e ∷ es) []) (run_fuel n m block (entry_end at e) (tag_before_next e.tag) end (omega arith) (omega arith))
+      | Some e ↦ ap (λ (es : List LogEntry). cond (ltb at end) (e ∷ es) []) (run_fuel n m block (entry_end at e) (tag_for_next_xor e.tag) end (omega arith) (omega arith))
     ]
   where
     step : ℕ → Option LogEntry → List LogEntry
-    step k o = cond (ltb at end) (option_map_or (λ e. e ∷ entries_within k block (entry_end at e) (tag_before_next e.tag) end) o []) []
+    step k o = cond (ltb at end) (option_map_or (λ e. e ∷ entries_within k block (entry_end at e) (tag_for_next_xor e.tag) end) o []) []
 
 run_more : (block : List ℕ) (at before end : ℕ) → entries_between block at before end ≡ entries_within (suc (end - at)) block at before end
 run_more block at before end = run_fuel (end - at) (suc (end - at)) block at before end (omega arith) (omega arith)
@@ -40,27 +40,27 @@ run_none block at before end is = run_more block at before end ∙ rw is (either
     either false = refl
 
 pub run_on : (block : List ℕ) (at before end : ℕ) (e : LogEntry) → at < end → entry_at block at before ≡ Some e
-    → entries_between block at before end ≡ e ∷ entries_between block (entry_end at e) (tag_before_next e.tag) end
+    → entries_between block at before end ≡ e ∷ entries_between block (entry_end at e) (tag_for_next_xor e.tag) end
 unfolding entries_within
 run_on block at before end e lt is =
     let inside : ltb at end ≡ true = grind (arith, nat_tests) in
-    run_more block at before end ∙ rw (inside, is) (ap (λ (es : List LogEntry). e ∷ es) (run_fuel (end - at) (end - entry_end at e) block (entry_end at e) (tag_before_next e.tag) end (omega arith) (omega arith)))
+    run_more block at before end ∙ rw (inside, is) (ap (λ (es : List LogEntry). e ∷ es) (run_fuel (end - at) (end - entry_end at e) block (entry_end at e) (tag_for_next_xor e.tag) end (omega arith) (omega arith)))
 
 -- a run ends where it begins, or after
 pub run_space : (block : List ℕ) (at before : ℕ) (es : List LogEntry) (end last : ℕ) → AreEntriesBetween block at before es end last → at ≤ end
 run_space block at before [] end last h = omega (arith, h.0)
-run_space block at before (e ∷ es) end last h = omega (arith, run_space block (entry_end at e) (tag_before_next e.tag) es end last h.1)
+run_space block at before (e ∷ es) end last h = omega (arith, run_space block (entry_end at e) (tag_for_next_xor e.tag) es end last h.1)
 
 -- the one run from a place to another
 pub run_is : (block : List ℕ) (at before : ℕ) (es : List LogEntry) (end last : ℕ) → AreEntriesBetween block at before es end last → entries_between block at before end ≡ es
 run_is block at before [] end last h = run_past block at before end (omega (arith, h.0))
 run_is block at before (e ∷ es) end last h =
-    let after = run_space block (entry_end at e) (tag_before_next e.tag) es end last h.1 in
-    run_on block at before end e (omega (arith, after)) h.0 ∙ ap (λ (es : List LogEntry). e ∷ es) (run_is block (entry_end at e) (tag_before_next e.tag) es end last h.1)
+    let after = run_space block (entry_end at e) (tag_for_next_xor e.tag) es end last h.1 in
+    run_on block at before end e (omega (arith, after)) h.0 ∙ ap (λ (es : List LogEntry). e ∷ es) (run_is block (entry_end at e) (tag_for_next_xor e.tag) es end last h.1)
 
 -- what is left after the first entry
 pub run_rest : (block : List ℕ) (at before end last : ℕ) (e : LogEntry) → at < end → entry_at block at before ≡ Some e → AreEntriesBetween block at before (entries_between block at before end) end last
-    → AreEntriesBetween block (entry_end at e) (tag_before_next e.tag) (entries_between block (entry_end at e) (tag_before_next e.tag) end) end last
+    → AreEntriesBetween block (entry_end at e) (tag_for_next_xor e.tag) (entries_between block (entry_end at e) (tag_for_next_xor e.tag) end) end last
 run_rest block at before end last e lt is run = let whole = run_on block at before end e lt is in let r = rw whole at run in r.1
 
 -- ---- from the back
@@ -74,7 +74,7 @@ pub record Ends (block : List ℕ) (at before : ℕ) (es : List LogEntry) (end l
   pub run : AreEntriesBetween block at before front mid carry
   pub is : entry_at block mid carry ≡ Some entry
   pub end_is : end ≡ entry_end mid entry
-  pub last_is : last ≡ tag_before_next entry.tag
+  pub last_is : last ≡ tag_for_next_xor entry.tag
   pub list : es ≡ front ++ entry ∷ []
 
 pub ends : (block : List ℕ) (at before : ℕ) (es : List LogEntry) (end last : ℕ) → AreEntriesBetween block at before es end last → at < end → Ends block at before es end last
@@ -82,12 +82,12 @@ ends block at before [] end last h lt = absurd (omega (arith, h.0))
 ends block at before (e ∷ []) end last h lt =
     record { front = []; mid = at; carry = before; entry = e; run = (refl, refl); is = h.0; end_is = sym h.1.0; last_is = sym h.1.1; list = refl }
 ends block at before (e ∷ f ∷ es) end last h lt =
-    let after = run_space block (entry_end (entry_end at e) f) (tag_before_next f.tag) es end last h.1.1 in
-    let r = ends block (entry_end at e) (tag_before_next e.tag) (f ∷ es) end last h.1 (omega (arith, after)) in
+    let after = run_space block (entry_end (entry_end at e) f) (tag_for_next_xor f.tag) es end last h.1.1 in
+    let r = ends block (entry_end at e) (tag_for_next_xor e.tag) (f ∷ es) end last h.1 (omega (arith, after)) in
     record { front = e ∷ r.front; mid = r.mid; carry = r.carry; entry = r.entry; run = (h.0, r.run); is = r.is; end_is = r.end_is; last_is = r.last_is; list = ap (λ (xs : List LogEntry). e ∷ xs) r.list }
 
 -- the tag that carries so
-pub carried_mod : (tag : ℕ) → tag < 2 ^ 31 → tag_before_next tag % 2 ^ 31 ≡ tag
+pub carried_mod : (tag : ℕ) → tag < 2 ^ 31 → tag_for_next_xor tag % 2 ^ 31 ≡ tag
 carried_mod tag lt = by_class (is_commit_end tag)
   where
     by_class : (b : Bool) → cond b (bit_xor tag (tag_chunk tag % 2 * 2 ^ 31)) tag % 2 ^ 31 ≡ tag
@@ -137,9 +137,9 @@ shorter xs ys e h = omega (arith, ap length h, length-append ys (e ∷ []))
 
 IsRun-append : (block : List ℕ) (at before : ℕ) (xs : List LogEntry) (mid carry : ℕ) (ys : List LogEntry) (end last : ℕ) → AreEntriesBetween block at before xs mid carry → AreEntriesBetween block mid carry ys end last → AreEntriesBetween block at before (xs ++ ys) end last
 IsRun-append block at before [] mid carry ys end last h k = rw (h.0, h.1) k
-IsRun-append block at before (x ∷ xs) mid carry ys end last h k = (h.0, IsRun-append block (entry_end at x) (tag_before_next x.tag) xs mid carry ys end last h.1 k)
+IsRun-append block at before (x ∷ xs) mid carry ys end last h k = (h.0, IsRun-append block (entry_end at x) (tag_for_next_xor x.tag) xs mid carry ys end last h.1 k)
 
-carried_other : (e : LogEntry) → is_checksum_entry e ≡ false → tag_before_next e.tag ≡ e.tag
+carried_other : (e : LogEntry) → is_checksum_entry e ≡ false → tag_for_next_xor e.tag ≡ e.tag
 carried_other e other = rw other refl
 
 commit_run : (block : List ℕ) (start at before : ℕ) (es : List LogEntry) (end last : ℕ) → IsCommit block start at before es end last → AreEntriesBetween block at before es end last
@@ -147,7 +147,7 @@ commit_run block start at before [] end last h = absurd h
 commit_run block start at before (e ∷ []) end last h = (h.0, (sym h.3, sym h.4))
 commit_run block start at before (e ∷ f ∷ es) end last h = (h.0, rw (carried_other e h.1) (commit_run block start (entry_end at e) e.tag (f ∷ es) end last h.2))
 
-pub chain_run : (block : List ℕ) (start at before : ℕ) (cs : List (List LogEntry)) (end last : ℕ) → AreAdjacent block start at before cs end last → AreEntriesBetween block at before (flat_map (λ c. c) cs) end last
+pub chain_run : (block : List ℕ) (start at before : ℕ) (cs : List (List LogEntry)) (end last : ℕ) → AreAdjacentCommits block start at before cs end last → AreEntriesBetween block at before (flat_map (λ c. c) cs) end last
 chain_run block start at before [] end last h = (sym h.0, sym h.1)
 chain_run block start at before (c ∷ cs) end last h =
     IsRun-append block at before c h.0 h.1 (flat_map (λ c. c) cs) end last (commit_run block start at before c h.0 h.1 h.2) (chain_run block h.0 h.0 h.1 cs end last h.3)
@@ -163,7 +163,7 @@ all_is block = run_is block 4 0xffffffff (block_entries block) (chain_of block).
 -- each entry takes four bytes and more
 pub run_count : (block : List ℕ) (at before : ℕ) (es : List LogEntry) (end last : ℕ) → AreEntriesBetween block at before es end last → at + 4 * length es ≤ end
 run_count block at before [] end last h = omega (arith, h.0)
-run_count block at before (e ∷ es) end last h = omega (arith, run_count block (entry_end at e) (tag_before_next e.tag) es end last h.1)
+run_count block at before (e ∷ es) end last h = omega (arith, run_count block (entry_end at e) (tag_for_next_xor e.tag) es end last h.1)
 
 -- there is a commit where the chain goes on past the revision
 pub goes_on : (block : List ℕ) → ltb 4 (chain_of block).end ≡ has_commit block
@@ -172,7 +172,7 @@ goes_on block =
     let c = chain_of block in
     by_commits c.commits (chain_sound (length block - 4) block 0 4 0xffffffff)
   where
-    by_commits : (cs : List (List LogEntry)) → AreAdjacent block 0 4 0xffffffff cs (chain_of block).end (chain_of block).last → ltb 4 (chain_of block).end ≡ ltb 0 (length cs)
+    by_commits : (cs : List (List LogEntry)) → AreAdjacentCommits block 0 4 0xffffffff cs (chain_of block).end (chain_of block).last → ltb 4 (chain_of block).end ≡ ltb 0 (length cs)
     by_commits [] h = rw h.0 refl
     by_commits (c ∷ cs) h =
         let first = commit_space block 0 4 0xffffffff c h.0 h.1 h.2 in

@@ -1,6 +1,6 @@
 -- A search from the newest entry back finds the parts that slots have.
 use Rattle.std.proofs.Common.{◌≡◌, ◌≢◌, ◌⊎◌, ℕ, suc, ◌+◌, ◌-◌, ◌/◌, ◌%◌, ◌^◌, ◌<◌, ◌≤◌, Bool, true, false, ◌&&◌, ◌||◌, not, cond, eqb, ltb, leb, List, [], ◌∷◌, ◌++◌, reverse, length, insert, remove, Option, Some, None, refl, sym, ap, subst, ◌∙◌, arith, inl, inr}
-use Rattle.lfs_tag.proofs.Common.{option_and_then, option_map, cases_lt, cases_order, nat_tests, option_and_then_some, same_Some, Attributes, tag_type, tag_id, tag_class, tag_chunk, LogEntry, block_entries, RawSlot, RawContent, empty_slot, slot_of_id, slot_changed_at, padded_slots, entry_part, attributes_after, attributes_with, attributes_without, attribute_bytes, content_after_entry, content_after, empty_raw_content, is_attribute_removal, create_tag_type, part_bytes, found_in_entries, searched_count}
+use Rattle.lfs_tag.proofs.Common.{option_and_then, option_map, cases_lt, cases_order, nat_tests, option_and_then_some, same_Some, Attributes, tag_type, tag_id, tag_class, tag_chunk, LogEntry, block_entries, RawSlot, RawContent, empty_slot, slot_of_id, slot_changed_at, padded_slots, entry_type_bytes, attributes_after, attributes_with, attributes_without, attribute_bytes, content_after_entry, content_after, empty_raw_content, is_attribute_removal, create_tag_type, bytes_if_type, found_in_entries, searched_count}
 use Rattle.std.proofs.lemmas.Bool.{cases_eq}
 use Rattle.std.proofs.lemmas.List.{reverse-append, reverse-reverse}
 use Rattle.std.proofs.lemmas.List.Edits.{get_or-insert_below, get_or-insert_at, get_or-insert_above, get_or-remove_below, get_or-remove_above}
@@ -20,15 +20,15 @@ abbrev pub part_at : List RawSlot → ℕ → ℕ → Option (ℕ × List ℕ)
 part_at slots type i = part_in type (slot_of_id slots i)
 
 -- its bytes, where it has the type
-pub bytes_of_part : (type : ℕ) (s : RawSlot) → part_bytes type (part_in type s) ≡ slot_bytes type s
+pub bytes_of_part : (type : ℕ) (s : RawSlot) → bytes_if_type type (part_in type s) ≡ slot_bytes type s
 bytes_of_part type s = either (eqb (type / 2 ^ 8) 0) (eqb (type / 2 ^ 8) 2) (eqb (type / 2 ^ 8) 3)
   where
-    attribute : (o : Option (List ℕ)) → part_bytes type (option_map (λ bytes. (type, bytes)) o) ≡ o
+    attribute : (o : Option (List ℕ)) → bytes_if_type type (option_map (λ bytes. (type, bytes)) o) ≡ o
     attribute None = refl
     attribute (Some bytes) = let e : eqb type type ≡ true = grind (arith, nat_tests) in rw e refl
 
-    either : (a b c : Bool) → part_bytes type (cond a s.name (cond b s.struct (cond c (option_map (λ bytes. (type, bytes)) (attribute_bytes (type % 2 ^ 8) s.attributes)) None)))
-        ≡ cond a (part_bytes type s.name) (cond b (part_bytes type s.struct) (cond c (attribute_bytes (type % 2 ^ 8) s.attributes) None))
+    either : (a b c : Bool) → bytes_if_type type (cond a s.name (cond b s.struct (cond c (option_map (λ bytes. (type, bytes)) (attribute_bytes (type % 2 ^ 8) s.attributes)) None)))
+        ≡ cond a (bytes_if_type type s.name) (cond b (bytes_if_type type s.struct) (cond c (attribute_bytes (type % 2 ^ 8) s.attributes) None))
     either true b c = refl
     either false true c = refl
     either false false true = attribute (attribute_bytes (type % 2 ^ 8) s.attributes)
@@ -96,7 +96,7 @@ not_about e type i class other before =
 
 -- it is
 about : (e : LogEntry) (type i : ℕ) → tag_class e.tag ≢ 4 → is_entry_about e type i ≡ true → (before : ℕ → Option (ℕ × List ℕ))
-    → found_given_effect (slot_effect e type i) before ≡ cond (is_attribute_removal e.tag) None (entry_part e)
+    → found_given_effect (slot_effect e type i) before ≡ cond (is_attribute_removal e.tag) None (entry_type_bytes e)
 about e type i class here before =
     let a : eqb (tag_class e.tag) 4 ≡ false = grind (arith, nat_tests) in
     rw (a, here) refl
@@ -141,9 +141,9 @@ changed_finds e type i f s all class lt same here =
       | inr miss ↦ not_about e type i class (elsewhere e type i miss) (part_at s type) ∙ ap (part_in type) (sym (slot-changed_other f all (tag_id e.tag) i (λ z. miss (sym z)) ∙ same i))
     ]
 
-name_finds : (e : LogEntry) (type i : ℕ) (s : List RawSlot) → tag_class e.tag ≡ 0 → is_attribute_removal e.tag ≡ false → Finds e type i s (slot_changed_at (λ r. record r { name = entry_part e }) (padded_slots s (tag_id e.tag)) (tag_id e.tag))
+name_finds : (e : LogEntry) (type i : ℕ) (s : List RawSlot) → tag_class e.tag ≡ 0 → is_attribute_removal e.tag ≡ false → Finds e type i s (slot_changed_at (λ r. record r { name = entry_type_bytes e }) (padded_slots s (tag_id e.tag)) (tag_id e.tag))
 name_finds e type i s class keeps =
-    changed_finds e type i (λ r. record r { name = entry_part e }) s (padded_slots s (tag_id e.tag)) (omega arith) (omega (arith, length-up_to s (tag_id e.tag))) (slot-up_to s (tag_id e.tag))
+    changed_finds e type i (λ r. record r { name = entry_type_bytes e }) s (padded_slots s (tag_id e.tag)) (omega arith) (omega (arith, length-up_to s (tag_id e.tag))) (slot-up_to s (tag_id e.tag))
     (λ hit. elim (cases_eq (type / 2 ^ 8) 0) [
       | inl same ↦
           let z : eqb (type / 2 ^ 8) 0 ≡ true = grind (arith, nat_tests) in
@@ -154,9 +154,9 @@ name_finds e type i s class keeps =
           not_about e type i (omega arith) (other_class e type i (omega arith)) (part_at s type) ∙ rw z refl
     ])
 
-structure_finds : (e : LogEntry) (type i : ℕ) (s : List RawSlot) → tag_class e.tag ≡ 2 → is_attribute_removal e.tag ≡ false → tag_id e.tag < length s → Finds e type i s (slot_changed_at (λ r. record r { struct = entry_part e }) s (tag_id e.tag))
+structure_finds : (e : LogEntry) (type i : ℕ) (s : List RawSlot) → tag_class e.tag ≡ 2 → is_attribute_removal e.tag ≡ false → tag_id e.tag < length s → Finds e type i s (slot_changed_at (λ r. record r { struct = entry_type_bytes e }) s (tag_id e.tag))
 structure_finds e type i s class keeps lt =
-    changed_finds e type i (λ r. record r { struct = entry_part e }) s s (omega arith) lt (λ k. refl)
+    changed_finds e type i (λ r. record r { struct = entry_type_bytes e }) s s (omega arith) lt (λ k. refl)
     (λ hit. elim (cases_eq (type / 2 ^ 8) 2) [
       | inl same ↦
           let z : eqb (type / 2 ^ 8) 0 ≡ false = grind (arith, nat_tests) in
@@ -211,7 +211,7 @@ attribute_finds e type i s class lt =
     either true = refl
     either false = refl
 
-    kept : (b : Bool) → tag_type e.tag ≡ type → cond b None (entry_part e) ≡ option_map (λ bytes. (type, bytes)) (cond (not b) (Some e.bytes) None)
+    kept : (b : Bool) → tag_type e.tag ≡ type → cond b None (entry_type_bytes e) ≡ option_map (λ bytes. (type, bytes)) (cond (not b) (Some e.bytes) None)
     kept true same = refl
     kept false same = ap (λ k. Some (k, e.bytes)) same
 

@@ -1,8 +1,8 @@
 -- The summary of a log is that of its content.
 use Rattle.std.proofs.Common.{◌≡◌, ℕ, zero, suc, ◌+◌, ◌-◌, Bool, true, false, ◌&&◌, not, cond, eqb, leb, ltb, is_some, List, [], ◌∷◌, ◌++◌, length, map, replicate, insert, remove, Option, Some, None, refl, sym, ap, ap₂, ◌∙◌}
-use Rattle.lfs_tag.proofs.Common.{option_map, option_and_then, list_all, map-append, length-map, same_Some, tag_type, tag_id, tag_class, LogEntry, block_entries, RawSlot, RawContent, empty_slot, slot_of_id, slot_changed_at, padded_slots, entry_part, attributes_after, slots_after, content_after_entry, content_after, empty_raw_content, is_known_tag, has_needed_id, create_tag_type, delete_tag_type, slot_mark, is_complete_mark, outline_after, empty_outline}
+use Rattle.lfs_tag.proofs.Common.{option_map, option_and_then, list_all, map-append, length-map, same_Some, tag_type, tag_id, tag_class, LogEntry, block_entries, RawSlot, RawContent, empty_slot, slot_of_id, slot_changed_at, padded_slots, entry_type_bytes, attributes_after, slots_after, content_after_entry, content_after, empty_raw_content, is_known_tag, has_needed_id, create_tag_type, delete_tag_type, slot_mark, is_complete_mark, outline_after, empty_outline}
 use Rattle.lfs_model.specs.format.Slots.{Slot, PairContent}
-use Rattle.lfs_model.specs.format.Content.{kind_of_type, decoded_struct, complete_slots, complete_content}
+use Rattle.lfs_model.specs.format.Content.{kind_of_type, decoded_struct, decoded_slots, decoded_content}
 use Rattle.lfs_model.specs.format.EntryTypes.{entry_tail, decoded_gstate}
 use Rattle.lfs_tag.specs.declared.summary.SlotSummary.{SlotSummary}
 use Rattle.lfs_tag.specs.Summary.{id_mark, marks_with_change, padded_marks, empty_mark, marks_after_entry, LogOutline, content_outline, outline_after_entry}
@@ -51,12 +51,12 @@ either f false false within false there false struct x y z u v x2 y2 z2 u2 v2 a 
 slots_marked : (slots : List RawSlot) (e : LogEntry) → option_map (map slot_mark) (slots_after slots e) ≡ marks_after_entry (map slot_mark slots) e
 slots_marked slots e =
     either (map slot_mark) (eqb (tag_class e.tag) 0) (eqb (tag_type e.tag) create_tag_type) (leb i (length slots)) (eqb (tag_type e.tag) delete_tag_type) (ltb i (length slots)) (is_some (slot_of_id slots i).name) (eqb (tag_class e.tag) 2)
-    (slot_changed_at (λ s. record s { name = entry_part e }) (padded_slots slots i) i) (insert slots i empty_slot) (remove slots i) (slot_changed_at (λ s. record s { struct = entry_part e }) slots i) (slot_changed_at (λ s. record s { attributes = attributes_after e s.attributes }) slots i)
+    (slot_changed_at (λ s. record s { name = entry_type_bytes e }) (padded_slots slots i) i) (insert slots i empty_slot) (remove slots i) (slot_changed_at (λ s. record s { struct = entry_type_bytes e }) slots i) (slot_changed_at (λ s. record s { attributes = attributes_after e s.attributes }) slots i)
     named (insert marks i empty_mark) (remove marks i) structured marks
-    (change_marks (λ s. record s { name = entry_part e }) (λ m. record m { has_name = true }) (λ s. refl) (padded_slots slots i) i ∙ ap (λ ms. marks_with_change (λ m. record m { has_name = true }) ms i) (up_to_marks slots i))
+    (change_marks (λ s. record s { name = entry_type_bytes e }) (λ m. record m { has_name = true }) (λ s. refl) (padded_slots slots i) i ∙ ap (λ ms. marks_with_change (λ m. record m { has_name = true }) ms i) (up_to_marks slots i))
     (map-insert slot_mark slots i empty_slot)
     (map-remove slot_mark slots i)
-    (change_marks (λ s. record s { struct = entry_part e }) (λ m. record m { has_struct = true }) (λ s. refl) slots i)
+    (change_marks (λ s. record s { struct = entry_type_bytes e }) (λ m. record m { has_struct = true }) (λ s. refl) slots i)
     (change_marks (λ s. record s { attributes = attributes_after e s.attributes }) (λ m. m) (λ s. refl) slots i ∙ marked_as_it_is marks i)
     ∙ ap₂ tested (sym (length-map slots slot_mark)) (sym (ap (λ m. m.has_name) (mark_at slots i)))
   where
@@ -109,9 +109,9 @@ outlined c (e ∷ es) = go (content_after_entry c e) (λ d. outlined d es) ∙ a
 
 -- ---- complete slots
 
-whole_slots : (slots : List RawSlot) → list_all is_complete_mark (map slot_mark slots) ≡ is_some (complete_slots slots)
+whole_slots : (slots : List RawSlot) → list_all is_complete_mark (map slot_mark slots) ≡ is_some (decoded_slots slots)
 whole_slots [] = refl
-whole_slots (s ∷ slots) = by_parts (λ name struct. record { kind = kind_of_type name.0; name = name.1; struct = decoded_struct struct.0 struct.1; attributes = s.attributes }) s.name s.struct (complete_slots slots) (whole_slots slots)
+whole_slots (s ∷ slots) = by_parts (λ name struct. record { kind = kind_of_type name.0; name = name.1; struct = decoded_struct struct.0 struct.1; attributes = s.attributes }) s.name s.struct (decoded_slots slots) (whole_slots slots)
   where
     by_parts : (make : ℕ × List ℕ → ℕ × List ℕ → Slot) (name struct : Option (ℕ × List ℕ)) (others : Option (List Slot)) → list_all is_complete_mark (map slot_mark slots) ≡ is_some others
         → ((is_some name && is_some struct) && list_all is_complete_mark (map slot_mark slots)) ≡ is_some (option_and_then (λ t. option_map (λ ts. t ∷ ts) others) (option_and_then (λ n. option_map (λ p. make n p) struct) name))
@@ -120,8 +120,8 @@ whole_slots (s ∷ slots) = by_parts (λ name struct. record { kind = kind_of_ty
     by_parts make (Some n) (Some p) None same = same
     by_parts make (Some n) (Some p) (Some ts) same = same
 
-pub whole_content : (c : RawContent) → list_all is_complete_mark (map slot_mark c.slots) ≡ is_some (complete_content c)
-whole_content c = whole_slots c.slots ∙ go (complete_slots c.slots)
+pub whole_content : (c : RawContent) → list_all is_complete_mark (map slot_mark c.slots) ≡ is_some (decoded_content c)
+whole_content c = whole_slots c.slots ∙ go (decoded_slots c.slots)
   where
     the_content : List Slot → PairContent
     the_content slots = record { slots = slots; tail = c.tail; move = c.move }

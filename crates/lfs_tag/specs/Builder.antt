@@ -1,9 +1,9 @@
 -- A commit being built in a buffer, and the block's log once the pages of the commit are
 -- programmed.
 use Rattle.std.specs.Prelude.{◌≡◌, ◌<◌, ◌≤◌, ℕ, ◌+◌, ◌-◌, List, [], ◌∷◌, ◌++◌, length, drop, replicate, Option, Some, None, unwrap_or}
-use Rattle.lfs_model.specs.format.Tag.{tag_class, make_tag, tag_before_next}
+use Rattle.lfs_model.specs.format.Tag.{tag_class, make_tag, tag_for_next_xor}
 use Rattle.lfs_model.specs.format.Log.{LogEntry, chain_of, block_revision}
-use Rattle.lfs_model.specs.layers.Commit.{encoded_size, aligned_end, four_bytes_at, checksum_type}
+use Rattle.lfs_model.specs.layers.Commit.{encoded_size, aligned_commit_end, four_bytes_at, checksum_type}
 use Rattle.lfs_model.specs.format.EntryTypes.{no_id}
 use Rattle.lfs_model.specs.format.Blocks.{overwritten_at}
 
@@ -31,7 +31,7 @@ checksum_start b = entries_start b.revision + encoded_size b.entries
 
 -- The buffer offset of the commit's end, padded to whole pages.
 abbrev pub padded_commit_end : PartialCommit → ℕ
-padded_commit_end b = aligned_end b.page (checksum_start b)
+padded_commit_end b = aligned_commit_end b.page (checksum_start b)
 
 -- ---- the checksum's entry
 
@@ -65,7 +65,7 @@ pub record AreCommitPages (b : PartialCommit) (next : Option (List ℕ)) (pages 
       → chain_of (overwritten_at block at pages) ≡ record {
         commits = earlier_commits b.revision block ++ (b.entries ++ checksum_entry b next pages ∷ []) ∷ [];
         end = at + length pages;
-        last = tag_before_next (checksum_tag b next);
+        last = tag_for_next_xor (checksum_tag b next);
       }
   pub revision : (block : List ℕ) (at : ℕ) → IsCommitOffset b.revision b.previous block at → at + length pages ≤ length block
       → block_revision (overwritten_at block at pages) ≡ unwrap_or b.revision (block_revision block)

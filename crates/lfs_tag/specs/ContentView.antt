@@ -1,7 +1,7 @@
 -- The code's content as the definitions see it: values, without their addresses in memory.
 use Rattle.std.specs.Prelude.{ℕ, suc, if◌then◌else◌, nat_le, List, [], ◌∷◌, map}
 use Rattle.std.specs.Option.{option_map}
-use Rattle.lfs_model.specs.format.Slots.{Attributes, address_view}
+use Rattle.lfs_model.specs.format.Slots.{Attributes, address_of_array}
 use Rattle.lfs_model.specs.format.Slots as slots
 use Rattle.lfs_model.specs.format.Content.{RawSlot, RawContent}
 use Rattle.lfs_tag.specs.declared.content.NameOrStruct.{NameOrStruct}
@@ -25,7 +25,7 @@ slot_view s = record {
 }
 
 abbrev pub tail_view : Tail → slots.Tail
-tail_view t = record { hard = t.hard; to = address_view t.pair }
+tail_view t = record { hard = t.hard; to = address_of_array t.pair }
 
 abbrev pub content_view : Content → RawContent
 content_view c = record {

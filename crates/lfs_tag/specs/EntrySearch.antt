@@ -4,7 +4,7 @@ use Rattle.std.specs.Prelude.{ℕ, ◌+◌, ◌-◌, ◌/◌, ◌^◌, ◌==◌,
 use Rattle.lfs_model.specs.format.Tag.{tag_type, tag_id, tag_class}
 use Rattle.lfs_model.specs.format.Log.{LogEntry}
 use Rattle.lfs_model.specs.format.EntryTypes.{create_tag_type, is_attribute_removal}
-use Rattle.lfs_model.specs.format.Content.{entry_part}
+use Rattle.lfs_model.specs.format.Content.{entry_type_bytes}
 
 -- The effect of an entry on the slot with a given id after it. Either the entry determines the part
 -- that is searched for, as a type and bytes or as None, or the slot had the id `id` before the
@@ -30,7 +30,7 @@ splice_effect_of e id =
 abbrev pub slot_effect : LogEntry → ℕ → ℕ → SlotEffect
 slot_effect e type id =
     if tag_class e.tag == 4 then splice_effect_of e id
-    else (if is_entry_about e type id then Holds (if is_attribute_removal e.tag then None else entry_part e) else Was id)
+    else (if is_entry_about e type id then Holds (if is_attribute_removal e.tag then None else entry_type_bytes e) else Was id)
 
 -- The part found, given the effect of an entry. `before id` is the part that the earlier entries
 -- determine for an id.

@@ -1,5 +1,5 @@
 -- The code's superblocks and move states as the definitions see them.
-use Rattle.lfs_model.specs.format.Slots.{Gstate, address_view}
+use Rattle.lfs_model.specs.format.Slots.{Gstate, address_of_array}
 use Rattle.lfs_model.specs.format.EntryTypes.{SuperblockFields}
 use Rattle.lfs_tag.specs.declared.fields.Superblock.{Superblock}
 use Rattle.lfs_tag.specs.declared.fields.MoveState.{MoveState}
@@ -15,4 +15,4 @@ superblock_view s = record {
 }
 
 abbrev pub move_view : MoveState → Gstate
-move_view m = record { sync = m.sync; kind = m.kind; id = m.id; pair = address_view m.pair }
+move_view m = record { sync = m.sync; kind = m.kind; id = m.id; pair = address_of_array m.pair }

@@ -7,7 +7,7 @@ use Rattle.lfs_model.specs.format.Slots.{Gstate, zero_gstate}
 use Rattle.lfs_model.specs.format.Slots as slots
 use Rattle.lfs_model.specs.format.Tag.{tag_type, tag_id, tag_class}
 use Rattle.lfs_model.specs.format.Log.{LogEntry, block_entries}
-use Rattle.lfs_model.specs.format.Content.{RawSlot, RawContent, content_after, empty_raw_content, complete_content}
+use Rattle.lfs_model.specs.format.Content.{RawSlot, RawContent, content_after, empty_raw_content, decoded_content}
 use Rattle.lfs_model.specs.format.EntryTypes.{create_tag_type, delete_tag_type, is_known_tag, has_needed_id, entry_tail, decoded_gstate}
 use Rattle.lfs_tag.specs.ContentView.{tail_view}
 use Rattle.lfs_tag.specs.FieldsView.{move_view}
@@ -21,7 +21,7 @@ pub record IsLogSummary (block : List ℕ) (c : RawContent) (s : Summary) : Type
   pub slot_count : s.slot_count ≡ length c.slots
   pub tail : option_map tail_view s.tail ≡ c.tail
   pub move_state : move_view s.move_state ≡ c.move
-  pub complete : s.is_complete ≡ is_some (complete_content c)
+  pub complete : s.is_complete ≡ is_some (decoded_content c)
 
 -- ---- the computation: for each slot, only whether it has a name and a struct
 

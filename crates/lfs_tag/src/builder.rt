@@ -4,8 +4,8 @@ ghost use Rattle.std.specs.Prelude.{◌≡◌, ℕ, IfSome, slice_index, ◌≢�
 ghost use Rattle.byteorder.specs.Endian.{big_bytes, little_bytes};
 ghost use Rattle.lfs_model.specs.format.Crc.{crc_of};
 ghost use Rattle.lfs_model.specs.format.Log.{LogEntry};
-ghost use Rattle.lfs_model.specs.format.Tag.{IsValidTag, tag_class, tag_data_size, make_tag, tag_before_next};
-ghost use Rattle.lfs_model.specs.format.Geometry.{is_page};
+ghost use Rattle.lfs_model.specs.format.Tag.{IsValidTag, tag_class, tag_data_size, make_tag, tag_for_next_xor};
+ghost use Rattle.lfs_model.specs.format.Geometry.{is_valid_page_size};
 ghost use Rattle.lfs_model.specs.format.EntryTypes.{no_id};
 ghost use Rattle.lfs_model.specs.format.Blocks.{overwritten_at};
 ghost use Rattle.lfs_model.specs.layers.Commit.{checksum_type};
@@ -129,7 +129,7 @@ impl<'a> CommitBuilder<'a> {
         previous: Tag,
         revision: Option<u32>,
     ) -> CommitBuilder<'a>
-        requires { is_page page ≡ true }
+        requires { is_valid_page_size page ≡ true }
         ensures { result ≡ record {
           page = page;
           room = length buf.old;
@@ -196,7 +196,7 @@ impl<'a> CommitBuilder<'a> {
     /// [`finish`](CommitBuilder::finish). Requires that the padded commit fits in the buffer.
     pub fn last_commit_tag(&self, next: Option<[u8; 4]>) -> Tag
         requires { padded_commit_end self.now ≤ self.now.room }
-        ensures { result ≡ tag_before_next (checksum_entry_tag self.now next) }
+        ensures { result ≡ tag_for_next_xor (checksum_entry_tag self.now next) }
     {
         let size = self.padded_end() - (self.len + 4);
         checksum_tag(next, size).as_previous_tag()

@@ -3,10 +3,10 @@
 ghost use Rattle.std.specs.Prelude.{◌≡◌, ◌^◌, ◌<◌, slice_index};
 ghost use Rattle.std.specs.List.{flat_map};
 ghost use Rattle.byteorder.specs.Endian.{little_bytes};
-ghost use Rattle.lfs_model.specs.format.Slots.{Ctz, address_view};
-ghost use Rattle.lfs_model.specs.format.EntryTypes.{decoded_address, decoded_gstate, superblock_fields, ctz_type};
+ghost use Rattle.lfs_model.specs.format.Slots.{Ctz, address_of_array};
+ghost use Rattle.lfs_model.specs.format.EntryTypes.{decoded_address, decoded_gstate, superblock_fields, ctz_struct_type};
 ghost use Rattle.lfs_model.specs.format.Content.{decoded_struct};
-ghost use Rattle.lfs_model.specs.layers.WrittenContent.{address_bytes, bytes_of_move_state, fields_bytes};
+ghost use Rattle.lfs_model.specs.layers.WrittenContent.{address_bytes, bytes_of_move_state, superblock_fields_bytes};
 ghost use Rattle.lfs_tag.specs.FieldsView.{superblock_view, move_view};
 
 use crate::fields::{MoveState, Superblock};
@@ -14,8 +14,8 @@ use byteorder::{ByteOrder, LittleEndian};
 
 /// Encodes a pair's address in the form that tails and directory structs store.
 pub fn pair_bytes(pair: [u32; 2]) -> [u8; 8]
-    ensures bytes { result ≡ address_bytes (address_view pair) }
-    ensures read { decoded_address result ≡ address_view pair }
+    ensures bytes { result ≡ address_bytes (address_of_array pair) }
+    ensures read { decoded_address result ≡ address_of_array pair }
 {
     let mut bytes = [0; 8];
     LittleEndian::write_u32_into(&pair, &mut bytes);
@@ -26,14 +26,14 @@ pub fn pair_bytes(pair: [u32; 2]) -> [u8; 8]
 /// address of the CTZ skip-list's last block, and `size` is the file's size in bytes.
 pub fn ctz_bytes(head: u32, size: u32) -> [u8; 8]
     ensures bytes { result ≡ address_bytes (head, size) }
-    ensures read { decoded_struct ctz_type result ≡ Ctz head size }
+    ensures read { decoded_struct ctz_struct_type result ≡ Ctz head size }
 {
     pair_bytes([head, size])
 }
 
 /// Encodes the superblock's struct (SPEC.md of littlefs, "0x0ff LFS_TYPE_SUPERBLOCK").
 pub fn superblock_bytes(superblock: &Superblock) -> [u8; 24]
-    ensures bytes { result ≡ fields_bytes (superblock_view superblock.now) }
+    ensures bytes { result ≡ superblock_fields_bytes (superblock_view superblock.now) }
     ensures read { superblock_fields result ≡ superblock_view superblock.now }
 {
     six_word_bytes([

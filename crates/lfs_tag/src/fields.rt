@@ -3,12 +3,12 @@
 ghost use Rattle.std.specs.Prelude.{◌≡◌, ◌+◌, ◌≤◌, ◌↔◌, IsTrue, length};
 ghost use Rattle.lfs_model.specs.format.Disk.{profile_attr_max, profile_file_max, profile_name_max};
 ghost use Rattle.lfs_model.specs.tree.Fresh.{superblock_bytes};
-ghost use Rattle.lfs_model.specs.format.Slots.{Ctz, address_view, zero_gstate};
-ghost use Rattle.lfs_model.specs.format.EntryTypes.{decoded_address, decoded_gstate, superblock_fields, ctz_type};
+ghost use Rattle.lfs_model.specs.format.Slots.{Ctz, address_of_array, zero_gstate};
+ghost use Rattle.lfs_model.specs.format.EntryTypes.{decoded_address, decoded_gstate, superblock_fields, ctz_struct_type};
 ghost use Rattle.lfs_model.specs.format.Content.{decoded_struct};
-ghost use Rattle.lfs_model.specs.tree.Profile.{limits_usable, profile_with_limits};
+ghost use Rattle.lfs_model.specs.tree.Profile.{are_limits_usable, profile_with_limits};
 ghost use Rattle.lfs_model.specs.tree.View.{accepts_version};
-ghost use Rattle.lfs_model.specs.layers.WrittenContent.{fields_bytes, is_zero};
+ghost use Rattle.lfs_model.specs.layers.WrittenContent.{superblock_fields_bytes, is_zero};
 ghost use Rattle.lfs_tag.specs.FieldsView.{superblock_view, move_view};
 
 use byteorder::{ByteOrder, LittleEndian};
@@ -70,7 +70,7 @@ impl Superblock {
           file_max = profile_file_max geometry.now.profile;
           attr_max = profile_attr_max geometry.now.profile;
         } }
-        ensures bytes { fields_bytes (superblock_view result) ≡ superblock_bytes geometry.now.profile geometry.now.block_size geometry.now.block_count }
+        ensures bytes { superblock_fields_bytes (superblock_view result) ≡ superblock_bytes geometry.now.profile geometry.now.block_size geometry.now.block_count }
     {
         Superblock {
             version: Superblock::VERSION,
@@ -93,7 +93,7 @@ impl Superblock {
 
     /// Returns whether each limit is at least 1 and at most the maximum that the format allows.
     fn has_usable_limits(&self) -> bool
-        ensures { result ≡ limits_usable (superblock_view self.now) }
+        ensures { result ≡ are_limits_usable (superblock_view self.now) }
     {
         (1..=255).contains(&self.name_max)
             && (1..=2_147_483_647).contains(&self.file_max)
@@ -157,7 +157,7 @@ impl MoveState {
 // Decodes the two block addresses at the start of `bytes`.
 pub(crate) fn address_from_bytes(bytes: &[u8]) -> [u32; 2]
     requires { 8 ≤ length bytes.now }
-    ensures { address_view result ≡ decoded_address bytes.now }
+    ensures { address_of_array result ≡ decoded_address bytes.now }
 {
     let first = LittleEndian::read_u32(bytes);
     let second = LittleEndian::read_u32(&bytes[4..]);
@@ -180,7 +180,7 @@ pub(crate) fn move_from_bytes(bytes: &[u8]) -> MoveState
 
 /// Decodes a pair's address from a tail or from a directory's struct.
 pub fn pair_of(bytes: &[u8; 8]) -> [u32; 2]
-    ensures { address_view result ≡ decoded_address bytes.now }
+    ensures { address_of_array result ≡ decoded_address bytes.now }
 {
     address_from_bytes(bytes)
 }
@@ -188,7 +188,7 @@ pub fn pair_of(bytes: &[u8; 8]) -> [u32; 2]
 /// Decodes a file's CTZ struct (SPEC.md of littlefs, "0x202 LFS_TYPE_CTZSTRUCT"). Returns the
 /// address of the CTZ skip-list's last block, called the head, and the file's size in bytes.
 pub fn ctz_of(bytes: &[u8; 8]) -> (u32, u32)
-    ensures { decoded_struct ctz_type bytes.now ≡ Ctz result.0 result.1 }
+    ensures { decoded_struct ctz_struct_type bytes.now ≡ Ctz result.0 result.1 }
 {
     let words = address_from_bytes(bytes);
     (words[0], words[1])

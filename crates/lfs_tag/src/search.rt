@@ -4,7 +4,7 @@ ghost use Rattle.std.specs.Prelude.{◌≡◌, ℕ, ◌+◌, ◌-◌, ◌≤◌,
 ghost use Rattle.std.specs.Option.{option_copied, option_map};
 ghost use Rattle.lfs_model.specs.format.Log.{block_entries};
 ghost use Rattle.lfs_model.specs.format.Content.{RawContent, content_after, empty_raw_content, slot_of_id};
-ghost use Rattle.lfs_model.specs.layers.Lookup.{bytes_at, part_bytes};
+ghost use Rattle.lfs_model.specs.layers.Lookup.{bytes_at, bytes_if_type};
 ghost use Rattle.lfs_tag.specs.ContentView.{part_view};
 ghost use Rattle.lfs_tag.specs.EntrySearch.{splice_effect_of, slot_effect, found_in_entries, searched_count};
 ghost use Rattle.lfs_tag.specs.VerdictView.{entry_effect_view};
@@ -111,7 +111,7 @@ fn newest_of_slot<'a>(
 
 // Returns the bytes of a name, struct or attribute if its type is `kind`.
 fn matching_bytes<'a>(part: Option<NameOrStruct<'a>>, kind: u16) -> Option<&'a [u8]>
-    ensures { option_copied result ≡ part_bytes kind (option_map part_view part.entry) }
+    ensures { option_copied result ≡ bytes_if_type kind (option_map part_view part.entry) }
 {
     match part {
         Some(part) if part.kind == kind => Some(part.bytes),

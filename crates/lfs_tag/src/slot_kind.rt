@@ -1,7 +1,7 @@
 // The kind of a slot, as the type of its name determines it.
 
 ghost use Rattle.std.specs.Prelude.{◌≡◌, Some};
-ghost use Rattle.lfs_model.specs.format.Content.{complete_slot, kind_of_type};
+ghost use Rattle.lfs_model.specs.format.Content.{decoded_slot, kind_of_type};
 ghost use Rattle.lfs_model.specs.format.Slots.{Slot as ModelSlot, is_superblock, is_superblock_kind};
 ghost use Rattle.lfs_tag.specs.ContentView.{slot_view};
 ghost use Rattle.lfs_tag.specs.KindView.{name_kind_view, is_superblock_name};
@@ -48,7 +48,7 @@ impl Slot<'_> {
     /// directory's.
     pub fn is_superblock(&self) -> bool
         ensures named { result ≡ is_superblock_name (slot_view self.now).name }
-        ensures complete { (s : ModelSlot) → complete_slot (slot_view self.now) ≡ Some s → result ≡ is_superblock s }
+        ensures complete { (s : ModelSlot) → decoded_slot (slot_view self.now) ≡ Some s → result ≡ is_superblock s }
     {
         match self.name {
             Some(name) => SlotNameKind::of(&name).is_superblock(),

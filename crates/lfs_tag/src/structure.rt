@@ -3,7 +3,7 @@
 ghost use Rattle.std.specs.Prelude.{◌≡◌, Some};
 ghost use Rattle.std.specs.Option.{option_map};
 ghost use Rattle.lfs_model.specs.format.Content.{decoded_struct};
-ghost use Rattle.lfs_model.specs.layers.LoggedContent.{IsAllowedPart};
+ghost use Rattle.lfs_model.specs.layers.LoggedContent.{IsNameOrStruct};
 ghost use Rattle.lfs_tag.specs.ContentView.{part_view};
 
 use crate::content::NameOrStruct;
@@ -29,7 +29,7 @@ impl<'a> Struct<'a> {
     /// directory struct doesn't have 8 bytes. If a log isn't malformed, all of its structs can be
     /// decoded.
     pub fn of(part: &NameOrStruct<'a>) -> Option<Struct<'a>>
-        ensures says { IsAllowedPart 2 (part_view part.now) → option_map struct_view result ≡ Some (decoded_struct part.now.kind part.now.bytes.now) }
+        ensures says { IsNameOrStruct 2 (part_view part.now) → option_map struct_view result ≡ Some (decoded_struct part.now.kind part.now.bytes.now) }
         ensures only { option_map struct_view result ≡ part_struct (part_view part.now) }
     {
         match (part.kind, <&[u8; 8]>::try_from(part.bytes)) {

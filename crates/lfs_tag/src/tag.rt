@@ -1,7 +1,7 @@
 // The tags of a log's entries.
 
 ghost use Rattle.std.specs.Prelude.{◌≡◌, ◌<◌, ◌^◌, ◌%◌, ◌↔◌, IsTrue, bit_xor};
-ghost use Rattle.lfs_model.specs.format.Tag.{IsValidTag, tag_type, tag_id, tag_length, tag_class, tag_chunk, tag_data_size, is_commit_end, make_tag, tag_before_next};
+ghost use Rattle.lfs_model.specs.format.Tag.{IsValidTag, tag_type, tag_id, tag_length, tag_class, tag_chunk, tag_data_size, is_commit_end, make_tag, tag_for_next_xor};
 ghost use Rattle.lfs_model.specs.format.EntryTypes.{is_attribute_removal};
 
 use crate::kinds::{CHECKSUM_CLASS, FORWARD_CHECKSUM};
@@ -155,7 +155,7 @@ impl Tag {
     // lowest chunk bit flips the top bit. By the flipped bit, a commit can make the bytes after it
     // decode as an invalid tag.
     pub(crate) fn as_previous_tag(self) -> Tag
-        ensures { result ≡ tag_before_next self }
+        ensures { result ≡ tag_for_next_xor self }
     {
         if self.ends_commit() {
             Tag {

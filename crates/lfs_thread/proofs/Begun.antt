@@ -1,12 +1,12 @@
 -- The pairs of a thread, read one after the other.
 use Rattle.std.proofs.Common.{ℕ, zero, suc, ◌≡◌, ◌≢◌, ◌⊎◌, inl, inr, ◌↔◌, ◌+◌, ◌<◌, ◌≤◌, nat_eq, true, false, List, [], ◌∷◌, ◌++◌, length, Option, Some, None, refl, sym, ap, subst, ◌∙◌, arith, set, replicate}
 use Rattle.std.specs.Prelude.{Contains, is_some, slice_get}
-use Rattle.lfs_thread.proofs.Common.{option_and_then, option_map, eqb_tells, slice_get_within, map-append, length-set, ReadsOnly, Blocks, Free, InFlight, Used, BlockStates, IsFree, IsInFlight, IsUsedBlock, Disk, block_count, CallEvent, OnlyReadsSince, PairContent, complete_content, content_at, raw_content, Pair, anchor_address, AreLinked, tail_target, pairs_blocks, slice_get-set_same, slice_get-set_other, Contains-number_occurrences, completed_parts, goes_on_by, number_occurrences, count_here, once_from_distinct, distinct_from_once, tail_view, IsPairAddress, header_address, PairHeader, disk_pair_at, header_pairs, IsHeader, AllBlocksUsed, IsKeptOnDisk, ThreadBeginsWith, IsThreadBeginning}
+use Rattle.lfs_thread.proofs.Common.{option_and_then, option_map, eqb_tells, slice_get_within, map-append, length-set, ReadsOnly, Blocks, Free, InFlight, Used, BlockStates, IsFree, IsInFlight, IsUsedBlock, Disk, block_count, CallEvent, OnlyReadsSince, PairContent, decoded_content, content_at, raw_content, Pair, superblock_pair_address, AreLinkedByTails, tail_target, pairs_blocks, slice_get-set_same, slice_get-set_other, Contains-occurrence_count, completed_parts, goes_on_by, occurrence_count, count_here, once_from_distinct, distinct_from_once, tail_view, IsPairAddress, header_address, PairHeader, disk_pair_at, header_pairs, IsHeader, AllBlocksUsed, IsKeptOnDisk, ThreadBeginsWith, IsThreadBeginning}
 use Rattle.std.proofs.lemmas.List.{length-replicate}
 use Rattle.lfs_device.specs.declared.device.BlockDevice.{Ghosts}
 use Rattle.lfs_model.specs.layers.BlockSets.{AreInFlight}
-use Rattle.lfs_model.specs.layers.Violations.{LeadsByTails}
-use Rattle.lfs_model.proofs.BlockSets.{number_occurrences-Contains, used_count-AreUsed, counts_le}
+use Rattle.lfs_model.specs.layers.Violations.{AreLinkedUpTo}
+use Rattle.lfs_model.proofs.BlockSets.{occurrence_count-Contains, used_count-AreUsed, counts_le}
 use Rattle.lfs_pair.specs.Pair.{FetchFinds}
 use Rattle.lfs_thread.specs.Begun.{OnFreeBlocks}
 use Rattle.lfs_thread.proofs.Keeping.{headers_append, header_content, header_contents, pair_on_content, blocks_append}
@@ -16,9 +16,9 @@ use Rattle.lfs_thread.proofs.Coming.{two_unused, free_unused}
 -- ---- a pair that was fetched
 
 pub fetched_header : (disk : Disk) (history : List CallEvent) (at : ℕ × ℕ) (pair : PairHeader) → IsPairAddress disk at → FetchFinds disk history at pair → pair.is_complete ≡ true → IsHeader disk history pair
-fetched_header disk history at pair on f full = go (complete_content f.held) refl (sym f.is_pair.describes.sums.complete ∙ full)
+fetched_header disk history at pair on f full = go (decoded_content f.held) refl (sym f.is_pair.describes.sums.complete ∙ full)
   where
-    go : (o : Option PairContent) → complete_content f.held ≡ o → is_some {T = PairContent} o ≡ true → IsHeader disk history pair
+    go : (o : Option PairContent) → decoded_content f.held ≡ o → is_some {T = PairContent} o ≡ true → IsHeader disk history pair
     go None e k = absurd (cc)
     go (Some c) e k = record {
       address = subst (IsPairAddress disk) (sym f.at) on;
@@ -43,7 +43,7 @@ fetched_stands disk history at pair sets on f full first second =
 
 -- no content, if a slot lacks its name or its struct
 pub fetched_incomplete : (disk : Disk) (history : List CallEvent) (at : ℕ × ℕ) (pair : PairHeader) → FetchFinds disk history at pair → pair.is_complete ≡ false → content_at disk at ≡ None
-fetched_incomplete disk history at pair f not_full = ap (option_and_then complete_content) f.content ∙ go (complete_content f.held) (sym f.is_pair.describes.sums.complete ∙ not_full)
+fetched_incomplete disk history at pair f not_full = ap (option_and_then decoded_content) f.content ∙ go (decoded_content f.held) (sym f.is_pair.describes.sums.complete ∙ not_full)
   where
     go : (o : Option PairContent) → is_some {T = PairContent} o ≡ false → o ≡ None
     go None k = refl
@@ -64,27 +64,27 @@ all_free zero b l = absurd (omega arith)
 all_free (suc n) zero l = refl
 all_free (suc n) (suc b) l = all_free n b (omega arith)
 
-pub begun_none : (disk : Disk) (history : List CallEvent) (n : ℕ) → n ≡ block_count disk → IsThreadBeginning disk history [] (replicate n Free) (Some anchor_address)
+pub begun_none : (disk : Disk) (history : List CallEvent) (n : ℕ) → n ≡ block_count disk → IsThreadBeginning disk history [] (replicate n Free) (Some superblock_pair_address)
 begun_none disk history n e = record {
   each = tt;
   links = refl;
   distinct = distinct_from_once [] (λ b. omega arith);
   size = length-replicate n Free ∙ e;
-  marked = λ b. ((λ u. absurd (none_used n b u)), (λ h. absurd (omega (arith, number_occurrences-Contains [] b h))));
+  marked = λ b. ((λ u. absurd (none_used n b u)), (λ h. absurd (omega (arith, occurrence_count-Contains [] b h))));
   others = λ b l. inr (all_free n b (let k = length-replicate n Free in omega arith));
 }
 
 -- ---- one more
 
-leads_on : (at : Option (ℕ × ℕ)) (ps : List Pair) (p : Pair) → LeadsByTails at ps (Some p.at) → LeadsByTails at (ps ++ p ∷ []) (tail_target p.content.tail)
+leads_on : (at : Option (ℕ × ℕ)) (ps : List Pair) (p : Pair) → AreLinkedUpTo at ps (Some p.at) → AreLinkedUpTo at (ps ++ p ∷ []) (tail_target p.content.tail)
 leads_on at [] p l = (l, refl)
 leads_on at (q ∷ ps) p l = (l.0, leads_on (tail_target q.content.tail) ps p l.1)
 
 all_used : (sets : BlockStates) (bs : List ℕ) → ((b : ℕ) → Contains bs b → IsUsedBlock sets b) → AllBlocksUsed sets bs
 all_used sets [] f = tt
-all_used sets (b ∷ bs) f = (f b (Contains-number_occurrences (b ∷ bs) b (let k = count_here b bs in omega arith)), all_used sets bs (λ c h. f c (Contains-number_occurrences (b ∷ bs) c (let k = number_occurrences-Contains bs c h in let l = more c b bs in omega arith))))
+all_used sets (b ∷ bs) f = (f b (Contains-occurrence_count (b ∷ bs) b (let k = count_here b bs in omega arith)), all_used sets bs (λ c h. f c (Contains-occurrence_count (b ∷ bs) c (let k = occurrence_count-Contains bs c h in let l = more c b bs in omega arith))))
   where
-    more : (x b : ℕ) (bs : List ℕ) → number_occurrences x bs ≤ number_occurrences x (b ∷ bs)
+    more : (x b : ℕ) (bs : List ℕ) → occurrence_count x bs ≤ occurrence_count x (b ∷ bs)
     more x b bs = omega arith
 
 used_now : (disk : Disk) (history : List CallEvent) (hs : List PairHeader) (sets : BlockStates) (next : Option (ℕ × ℕ)) → IsThreadBeginning disk history hs sets next → AllBlocksUsed sets (pairs_blocks (header_pairs disk hs))
@@ -105,9 +105,9 @@ module _ (disk : Disk) (blocks : Blocks) (before after : List CallEvent) (hs : L
   pairs_now : header_pairs disk (hs ++ h ∷ []) ≡ header_pairs disk hs ++ p ∷ []
   pairs_now = map-append (λ x. disk_pair_at disk (header_address x)) hs (h ∷ [])
 
-  counts : (b : ℕ) → number_occurrences b (pairs_blocks (header_pairs disk (hs ++ h ∷ []))) ≡ number_occurrences b (pairs_blocks (header_pairs disk hs)) + number_occurrences b (at.0 ∷ at.1 ∷ [])
-  counts b = ap (λ z. number_occurrences b (pairs_blocks z)) pairs_now ∙ blocks_append (header_pairs disk hs) (p ∷ []) b
-      ∙ ap (λ (x : ℕ × ℕ). number_occurrences b (pairs_blocks (header_pairs disk hs)) + number_occurrences b (x.0 ∷ x.1 ∷ [])) same
+  counts : (b : ℕ) → occurrence_count b (pairs_blocks (header_pairs disk (hs ++ h ∷ []))) ≡ occurrence_count b (pairs_blocks (header_pairs disk hs)) + occurrence_count b (at.0 ∷ at.1 ∷ [])
+  counts b = ap (λ z. occurrence_count b (pairs_blocks z)) pairs_now ∙ blocks_append (header_pairs disk hs) (p ∷ []) b
+      ∙ ap (λ (x : ℕ × ℕ). occurrence_count b (pairs_blocks (header_pairs disk hs)) + occurrence_count b (x.0 ∷ x.1 ∷ [])) same
 
   first_within : at.0 < length sets
   first_within = slice_get_within sets at.0 Free stands.first_free
@@ -134,18 +134,18 @@ module _ (disk : Disk) (blocks : Blocks) (before after : List CallEvent) (hs : L
       go (inr k) (inl l) = inl (inr l.1)
       go (inr k) (inr l) = inr (k.1, l.1)
 
-  one_of : (b : ℕ) → (b ≡ at.0) ⊎ (b ≡ at.1) → (IsUsedBlock now b) × (1 ≤ number_occurrences b (at.0 ∷ at.1 ∷ []))
-  one_of b (inl e) = (subst (IsUsedBlock now) (sym e) first_used, (let k = ap (λ x. number_occurrences x (at.0 ∷ at.1 ∷ [])) e in let l = count_here at.0 (at.1 ∷ []) in omega arith))
-  one_of b (inr e) = (subst (IsUsedBlock now) (sym e) second_used, (let k = ap (λ x. number_occurrences x (at.0 ∷ at.1 ∷ [])) e in let l = count_here at.1 [] in let m = more at.1 at.0 (at.1 ∷ []) in omega arith))
+  one_of : (b : ℕ) → (b ≡ at.0) ⊎ (b ≡ at.1) → (IsUsedBlock now b) × (1 ≤ occurrence_count b (at.0 ∷ at.1 ∷ []))
+  one_of b (inl e) = (subst (IsUsedBlock now) (sym e) first_used, (let k = ap (λ x. occurrence_count x (at.0 ∷ at.1 ∷ [])) e in let l = count_here at.0 (at.1 ∷ []) in omega arith))
+  one_of b (inr e) = (subst (IsUsedBlock now) (sym e) second_used, (let k = ap (λ x. occurrence_count x (at.0 ∷ at.1 ∷ [])) e in let l = count_here at.1 [] in let m = more at.1 at.0 (at.1 ∷ []) in omega arith))
     where
-      more : (x b : ℕ) (bs : List ℕ) → number_occurrences x bs ≤ number_occurrences x (b ∷ bs)
+      more : (x b : ℕ) (bs : List ℕ) → occurrence_count x bs ≤ occurrence_count x (b ∷ bs)
       more x b bs = omega arith
 
-  no_other : (b : ℕ) → b ≢ at.0 → b ≢ at.1 → number_occurrences b (at.0 ∷ at.1 ∷ []) ≡ 0
+  no_other : (b : ℕ) → b ≢ at.0 → b ≢ at.1 → occurrence_count b (at.0 ∷ at.1 ∷ []) ≡ 0
   no_other b f g = go (eqb_tells b at.0) (eqb_tells b at.1)
     where
       go : ((nat_eq b at.0 ≡ true) × (b ≡ at.0)) ⊎ ((nat_eq b at.0 ≡ false) × (b ≢ at.0)) → ((nat_eq b at.1 ≡ true) × (b ≡ at.1)) ⊎ ((nat_eq b at.1 ≡ false) × (b ≢ at.1))
-          → number_occurrences b (at.0 ∷ at.1 ∷ []) ≡ 0
+          → occurrence_count b (at.0 ∷ at.1 ∷ []) ≡ 0
       go (inl k) l = absurd (f k.1)
       go (inr k) (inl l) = absurd (g l.1)
       go (inr k) (inr l) = rw (k.0, l.0) refl
@@ -157,17 +157,17 @@ module _ (disk : Disk) (blocks : Blocks) (before after : List CallEvent) (hs : L
       to u = go (which b)
         where
           go : ((b ≡ at.0) ⊎ (b ≡ at.1)) ⊎ ((b ≢ at.0) × (b ≢ at.1)) → Contains (pairs_blocks (header_pairs disk (hs ++ h ∷ []))) b
-          go (inl k) = Contains-number_occurrences (pairs_blocks (header_pairs disk (hs ++ h ∷ []))) b (let e = counts b in let l = (one_of b k).1 in omega arith)
-          go (inr k) = Contains-number_occurrences (pairs_blocks (header_pairs disk (hs ++ h ∷ []))) b
-              (let e = counts b in let l = number_occurrences-Contains (pairs_blocks (header_pairs disk hs)) b ((begun.marked b).0 (sym (other_same b k.0 k.1) ∙ u)) in omega arith)
+          go (inl k) = Contains-occurrence_count (pairs_blocks (header_pairs disk (hs ++ h ∷ []))) b (let e = counts b in let l = (one_of b k).1 in omega arith)
+          go (inr k) = Contains-occurrence_count (pairs_blocks (header_pairs disk (hs ++ h ∷ []))) b
+              (let e = counts b in let l = occurrence_count-Contains (pairs_blocks (header_pairs disk hs)) b ((begun.marked b).0 (sym (other_same b k.0 k.1) ∙ u)) in omega arith)
 
       from : Contains (pairs_blocks (header_pairs disk (hs ++ h ∷ []))) b → IsUsedBlock now b
       from c = go (which b)
         where
           go : ((b ≡ at.0) ⊎ (b ≡ at.1)) ⊎ ((b ≢ at.0) × (b ≢ at.1)) → IsUsedBlock now b
           go (inl k) = (one_of b k).0
-          go (inr k) = other_same b k.0 k.1 ∙ (begun.marked b).1 (Contains-number_occurrences (pairs_blocks (header_pairs disk hs)) b
-              (let e = counts b in let l = number_occurrences-Contains (pairs_blocks (header_pairs disk (hs ++ h ∷ []))) b c in let m = no_other b k.0 k.1 in omega arith))
+          go (inr k) = other_same b k.0 k.1 ∙ (begun.marked b).1 (Contains-occurrence_count (pairs_blocks (header_pairs disk hs)) b
+              (let e = counts b in let l = occurrence_count-Contains (pairs_blocks (header_pairs disk (hs ++ h ∷ []))) b c in let m = no_other b k.0 k.1 in omega arith))
 
   others_now : (b : ℕ) → b < length now → IsUsedBlock now b ⊎ IsFree now b
   others_now b l = go (which b)
@@ -186,9 +186,9 @@ module _ (disk : Disk) (blocks : Blocks) (before after : List CallEvent) (hs : L
   pub begun_more : IsThreadBeginning disk after (hs ++ h ∷ []) now (tail_target (option_map tail_view h.tail))
   begun_more = record {
     each = headers_append disk after hs (h ∷ []) (headers_read disk blocks before after hs reads begun.each) (is, tt);
-    links = subst (λ ps. LeadsByTails (Some anchor_address) ps (tail_target (option_map tail_view h.tail))) (sym pairs_now)
-        (subst (λ t. LeadsByTails (Some anchor_address) (header_pairs disk hs ++ p ∷ []) (tail_target t)) tail_is
-        (leads_on (Some anchor_address) (header_pairs disk hs) p (subst (λ a. LeadsByTails (Some anchor_address) (header_pairs disk hs) (Some a)) (sym same) begun.links)));
+    links = subst (λ ps. AreLinkedUpTo (Some superblock_pair_address) ps (tail_target (option_map tail_view h.tail))) (sym pairs_now)
+        (subst (λ t. AreLinkedUpTo (Some superblock_pair_address) (header_pairs disk hs ++ p ∷ []) (tail_target t)) tail_is
+        (leads_on (Some superblock_pair_address) (header_pairs disk hs) p (subst (λ a. AreLinkedUpTo (Some superblock_pair_address) (header_pairs disk hs) (Some a)) (sym same) begun.links)));
     distinct = distinct_from_once (pairs_blocks (header_pairs disk (hs ++ h ∷ []))) (λ b.
         let e = counts b in
         let k = two_unused sets at.0 at.1 (pairs_blocks (header_pairs disk hs)) (free_unused sets at.0 stands.first_free) (free_unused sets at.1 stands.second_free) stands.apart (used_now disk before hs sets (Some at) begun) (once_from_distinct (pairs_blocks (header_pairs disk hs)) begun.distinct) b in
@@ -200,14 +200,14 @@ module _ (disk : Disk) (blocks : Blocks) (before after : List CallEvent) (hs : L
 
 -- ---- at the end
 
-leads_linked : (at : Option (ℕ × ℕ)) (ps : List Pair) → LeadsByTails at ps None → AreLinked at ps
+leads_linked : (at : Option (ℕ × ℕ)) (ps : List Pair) → AreLinkedUpTo at ps None → AreLinkedByTails at ps
 leads_linked at [] l = l
 leads_linked at (p ∷ ps) l = (l.0, leads_linked (tail_target p.content.tail) ps l.1)
 
 pub begun_kept : (disk : Disk) (history : List CallEvent) (hs : List PairHeader) (sets : BlockStates) → IsThreadBeginning disk history hs sets None → IsKeptOnDisk disk history hs sets
 begun_kept disk history hs sets begun = record {
   each = begun.each;
-  links = leads_linked (Some anchor_address) (header_pairs disk hs) begun.links;
+  links = leads_linked (Some superblock_pair_address) (header_pairs disk hs) begun.links;
   distinct = begun.distinct;
   size = begun.size;
   used = used_now disk history hs sets None begun;
@@ -226,7 +226,7 @@ begun_none_in_flight disk history hs sets next begun b = (
 pub begun_before : (disk : Disk) (history : List CallEvent) (hs : List PairHeader) (sets : BlockStates) (next : Option (ℕ × ℕ)) (at : ℕ × ℕ) → next ≡ Some at → IsThreadBeginning disk history hs sets next
     → ThreadBeginsWith disk sets (header_pairs disk hs) at
 begun_before disk history hs sets next at is begun = record {
-  begins = record { links = subst (LeadsByTails (Some anchor_address) (header_pairs disk hs)) is begun.links; contents = header_contents disk history hs begun.each };
+  begins = record { links = subst (AreLinkedUpTo (Some superblock_pair_address) (header_pairs disk hs)) is begun.links; contents = header_contents disk history hs begun.each };
   marked = begun.marked;
   others = begun.others;
 }
@@ -256,9 +256,9 @@ read_on first second = record {
   reads = then_reads first.reads first.same second.reads;
 }
 
-pub begun_first : (disk : Disk) (history : List CallEvent) (hs : List PairHeader) (sets : BlockStates) (n : ℕ) → n ≡ block_count disk → hs ≡ [] → sets ≡ replicate n Free → IsThreadBeginning disk history hs sets (Some anchor_address)
+pub begun_first : (disk : Disk) (history : List CallEvent) (hs : List PairHeader) (sets : BlockStates) (n : ℕ) → n ≡ block_count disk → hs ≡ [] → sets ≡ replicate n Free → IsThreadBeginning disk history hs sets (Some superblock_pair_address)
 begun_first disk history hs sets n e f g =
-    subst (λ z. IsThreadBeginning disk history z sets (Some anchor_address)) (sym f) (subst (λ s. IsThreadBeginning disk history [] s (Some anchor_address)) (sym g) (begun_none disk history n e))
+    subst (λ z. IsThreadBeginning disk history z sets (Some superblock_pair_address)) (sym f) (subst (λ s. IsThreadBeginning disk history [] s (Some superblock_pair_address)) (sym g) (begun_none disk history n e))
 
 pub begun_next : (disk now : Disk) (blocks : Blocks) (before after : List CallEvent) (hs items : List PairHeader) (sets marked : BlockStates) (next : Option (ℕ × ℕ)) (at : ℕ × ℕ) (h : PairHeader) (behind : Option (ℕ × ℕ))
     → now ≡ disk → OnlyReadsSince blocks before after → next ≡ Some at → IsThreadBeginning disk before hs sets next → IsHeader disk after h → header_address h ≡ at → OnFreeBlocks disk sets at

@@ -6,9 +6,9 @@ use Rattle.lfs_device.specs.declared.geometry.Geometry.{Geometry}
 use Rattle.lfs_device.specs.DeviceCalls.{ChangesTheseBlocks, ReportsFaults}
 use Rattle.lfs_thread.proofs.Common.{AllCallsSince-behind, Blocks, CallEvent, CanCommit, ChangesReadingFew, CleanLossLeaves, CommitsChanges, ContentChange, Disk, HoldsAtLosses, HoldsAtLosses-weaker, LeftByLoss, LossLeavesChanged, OnlyReadsSince, RawContent, ReadsOnly, SameExceptBlocks, addresses_blocks, address_blocks, changed_pair_content, disk_of_blocks, goes_on_by, header_address, read_count}
 use Rattle.lfs_model.proofs.Overwrites.{SameExceptBlocks-refl}
-use Rattle.lfs_model.proofs.Histories.{AreUnprogrammed-read_count, HoldsAtLosses-read_count, LeftByLoss-read, LossLeavesAtWorst-read, OnlyReadsSince-trans, StayUnprogrammed-read_count, StayUnprogrammed-trans, blank_count-read_count, erase_count-read_count, program_count-read_count}
+use Rattle.lfs_model.proofs.Histories.{AreUnprogrammed-read_count, HoldsAtLosses-read_count, LeftByLoss-read, LossLeavesAtWorst-read, OnlyReadsSince-trans, OthersStayUnprogrammed-read_count, OthersStayUnprogrammed-trans, blank_answer_count-read_count, erase_count-read_count, program_count-read_count}
 use Rattle.lfs_model.specs.session.History.{fault_count}
-use Rattle.lfs_model.specs.layers.WrittenContent.{RawContentFits}
+use Rattle.lfs_model.specs.layers.WrittenContent.{RawContentFitsInPair}
 use Rattle.lfs_model.specs.format.Slots.{FitsInPair}
 use Rattle.lfs_pair.specs.declared.pair.Pair.{Pair}
 use Rattle.lfs_pair.specs.Commits.{AppendFits, CommitFails, IsEndUnprogrammed, RefusesCommit}
@@ -31,14 +31,14 @@ appends_ahead {before = before} {mid} {after} {pair} reads can = record { known 
   where
     known : IsEndUnprogrammed before after pair → IsEndUnprogrammed mid after pair
     known (inl written) = inl written
-    known (inr blank) = let same = blank_count-read_count reads in inr (omega (arith, same, blank))
+    known (inr blank) = let same = blank_answer_count-read_count reads in inr (omega (arith, same, blank))
 
 appends_behind : {blocks : Blocks} {disk : Disk} {before mid after : List CallEvent} {pair : Pair} {changes : List ContentChange} → OnlyReadsSince blocks before mid → AppendFits disk mid after pair changes → AppendFits disk before after pair changes
 appends_behind {before = before} {mid} {after} {pair} reads can = record { known = known can.known; room = can.room }
   where
     known : IsEndUnprogrammed mid after pair → IsEndUnprogrammed before after pair
     known (inl written) = inl written
-    known (inr blank) = let same = blank_count-read_count reads in inr (omega (arith, same, blank))
+    known (inr blank) = let same = blank_answer_count-read_count reads in inr (omega (arith, same, blank))
 
 module _ {D : Type 0} {g : Ghosts D} {old mid : D} (read : ReadsOnly g old mid) where
   -- the disk is the same
@@ -65,7 +65,7 @@ module _ {D : Type 0} {g : Ghosts D} {old mid : D} (read : ReadsOnly g old mid) 
   pub only_read : {bs : List ℕ} → ChangesTheseBlocks g bs old mid
   only_read {bs} = record {
     others = subst (SameExceptBlocks bs (g.blocks old)) (sym read.same) (SameExceptBlocks-refl bs (g.blocks old));
-    elsewhere = StayUnprogrammed-read_count bs read.reads;
+    elsewhere = OthersStayUnprogrammed-read_count bs read.reads;
     geometry = read.geometry;
     at_worst = HoldsAtLosses-read_count LossLeavesAtWorst-read read.reads (SameExceptBlocks-refl bs (g.blocks old));
   }
@@ -81,7 +81,7 @@ module _ {D : Type 0} {g : Ghosts D} {old mid : D} (read : ReadsOnly g old mid) 
     pub only_behind : {bs : List ℕ} → ChangesTheseBlocks g bs mid new → ChangesTheseBlocks g bs old new
     only_behind {bs} only = record {
       others = subst (λ b. SameExceptBlocks bs b (g.blocks new)) read.same only.others;
-      elsewhere = StayUnprogrammed-trans (StayUnprogrammed-read_count bs read.reads) only.elsewhere;
+      elsewhere = OthersStayUnprogrammed-trans (OthersStayUnprogrammed-read_count bs read.reads) only.elsewhere;
       geometry = only.geometry ∙ read.geometry;
       at_worst = goes_on_by only_read.at_worst (HoldsAtLosses-weaker (λ disk left. subst (λ b. SameExceptBlocks bs b disk) read.same left) only.at_worst);
     }
@@ -107,7 +107,7 @@ module _ {D : Type 0} {g : Ghosts D} {old mid : D} (read : ReadsOnly g old mid) 
     pub refuses_behind : {was now : Pair} {changes : List ContentChange} → RefusesCommit g changes mid new was now → RefusesCommit g changes old new was now
     refuses_behind {was} {now} {changes} refuses = record {
       full = λ c made fits.
-          refuses.full c (ap (λ d. changed_pair_content d (header_address was) changes) same_disk ∙ made) (subst (λ (k : Geometry). RawContentFits k.block_size k.page c) (sym read.geometry) fits);
+          refuses.full c (ap (λ d. changed_pair_content d (header_address was) changes) same_disk ∙ made) (subst (λ (k : Geometry). RawContentFitsInPair k.block_size k.page c) (sym read.geometry) fits);
       completed = λ c d made whole fits.
           refuses.completed c d (ap (λ d. changed_pair_content d (header_address was) changes) same_disk ∙ made) whole (subst (λ (k : Geometry). FitsInPair k.block_size k.page d) (sym read.geometry) fits);
       pair = refuses.pair;
@@ -143,7 +143,7 @@ module _ {D : Type 0} {g : Ghosts D} {old mid : D} (read : ReadsOnly g old mid) 
                   holds = by.anew.holds;
                   erases = by.anew.erases ∙ ap (λ n. n + 1) (erase_count-read_count read.reads);
                   programs = by.anew.programs ∙ ap (λ n. n + 1) (program_count-read_count read.reads);
-                  blanks = by.anew.blanks ∙ blank_count-read_count read.reads;
+                  blanks = by.anew.blanks ∙ blank_answer_count-read_count read.reads;
                 };
                 end = by.end;
                 kept = by.kept;

@@ -1,7 +1,7 @@
 -- A thread stays as it is kept if no block of its pairs changes.
 use Rattle.std.proofs.Common.{ℕ, ◌≡◌, ◌≤◌, List, [], ◌∷◌, length, Some, None, refl, sym, ap, ap₂, subst, ◌∙◌, arith}
 use Rattle.std.specs.Prelude.{unwrap_or}
-use Rattle.lfs_thread.proofs.Common.{option_and_then, disk_of_blocks, Blocks, block_bytes, BlockStates, IsUsedBlock, CachedBlocks, complete_content, Disk, CallEvent, zero_gstate, AreLinked, anchor_address, pairs_blocks, Contains-number_occurrences, number_occurrences, count_here, IsSameAt, raw_same, header_address, AllBlocksUsed, AreHeaders, PairHeader, IsCacheCurrent, disk_pair_at, header_pairs, kept_of_device, disk_of_device, KeepsPairBlocks}
+use Rattle.lfs_thread.proofs.Common.{option_and_then, disk_of_blocks, Blocks, block_bytes, BlockStates, IsUsedBlock, CachedBlocks, decoded_content, Disk, CallEvent, zero_gstate, AreLinkedByTails, superblock_pair_address, pairs_blocks, Contains-occurrence_count, occurrence_count, count_here, IsSameAt, raw_same, header_address, AllBlocksUsed, AreHeaders, PairHeader, IsCacheCurrent, disk_pair_at, header_pairs, kept_of_device, disk_of_device, KeepsPairBlocks}
 use Rattle.lfs_device.specs.declared.device.BlockDevice.{Ghosts}
 use Rattle.lfs_device.specs.declared.geometry.Geometry.{Geometry}
 use Rattle.lfs_blocks.specs.UsedBlocks.{KeepsUsed}
@@ -15,15 +15,15 @@ pub disk_pair_at-beside : (disk : Disk) (blocks : Blocks) (at : ℕ × ℕ) → 
     → disk_pair_at (record disk { blocks = blocks }) at ≡ disk_pair_at disk at
 disk_pair_at-beside disk blocks at first second =
     let same : IsSameAt disk (record disk { blocks = blocks }) at = record { first = first; second = second } in
-    ap (λ r. record { at = at; content = unwrap_or (option_and_then complete_content r) (record { slots = []; tail = None; move = zero_gstate }) }) (raw_same same)
+    ap (λ r. record { at = at; content = unwrap_or (option_and_then decoded_content r) (record { slots = []; tail = None; move = zero_gstate }) }) (raw_same same)
 
 -- ---- all of them
 
-behind : (b a : ℕ) (bs : List ℕ) → number_occurrences b bs ≤ number_occurrences b (a ∷ bs)
+behind : (b a : ℕ) (bs : List ℕ) → occurrence_count b bs ≤ occurrence_count b (a ∷ bs)
 behind b a bs = omega arith
 
 module _ (disk : Disk) (blocks : Blocks) (before after : List CallEvent) (size : length blocks ≡ length disk.blocks) where
-  pub headers_beside : (hs : List PairHeader) → ((b : ℕ) → 1 ≤ number_occurrences b (pairs_blocks (header_pairs disk hs)) → IsAsItWas disk.blocks blocks before after b)
+  pub headers_beside : (hs : List PairHeader) → ((b : ℕ) → 1 ≤ occurrence_count b (pairs_blocks (header_pairs disk hs)) → IsAsItWas disk.blocks blocks before after b)
       → AreHeaders disk before hs → AreHeaders (record disk { blocks = blocks }) after hs
   headers_beside [] was are = tt
   headers_beside (h ∷ hs) was are =
@@ -33,7 +33,7 @@ module _ (disk : Disk) (blocks : Blocks) (before after : List CallEvent) (size :
         headers_beside hs (λ b k. was b (let m = behind b first (second ∷ rest) in let n = behind b second rest in omega arith)) are.1,
       )
 
-  pub pairs_beside : (hs : List PairHeader) → ((b : ℕ) → 1 ≤ number_occurrences b (pairs_blocks (header_pairs disk hs)) → IsAsItWas disk.blocks blocks before after b)
+  pub pairs_beside : (hs : List PairHeader) → ((b : ℕ) → 1 ≤ occurrence_count b (pairs_blocks (header_pairs disk hs)) → IsAsItWas disk.blocks blocks before after b)
       → header_pairs (record disk { blocks = blocks }) hs ≡ header_pairs disk hs
   pairs_beside [] was = refl
   pairs_beside (h ∷ hs) was =
@@ -43,7 +43,7 @@ module _ (disk : Disk) (blocks : Blocks) (before after : List CallEvent) (size :
       (was second (let m = count_here second rest in let k = behind second first (second ∷ rest) in omega arith)).same)
       (pairs_beside hs (λ b k. was b (let m = behind b first (second ∷ rest) in let n = behind b second rest in omega arith)))
 
-pub used_beside : (sets later : BlockStates) (bs : List ℕ) → AllBlocksUsed sets bs → ((b : ℕ) → 1 ≤ number_occurrences b bs → IsUsedBlock sets b → IsUsedBlock later b) → AllBlocksUsed later bs
+pub used_beside : (sets later : BlockStates) (bs : List ℕ) → AllBlocksUsed sets bs → ((b : ℕ) → 1 ≤ occurrence_count b bs → IsUsedBlock sets b → IsUsedBlock later b) → AllBlocksUsed later bs
 used_beside sets later [] used f = tt
 used_beside sets later (b ∷ bs) used f = (f b (let m = count_here b bs in omega arith) used.0, used_beside sets later bs used.1 (λ c k. f c (let m = behind c b bs in omega arith)))
 
@@ -54,8 +54,8 @@ module _ {D : Type 0} (g : Ghosts D) (device : D) (map : BlockStates) (later : D
   abbrev bs : List ℕ
   bs = pairs_blocks (header_pairs (disk_of_device g device) hs)
 
-  was : (b : ℕ) → 1 ≤ number_occurrences b bs → IsAsItWas (g.blocks device) (g.blocks later) (g.history device) (g.history later) b
-  was b k = let u = used_at map b bs kept.used k in let in_pairs = Contains-number_occurrences bs b k in record {
+  was : (b : ℕ) → 1 ≤ occurrence_count b bs → IsAsItWas (g.blocks device) (g.blocks later) (g.history device) (g.history later) b
+  was b k = let u = used_at map b bs kept.used k in let in_pairs = Contains-occurrence_count bs b k in record {
     same = leaves.same b u;
     stays = λ k. leaves.stays b k in_pairs u;
   }
@@ -69,11 +69,11 @@ module _ {D : Type 0} (g : Ghosts D) (device : D) (map : BlockStates) (later : D
   pub kept_left : IsKept g later hs later_map
   kept_left = record {
     each = subst (λ d. AreHeaders d (g.history later) hs) (sym now_is) (headers_beside (disk_of_device g device) (g.blocks later) (g.history device) (g.history later) leaves.count hs was kept.each);
-    links = subst (AreLinked (Some anchor_address)) (sym pairs_left) kept.links;
+    links = subst (AreLinkedByTails (Some superblock_pair_address)) (sym pairs_left) kept.links;
     distinct = rw pairs_left kept.distinct;
     size = leaves.size ∙ kept.size ∙ sym leaves.count;
     used = subst (λ ps. AllBlocksUsed later_map (pairs_blocks ps)) (sym pairs_left)
-        (used_beside map later_map bs kept.used (λ b k u. leaves.used b (Contains-number_occurrences bs b k) u));
+        (used_beside map later_map bs kept.used (λ b k u. leaves.used b (Contains-occurrence_count bs b k) u));
   }
 
 -- used blocks that don't change stay current in the cache

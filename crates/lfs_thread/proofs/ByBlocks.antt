@@ -2,7 +2,7 @@
 use Rattle.std.proofs.Common.{◌+◌, ◌++◌, ◌≢◌, ◌≤◌, ◌<◌, ◌^◌, length, map, subst, nat_cmp, nat_eq, ℕ, zero, suc, ◌≡◌, ◌⊎◌, inl, inr, ⊎_elim, Bool, true, false, cond, ◌&&◌, ◌==◌, List, [], ◌∷◌, Option, Some, None, refl, sym, ap, ap₂, ◌∙◌, arith, slice_get, option_map, min, max, eq-eqb, eqb-true, length-append, true≢false}
 use Rattle.std.proofs.lemmas.Bool.{cases_eq, cases_lt, and_parts, or_cases, or_left, or_right, and_from}
 use Rattle.std.specs.Prelude.{All}
-use Rattle.lfs_thread.proofs.Common.{AllByRecursion, IsDistinct, length-map, All-from_recursion, same_Some, slice_get_within, same_pair, Each, number_occurrences, count_here, once_from_distinct, distinct_from_once, FindsByLesser, blocks_of_addresses, lesser_of, address_index}
+use Rattle.lfs_thread.proofs.Common.{AllByRecursion, IsDistinct, length-map, All-from_recursion, same_Some, slice_get_within, same_pair, Each, occurrence_count, count_here, once_from_distinct, distinct_from_once, FindsByLesser, blocks_of_addresses, lesser_of, address_index}
 use Rattle.std.specs.Ordering.{is_eq}
 use Rattle.std.proofs.lemmas.Bool.Decides.{nat_tests}
 use Rattle.std.proofs.lemmas.List.Elements.{All-contains, All-map, All-push}
@@ -145,19 +145,19 @@ one_of_two b x y = ⊎_elim
     (λ (l : y ≤ x). let e : min x y ≡ y = omega arith in subst (λ (n : ℕ). cond (nat_eq b n) 1 0 ≤ cond (nat_eq b x) 1 0 + cond (nat_eq b y) 1 0) (sym e) (omega arith))
     (cases_lt x y)
 
-lesser_count : (b : ℕ) (addresses : List (ℕ × ℕ)) → number_occurrences b (map lesser_of addresses) ≤ number_occurrences b (blocks_of_addresses addresses)
+lesser_count : (b : ℕ) (addresses : List (ℕ × ℕ)) → occurrence_count b (map lesser_of addresses) ≤ occurrence_count b (blocks_of_addresses addresses)
 lesser_count b [] = omega arith
 lesser_count b (a ∷ addresses) = let n = lesser_count b addresses in let o = one_of_two b a.0 a.1 in omega arith
 
 -- pairs that have no block in common have lesser blocks of their own
-lesser_once : (addresses : List (ℕ × ℕ)) → IsDistinct nat_eq (blocks_of_addresses addresses) → (b : ℕ) → number_occurrences b (map lesser_of addresses) ≤ 1
+lesser_once : (addresses : List (ℕ × ℕ)) → IsDistinct nat_eq (blocks_of_addresses addresses) → (b : ℕ) → occurrence_count b (map lesser_of addresses) ≤ 1
 lesser_once addresses distinct b = let n = lesser_count b addresses in let o = once_from_distinct (blocks_of_addresses addresses) distinct b in omega arith
 
-apart_from : (n : ℕ) (xs : List (ℕ × ℕ)) (at : ℕ × ℕ) → number_occurrences n (map lesser_of (xs ++ at ∷ [])) ≡ 0 → n ≢ lesser_of at
-apart_from n [] at e = λ is. let h = count_here n [] in let k = subst (λ (m : ℕ). number_occurrences n (m ∷ []) ≡ 0) (sym is) e in absurd (omega arith)
+apart_from : (n : ℕ) (xs : List (ℕ × ℕ)) (at : ℕ × ℕ) → occurrence_count n (map lesser_of (xs ++ at ∷ [])) ≡ 0 → n ≢ lesser_of at
+apart_from n [] at e = λ is. let h = count_here n [] in let k = subst (λ (m : ℕ). occurrence_count n (m ∷ []) ≡ 0) (sym is) e in absurd (omega arith)
 apart_from n (x ∷ xs) at e = apart_from n xs at (omega arith)
 
-apart_each : (xs : List (ℕ × ℕ)) (at : ℕ × ℕ) → ((b : ℕ) → number_occurrences b (map lesser_of (xs ++ at ∷ [])) ≤ 1) → Each (λ x. lesser_of x ≢ lesser_of at) xs
+apart_each : (xs : List (ℕ × ℕ)) (at : ℕ × ℕ) → ((b : ℕ) → occurrence_count b (map lesser_of (xs ++ at ∷ [])) ≤ 1) → Each (λ x. lesser_of x ≢ lesser_of at) xs
 apart_each [] at once = tt
 apart_each (x ∷ xs) at once = (
   apart_from (lesser_of x) xs at (let o = once (lesser_of x) in let h = count_here (lesser_of x) (map lesser_of (xs ++ at ∷ [])) in omega arith),

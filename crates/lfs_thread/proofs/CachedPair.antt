@@ -1,6 +1,6 @@
 -- A pair whose active block is cached.
 use Rattle.std.proofs.Common.{ℕ, ◌≡◌, ◌<◌, ◌≤◌, ◌^◌, ◌+◌, true, false, List, [], ◌∷◌, ◌++◌, length, Option, None, Some, Result, Ok, Err, ◌⊎◌, inl, inr, rules, refl, sym, ap, subst, ◌∙◌, arith}
-use Rattle.lfs_thread.proofs.Common.{option_map, ElementsAreBytes, length-map, map-append, flat_map-append, BlockStates, IsUsedBlock, CachedBlocks, cached_bytes, cache_without, cached_bytes-without_other, Disk, disk_block, block_count, CallEvent, read_count, block_entries, content_after, current_block, empty_raw_content, PairContent, Tail, Pair, anchor_address, pairs_blocks, AreLinked, is_hard_tail, tail_target, complete_length, completed_parts, tail_view, move_view, active_block_at, header_address, is_second_active, ChangesReadingFew, AllBlocksUsed, PairHeader, IsHeader, IsKeptOnDisk, disk_pair_at, header_pairs, kept_view, IsContentLog, reads_unless_cached, FreshInFlight, thread_pair}
+use Rattle.lfs_thread.proofs.Common.{option_map, ElementsAreBytes, length-map, map-append, flat_map-append, BlockStates, IsUsedBlock, CachedBlocks, cached_bytes, cache_without, cached_bytes-without_other, Disk, disk_block, block_count, CallEvent, read_count, block_entries, content_after, current_block, empty_raw_content, PairContent, Tail, Pair, superblock_pair_address, pairs_blocks, AreLinkedByTails, is_hard_tail, tail_target, complete_length, completed_parts, tail_view, move_view, active_block_at, header_address, is_second_active, ChangesReadingFew, AllBlocksUsed, PairHeader, IsHeader, IsKeptOnDisk, disk_pair_at, header_pairs, kept_view, IsContentLog, reads_unless_cached, FreshInFlight, thread_pair}
 use Rattle.std.specs.Prelude.{IfErr}
 use Rattle.lfs_device.specs.declared.device.BlockDevice.{Ghosts}
 use Rattle.lfs_device.specs.declared.error.Error.{Error}
@@ -17,7 +17,7 @@ hard_leads : (t : Option Tail) → is_hard_tail t ≡ true → tail_target t ≡
 hard_leads None e f = absurd (cc)
 hard_leads (Some t) e f = absurd (cc)
 
-behind_hard : (front : List Pair) (p : Pair) (back : List Pair) (from : Option (ℕ × ℕ)) → AreLinked from (front ++ p ∷ back) → is_hard_tail p.content.tail ≡ true → length front + 1 < length (front ++ p ∷ back)
+behind_hard : (front : List Pair) (p : Pair) (back : List Pair) (from : Option (ℕ × ℕ)) → AreLinkedByTails from (front ++ p ∷ back) → is_hard_tail p.content.tail ≡ true → length front + 1 < length (front ++ p ∷ back)
 behind_hard [] p [] from links hard = absurd (hard_leads p.content.tail hard links.1)
 behind_hard [] p (q ∷ back) from links hard = omega arith
 behind_hard (x ∷ front) p back from links hard = let rest = behind_hard front p back (tail_target x.content.tail) links.1 hard in omega arith
@@ -75,7 +75,7 @@ module _ (disk : Disk) (history : List CallEvent) (hs : List PairHeader) (sets :
       let l = length-map a.front (λ x. disk_pair_at disk (header_address x)) in
       let e = ap length parts in
       let p = a.place in
-      let k = behind_hard (header_pairs disk a.front) (disk_pair_at disk (header_address h)) (header_pairs disk a.back) (Some anchor_address) (subst (AreLinked (Some anchor_address)) parts kept.links)
+      let k = behind_hard (header_pairs disk a.front) (disk_pair_at disk (header_address h)) (header_pairs disk a.back) (Some superblock_pair_address) (subst (AreLinkedByTails (Some superblock_pair_address)) parts kept.links)
       (sym (ap (λ (q : Pair). is_hard_tail q.content.tail) (pair_at_index disk history hs sets index h a)) ∙ hard) in
       omega arith
 

@@ -1,8 +1,8 @@
 -- A commit to one pair of the thread.
 use Rattle.std.proofs.Common.{ℕ, zero, suc, ◌≡◌, ◌⊎◌, inl, inr, ◌<◌, true, false, List, [], ◌∷◌, ◌++◌, length, Option, Some, None, refl, sym, ap, ap₂, subst, ◌∙◌, arith, get_or, set, Ok, Err, Result}
 use Rattle.std.specs.Prelude.{is_some, is_err}
-use Rattle.lfs_thread.proofs.Common.{option_and_then, option_map, same_Some, map-append, length-map, set-append_seam, flat_map-append, Blocks, BlockStates, Disk, CallEvent, OnlyReadsSince, Slot, PairContent, FitsInPair, ContentChange, content_with_changes, AreNamed, RawSlot, RawContent, raw_content, content_at, complete_content, complete_slots, Pair, AreLinked, tail_target, pairs_blocks, number_occurrences, once_from_distinct, complete_parts, fits_pair, disk_of_blocks, header_address, CanCommit, CommitsChanges, IsPairAddress, KeepsOutsidePair, OutsideStaysUnprogrammed, HasChangedContent, HasOldContent, LossLeavesChanged, changed_pair_content, superblock_entry, superblock_anew, PairHeader, kept_view, disk_pair_at, header_pairs, IsHeader, AreHeaders, AllBlocksUsed, IsKeptOnDisk, thread_pair, empty_anchor, complete_after, CanChangePair, pairs_with_content, KeepsSuperblockFirst, IsPairWritten, IsPairCommitted, RefusesChanges, LossLeavesPair}
-use Rattle.lfs_model.specs.format.Content.{complete_slot, kind_of_type, decoded_struct}
+use Rattle.lfs_thread.proofs.Common.{option_and_then, option_map, same_Some, map-append, length-map, set-append_seam, flat_map-append, Blocks, BlockStates, Disk, CallEvent, OnlyReadsSince, Slot, PairContent, FitsInPair, ContentChange, content_with_changes, AreNamed, RawSlot, RawContent, raw_content, content_at, decoded_content, decoded_slots, Pair, AreLinkedByTails, tail_target, pairs_blocks, occurrence_count, once_from_distinct, complete_parts, fits_pair, disk_of_blocks, header_address, CanCommit, CommitsChanges, IsPairAddress, KeepsOutsidePair, OutsideStaysUnprogrammed, HasChangedContent, HasOldContent, LossLeavesChanged, changed_pair_content, superblock_entry, superblock_anew, PairHeader, kept_view, disk_pair_at, header_pairs, IsHeader, AreHeaders, AllBlocksUsed, IsKeptOnDisk, thread_pair, empty_anchor, complete_after, CanChangePair, pairs_with_content, KeepsSuperblockFirst, IsPairWritten, IsPairCommitted, RefusesChanges, LossLeavesPair}
+use Rattle.lfs_model.specs.format.Content.{decoded_slot, kind_of_type, decoded_struct}
 use Rattle.lfs_model.proofs.Histories.{is_unprogrammed_byte-read_count}
 use Rattle.lfs_device.specs.declared.error.Error.{Error}
 use Rattle.lfs_device.specs.declared.geometry.Geometry.{Geometry}
@@ -41,7 +41,7 @@ header_at_index disk history hs index h a are = (headers_right disk history a.fr
 
 -- ---- before the commit
 
-complete_named : (s : RawSlot) (t : Slot) → complete_slot s ≡ Some t → is_some s.name ≡ true
+complete_named : (s : RawSlot) (t : Slot) → decoded_slot s ≡ Some t → is_some s.name ≡ true
 complete_named s t h = go s.name h
   where
     go : (o : Option (ℕ × List ℕ)) → option_and_then (λ name. option_map (λ struct. record {
@@ -53,7 +53,7 @@ complete_named s t h = go s.name h
     go None k = absurd (cc)
     go (Some n) k = refl
 
-pub named_from_complete : (slots : List RawSlot) (all : List Slot) → complete_slots slots ≡ Some all → AreNamed slots
+pub named_from_complete : (slots : List RawSlot) (all : List Slot) → decoded_slots slots ≡ Some all → AreNamed slots
 named_from_complete [] all h = tt
 named_from_complete (s ∷ slots) all h =
     let p = complete_parts s slots all h in
@@ -63,14 +63,14 @@ named_from_complete (s ∷ slots) all h =
 pub record Completes (o : Option RawContent) (c : PairContent) : Type 0 where
   pub raw : RawContent
   pub is : o ≡ Some raw
-  pub complete : complete_content raw ≡ Some c
+  pub complete : decoded_content raw ≡ Some c
   pub names : AreNamed raw.slots
 
-pub completes : (o : Option RawContent) (c : PairContent) → option_and_then complete_content o ≡ Some c → Completes o c
+pub completes : (o : Option RawContent) (c : PairContent) → option_and_then decoded_content o ≡ Some c → Completes o c
 completes None c h = absurd (cc)
-completes (Some raw) c h = record { raw = raw; is = refl; complete = h; names = go (complete_slots raw.slots) refl h }
+completes (Some raw) c h = record { raw = raw; is = refl; complete = h; names = go (decoded_slots raw.slots) refl h }
   where
-    go : (o : Option (List Slot)) → complete_slots raw.slots ≡ o → option_map (λ slots. record { slots = slots; tail = raw.tail; move = raw.move }) o ≡ Some c → AreNamed raw.slots
+    go : (o : Option (List Slot)) → decoded_slots raw.slots ≡ o → option_map (λ slots. record { slots = slots; tail = raw.tail; move = raw.move }) o ≡ Some c → AreNamed raw.slots
     go None e k = absurd (cc)
     go (Some all) e k = named_from_complete raw.slots all e
 
@@ -78,7 +78,7 @@ completes (Some raw) c h = record { raw = raw; is = refl; complete = h; names = 
 pub made_of_header : (disk : Disk) (history : List CallEvent) (hs : List PairHeader) (sets : BlockStates) (index : ℕ) (h : PairHeader) (changes : List ContentChange) (c : PairContent) → IsAt hs index h
     → complete_after (kept_view disk history hs sets) index changes ≡ Some c → Completes (changed_pair_content disk (header_address h) changes) c
 made_of_header disk history hs sets index h changes c a made =
-    completes (changed_pair_content disk (header_address h) changes) c (ap (λ (p : Pair). option_and_then complete_content (changed_pair_content disk p.at changes)) (sym (pair_at_index disk history hs sets index h a)) ∙ made)
+    completes (changed_pair_content disk (header_address h) changes) c (ap (λ (p : Pair). option_and_then decoded_content (changed_pair_content disk p.at changes)) (sym (pair_at_index disk history hs sets index h a)) ∙ made)
 
 pub can_commit : (disk : Disk) (history : List CallEvent) (hs : List PairHeader) (sets : BlockStates) (index : ℕ) (h : PairHeader) (changes : List ContentChange) → IsAt hs index h → IsKeptOnDisk disk history hs sets
     → (c : PairContent) → complete_after (kept_view disk history hs sets) index changes ≡ Some c → CanCommit disk history h changes
@@ -108,9 +108,9 @@ module _ (disk : Disk) (before : List CallEvent) (blocks : Blocks) (after : List
   holds : HasWrittenContent left after (header_address h) new commits.new
   holds = commits.holds
 
-  whole : complete_content commits.new ≡ Some can.content
+  whole : decoded_content commits.new ≡ Some can.content
   whole = let m = made_of_header disk before hs sets index h changes can.content a can.made in
-      ap complete_content (same_Some commits.new m.raw (sym commits.made ∙ m.is)) ∙ m.complete
+      ap decoded_content (same_Some commits.new m.raw (sym commits.made ∙ m.is)) ∙ m.complete
 
   now_header : IsHeader left after new
   now_header =
@@ -155,8 +155,8 @@ module _ (disk : Disk) (before : List CallEvent) (blocks : Blocks) (after : List
     touched = λ b k. omega arith;
     free = λ b. let o = once_from_distinct (pairs_blocks (header_pairs disk (a.front ++ (h ∷ [] ++ a.back)))) kept_parts.distinct b in omega arith;
     each = (now_header, tt);
-    no_more = λ b. let e = ap (number_occurrences b) same_blocks in omega arith;
-    links = λ ys from l. (l.0 ∙ ap Some (sym holds.same), subst (λ n. AreLinked n ys) (sym same_next) l.1);
+    no_more = λ b. let e = ap (occurrence_count b) same_blocks in omega arith;
+    links = λ ys from l. (l.0 ∙ ap Some (sym holds.same), subst (λ n. AreLinkedByTails n ys) (sym same_next) l.1);
     size = kept_parts.size;
     used = (used_parts.0, (subst (AllBlocksUsed sets) (sym same_blocks) used_parts.1.0, used_parts.1.1));
   }
@@ -262,20 +262,20 @@ left_in_thread disk history hs sets index h changes blocks a kept made_content m
     made_here : Completes (changed_pair_content disk (header_address h) changes) made_content
     made_here = made_of_header disk history hs sets index h changes made_content a made
 
-    whole : (k : HasChangedContent disk (header_address h) changes (record disk { blocks = blocks })) → complete_content k.new ≡ Some made_content
-    whole k = ap complete_content (same_Some k.new made_here.raw (sym k.made ∙ made_here.is)) ∙ made_here.complete
+    whole : (k : HasChangedContent disk (header_address h) changes (record disk { blocks = blocks })) → decoded_content k.new ≡ Some made_content
+    whole k = ap decoded_content (same_Some k.new made_here.raw (sym k.made ∙ made_here.is)) ∙ made_here.complete
 
     sides : HasOldContent disk (header_address h) (record disk { blocks = blocks }) ⊎ HasChangedContent disk (header_address h) changes (record disk { blocks = blocks })
         → LossLeavesPair (kept_view disk history hs sets) index changes blocks
     sides (inl k) = record {
       content = (thread_pair (kept_view disk history hs sets) index).content;
       is = inl refl;
-      written = written (thread_pair (kept_view disk history hs sets) index).content (ap (λ o. option_and_then complete_content o) k.content ∙ was) (λ begins has. k.first superblock_entry begins);
+      written = written (thread_pair (kept_view disk history hs sets) index).content (ap (λ o. option_and_then decoded_content o) k.content ∙ was) (λ begins has. k.first superblock_entry begins);
     }
     sides (inr k) = record {
       content = made_content;
       is = inr (made, fits_pair disk.block_size disk.page k.new made_content k.logged (whole k) k.fits);
-      written = written made_content (ap (λ o. option_and_then complete_content o) k.now.content ∙ whole k) (λ begins has. k.now.first superblock_entry begins (superblock_anew k.new made_content k.logged.slots (whole k) has.0 has.1));
+      written = written made_content (ap (λ o. option_and_then decoded_content o) k.now.content ∙ whole k) (λ begins has. k.now.first superblock_entry begins (superblock_anew k.new made_content k.logged.slots (whole k) has.0 has.1));
     }
 
 -- ---- what a commit leaves, by its outcome
@@ -303,7 +303,7 @@ full_read disk new before after hs sets index h same a e f reads = record {
 -- what doesn't fit, in the words of the pair's commit, doesn't fit the thread's pair
 pub refused : (disk new : Disk) (before after : List CallEvent) (hs : List PairHeader) (sets : BlockStates) (index : ℕ) (h same : PairHeader) (changes : List ContentChange) (c : PairContent) → IsAt hs index h
     → complete_after (kept_view disk before hs sets) index changes ≡ Some c
-    → ((raw : RawContent) (d : PairContent) → changed_pair_content disk (header_address h) changes ≡ Some raw → complete_content raw ≡ Some d → FitsInPair disk.block_size disk.page d → ⊥)
+    → ((raw : RawContent) (d : PairContent) → changed_pair_content disk (header_address h) changes ≡ Some raw → decoded_content raw ≡ Some d → FitsInPair disk.block_size disk.page d → ⊥)
     → new ≡ disk → same ≡ h → OnlyReadsSince disk.blocks before after → RefusesChanges (kept_view disk before hs sets) index changes (kept_view new after (set hs index same) sets)
 refused disk new before after hs sets index h same changes c a made too_large e f reads =
     let m = made_of_header disk before hs sets index h changes c a made in

@@ -1,45 +1,45 @@
 -- Blocks that are added to the thread.
 use Rattle.std.proofs.Common.{ℕ, ◌≡◌, ◌≢◌, ◌+◌, ◌≤◌, Bool, true, false, cond, nat_eq, List, [], ◌∷◌, length, Option, Some, None, refl, sym, ap, subst, ◌∙◌, arith, set, slice_get, eqb-true}
 use Rattle.std.specs.Prelude.{IfNone, IfSome}
-use Rattle.lfs_thread.proofs.Common.{ne_eqb, slice_get_within, length-set, BlockStates, Free, InFlight, Used, IsFree, IsInFlight, IsUsedBlock, Disk, CallEvent, slice_get-set_same, slice_get-set_other, number_occurrences, count_here, IsPairAddress, pairs_blocks, PairHeader, AllBlocksUsed, IsKeptOnDisk, header_pairs, FreshInFlight, map_using}
+use Rattle.lfs_thread.proofs.Common.{ne_eqb, slice_get_within, length-set, BlockStates, Free, InFlight, Used, IsFree, IsInFlight, IsUsedBlock, Disk, CallEvent, slice_get-set_same, slice_get-set_other, occurrence_count, count_here, IsPairAddress, pairs_blocks, PairHeader, AllBlocksUsed, IsKeptOnDisk, header_pairs, FreshInFlight, map_using}
 use Rattle.lfs_model.specs.layers.BlockSets.{BlockState}
 
 -- ---- blocks that aren't used are in no pair
 
-pub count_other : (x b : ℕ) (bs : List ℕ) → x ≢ b → number_occurrences x (b ∷ bs) ≡ number_occurrences x bs
-count_other x b bs apart = let e : 0 + number_occurrences x bs ≡ number_occurrences x bs = omega arith in ap (λ t. cond t 1 0 + number_occurrences x bs) (ne_eqb x b apart) ∙ e
+pub count_other : (x b : ℕ) (bs : List ℕ) → x ≢ b → occurrence_count x (b ∷ bs) ≡ occurrence_count x bs
+count_other x b bs apart = let e : 0 + occurrence_count x bs ≡ occurrence_count x bs = omega arith in ap (λ t. cond t 1 0 + occurrence_count x bs) (ne_eqb x b apart) ∙ e
 
-pub unused_counts : (sets : BlockStates) (x : ℕ) (bs : List ℕ) → ¬ IsUsedBlock sets x → AllBlocksUsed sets bs → number_occurrences x bs ≡ 0
+pub unused_counts : (sets : BlockStates) (x : ℕ) (bs : List ℕ) → ¬ IsUsedBlock sets x → AllBlocksUsed sets bs → occurrence_count x bs ≡ 0
 unused_counts sets x [] unused used = refl
 unused_counts sets x (b ∷ bs) unused used = count_other x b bs (λ e. unused (subst (IsUsedBlock sets) (sym e) used.0)) ∙ unused_counts sets x bs unused used.1
 
-pub used_at : (sets : BlockStates) (b : ℕ) (bs : List ℕ) → AllBlocksUsed sets bs → 1 ≤ number_occurrences b bs → IsUsedBlock sets b
+pub used_at : (sets : BlockStates) (b : ℕ) (bs : List ℕ) → AllBlocksUsed sets bs → 1 ≤ occurrence_count b bs → IsUsedBlock sets b
 used_at sets b [] used k = absurd (omega (arith, k))
 used_at sets b (x ∷ bs) used k = go (nat_eq b x) refl k (used_at sets b bs used.1)
   where
-    go : (t : Bool) → nat_eq b x ≡ t → 1 ≤ cond t 1 0 + number_occurrences b bs → (1 ≤ number_occurrences b bs → IsUsedBlock sets b) → IsUsedBlock sets b
+    go : (t : Bool) → nat_eq b x ≡ t → 1 ≤ cond t 1 0 + occurrence_count b bs → (1 ≤ occurrence_count b bs → IsUsedBlock sets b) → IsUsedBlock sets b
     go true e k next = subst (IsUsedBlock sets) (sym (eqb-true b x e)) used.0
     go false e k next = next (omega (arith, k))
 
-pub two_unused : (sets : BlockStates) (f g : ℕ) (bs : List ℕ) → ¬ IsUsedBlock sets f → ¬ IsUsedBlock sets g → f ≢ g → AllBlocksUsed sets bs → ((b : ℕ) → number_occurrences b bs ≤ 1) → (b : ℕ) → number_occurrences b (f ∷ g ∷ []) + number_occurrences b bs ≤ 1
+pub two_unused : (sets : BlockStates) (f g : ℕ) (bs : List ℕ) → ¬ IsUsedBlock sets f → ¬ IsUsedBlock sets g → f ≢ g → AllBlocksUsed sets bs → ((b : ℕ) → occurrence_count b bs ≤ 1) → (b : ℕ) → occurrence_count b (f ∷ g ∷ []) + occurrence_count b bs ≤ 1
 two_unused sets f g bs ff fg apart used once b = go (nat_eq b f) refl
   where
-    second : (t : Bool) → nat_eq b g ≡ t → number_occurrences b (g ∷ []) + number_occurrences b bs ≤ 1
+    second : (t : Bool) → nat_eq b g ≡ t → occurrence_count b (g ∷ []) + occurrence_count b bs ≤ 1
     second true e =
         let same = eqb-true b g e in
-        let none = ap (λ x. number_occurrences x bs) same ∙ unused_counts sets g bs fg used in
-        let one = ap (λ x. number_occurrences x (g ∷ [])) same ∙ count_here g [] in
+        let none = ap (λ x. occurrence_count x bs) same ∙ unused_counts sets g bs fg used in
+        let one = ap (λ x. occurrence_count x (g ∷ [])) same ∙ count_here g [] in
         omega arith
-    second false e = let o = once b in let z = ap (λ t. cond t 1 0 + number_occurrences b []) e in omega arith
+    second false e = let o = once b in let z = ap (λ t. cond t 1 0 + occurrence_count b []) e in omega arith
 
-    go : (t : Bool) → nat_eq b f ≡ t → number_occurrences b (f ∷ g ∷ []) + number_occurrences b bs ≤ 1
+    go : (t : Bool) → nat_eq b f ≡ t → occurrence_count b (f ∷ g ∷ []) + occurrence_count b bs ≤ 1
     go true e =
         let same = eqb-true b f e in
-        let none = ap (λ x. number_occurrences x bs) same ∙ unused_counts sets f bs ff used in
-        let one = ap (λ x. number_occurrences x (f ∷ g ∷ [])) same ∙ count_here f (g ∷ []) in
+        let none = ap (λ x. occurrence_count x bs) same ∙ unused_counts sets f bs ff used in
+        let one = ap (λ x. occurrence_count x (f ∷ g ∷ [])) same ∙ count_here f (g ∷ []) in
         let other = count_other f g [] apart in
         omega arith
-    go false e = let s = second (nat_eq b g) refl in let z = ap (λ t. cond t 1 0 + number_occurrences b (g ∷ [])) e in omega arith
+    go false e = let s = second (nat_eq b g) refl in let z = ap (λ t. cond t 1 0 + occurrence_count b (g ∷ [])) e in omega arith
 
 pub in_flight_unused : (sets : BlockStates) (b : ℕ) → IsInFlight sets b → ¬ IsUsedBlock sets b
 in_flight_unused sets b f u = absurd (let e : Some InFlight ≡ Some Used = sym f ∙ u in cc)

@@ -2,10 +2,10 @@
 pub use Rattle.lfs_device.specs.Bytes.{ElementsAreBytes}
 pub use Rattle.lfs_device.specs.DeviceCalls.{ReadsOnly}
 pub use Rattle.lfs_device.specs.DeviceDisk.{disk_of_blocks}
-pub use Rattle.lfs_model.proofs.BlockSets.{Contains-number_occurrences, slice_get-set_other, slice_get-set_same}
+pub use Rattle.lfs_model.proofs.BlockSets.{Contains-occurrence_count, slice_get-set_other, slice_get-set_same}
 pub use Rattle.lfs_model.proofs.Cache.{cached_bytes-without_other}
 pub use Rattle.lfs_model.proofs.Completed.{complete_length, complete_parts, complete_take, completed_from, completed_parts, fits_pair, fits_raw}
-pub use Rattle.lfs_model.proofs.Counts.{Each, count_here, distinct_from_once, number_occurrences, once_from_distinct}
+pub use Rattle.lfs_model.proofs.Counts.{Each, count_here, distinct_from_once, occurrence_count, once_from_distinct}
 pub use Rattle.lfs_model.proofs.Effects.{does_first, does_nothing, puts_tail}
 pub use Rattle.lfs_model.proofs.FirstEntries.{superblock_anew}
 pub use Rattle.lfs_model.proofs.Histories.{AllCallsSince-behind, HoldsAtLosses-weaker, HoldsAtLosses-worst, fault_count-since, goes_on_by}
@@ -13,18 +13,18 @@ pub use Rattle.lfs_model.proofs.Logged.{nothing_logged}
 pub use Rattle.lfs_model.proofs.Staying.{AreElsewhere, IsSameAt, raw_content-stays, raw_same}
 pub use Rattle.lfs_model.specs.crash.Stops.{LeftByLoss}
 pub use Rattle.lfs_model.specs.format.Blocks.{Blocks, SameExceptBlocks, block_bytes}
-pub use Rattle.lfs_model.specs.format.Content.{RawContent, RawSlot, complete_content, complete_slots, content_after, content_at, current_block, empty_raw_content, raw_content}
-pub use Rattle.lfs_model.specs.format.Disk.{Disk, block_count, disk_block, ordered_disk}
-pub use Rattle.lfs_model.specs.format.EntryTypes.{tail_if_any}
+pub use Rattle.lfs_model.specs.format.Content.{RawContent, RawSlot, decoded_content, decoded_slots, content_after, content_at, current_block, empty_raw_content, raw_content}
+pub use Rattle.lfs_model.specs.format.Disk.{Disk, block_count, disk_block, disk_with_order}
+pub use Rattle.lfs_model.specs.format.EntryTypes.{tail_if_not_null}
 pub use Rattle.lfs_model.specs.format.Log.{LogEntry, block_entries}
-pub use Rattle.lfs_model.specs.format.Slots.{FitsInPair, Gstate, PairContent, Slot, Tail, address_view, gstate_xor, null_address, same_pair, zero_gstate}
-pub use Rattle.lfs_model.specs.format.Thread.{AreLinked, IsThread, Pair, address_blocks, addresses_blocks, anchor_address, is_hard_tail, pairs_blocks, pairs_gstate, tail_target}
+pub use Rattle.lfs_model.specs.format.Slots.{FitsInPair, Gstate, PairContent, Slot, Tail, address_of_array, gstate_xor, null_address, same_pair, zero_gstate}
+pub use Rattle.lfs_model.specs.format.Thread.{AreLinkedByTails, IsThread, Pair, address_blocks, addresses_blocks, superblock_pair_address, is_hard_tail, pairs_blocks, pairs_gstate, tail_target}
 pub use Rattle.lfs_model.specs.layers.BlockSets.{BlockStates, Free, InFlight, IsFree, IsInFlight, IsUsedBlock, Used}
 pub use Rattle.lfs_model.specs.layers.Cache.{CachedBlocks, cache_without, cached_bytes}
 pub use Rattle.lfs_model.specs.layers.Changes.{ContentChange, PutMove, PutTail, content_with_changes}
 pub use Rattle.lfs_model.specs.layers.LoggedContent.{AreNamed, AreWellFormed, IsAllowedTail, IsWellFormed}
 pub use Rattle.lfs_model.specs.session.History.{CallEvent, HoldsAtLosses, LossLeavesAtWorst, OnlyReadsSince, read_count}
-pub use Rattle.lfs_model.specs.tree.View.{BeginsWith, superblock_entry}
+pub use Rattle.lfs_model.specs.tree.View.{HasFirstLogEntry, superblock_entry}
 pub use Rattle.lfs_pair.specs.ChangeView.{changes_view}
 pub use Rattle.lfs_pair.specs.Commits.{CanCommit, CommitsChanges, HasChangedContent, HasOldContent, IsPairAddress, KeepsFirstEntry, KeepsOutsidePair, LossLeavesChanged, OutsideStaysUnprogrammed, content_after_changes, changed_pair_content}
 pub use Rattle.lfs_pair.specs.Copies.{CanCopyPair, IsPairCopied}

@@ -1,6 +1,6 @@
 -- A drop of the pair behind another one.
 use Rattle.std.proofs.Common.{ℕ, suc, ◌≡◌, ◌+◌, ◌<◌, ◌≤◌, List, [], ◌∷◌, ◌++◌, length, Some, refl, sym, ap, ap₂, subst, ◌∙◌, arith, get_or, set, remove, append_assoc, length-append}
-use Rattle.lfs_thread.proofs.Common.{same_Some, map-append, length-map, length-set, flat_map-append, set-append_seam, disk_of_blocks, Blocks, Free, BlockStates, Disk, CallEvent, ContentChange, raw_content, content_at, complete_content, Pair, AreLinked, tail_target, pairs_blocks, fits_pair, slice_get-set_other, number_occurrences, count_here, once_from_distinct, header_address, IsPairAddress, CommitsChanges, KeepsOutsidePair, OutsideStaysUnprogrammed, superblock_entry, superblock_anew, PairHeader, kept_view, disk_pair_at, header_pairs, IsHeader, AllBlocksUsed, IsKeptOnDisk, thread_pair, pairs_with_content, CanDropNext, IsNextDropped, map_freeing, KeepsSuperblockFirst}
+use Rattle.lfs_thread.proofs.Common.{same_Some, map-append, length-map, length-set, flat_map-append, set-append_seam, disk_of_blocks, Blocks, Free, BlockStates, Disk, CallEvent, ContentChange, raw_content, content_at, decoded_content, Pair, AreLinkedByTails, tail_target, pairs_blocks, fits_pair, slice_get-set_other, occurrence_count, count_here, once_from_distinct, header_address, IsPairAddress, CommitsChanges, KeepsOutsidePair, OutsideStaysUnprogrammed, superblock_entry, superblock_anew, PairHeader, kept_view, disk_pair_at, header_pairs, IsHeader, AllBlocksUsed, IsKeptOnDisk, thread_pair, pairs_with_content, CanDropNext, IsNextDropped, map_freeing, KeepsSuperblockFirst}
 use Rattle.lfs_device.specs.declared.geometry.Geometry.{Geometry}
 use Rattle.lfs_thread.proofs.Keeping.{kept_thread, header_content, pair_on_content, used_left, used_right, blocks_append, IsReplaced, pairs_are, kept_replaced}
 use Rattle.lfs_thread.proofs.Changing.{IsAt, at_index, header_at_index, pair_at_index, made_of_header}
@@ -54,14 +54,14 @@ next_there disk hs index h below value =
 
 -- ---- the map
 
-released : (sets : BlockStates) (x : ℕ) (bs : List ℕ) → number_occurrences x bs ≡ 0 → AllBlocksUsed sets bs → AllBlocksUsed (set sets x Free) bs
+released : (sets : BlockStates) (x : ℕ) (bs : List ℕ) → occurrence_count x bs ≡ 0 → AllBlocksUsed sets bs → AllBlocksUsed (set sets x Free) bs
 released sets x [] none used = tt
 released sets x (b ∷ bs) none used = (
-  slice_get-set_other sets x b Free (λ e. let k = subst (λ (y : ℕ). number_occurrences x (y ∷ bs) ≡ 0) e none in let m = count_here x bs in absurd (omega arith)) ∙ used.0,
+  slice_get-set_other sets x b Free (λ e. let k = subst (λ (y : ℕ). occurrence_count x (y ∷ bs) ≡ 0) e none in let m = count_here x bs in absurd (omega arith)) ∙ used.0,
   released sets x bs (let k = none in omega arith) used.1,
 )
 
-pub both_released : (sets : BlockStates) (at : ℕ × ℕ) (bs : List ℕ) → number_occurrences at.0 bs ≡ 0 → number_occurrences at.1 bs ≡ 0 → AllBlocksUsed sets bs → AllBlocksUsed (map_freeing sets at) bs
+pub both_released : (sets : BlockStates) (at : ℕ × ℕ) (bs : List ℕ) → occurrence_count at.0 bs ≡ 0 → occurrence_count at.1 bs ≡ 0 → AllBlocksUsed sets bs → AllBlocksUsed (map_freeing sets at) bs
 both_released sets at bs f g used = released (set sets at.0 Free) at.1 bs g (released sets at.0 bs f used)
 
 pub next_used : (disk : Disk) (before : List CallEvent) (hs : List PairHeader) (sets : BlockStates) (index : ℕ) (h : PairHeader) (n : HasNext hs index h) → IsKeptOnDisk disk before hs sets
@@ -94,9 +94,9 @@ module _ (disk : Disk) (before : List CallEvent) (blocks : Blocks) (after : List
   next_pair : thread_pair (kept_view disk before hs sets) (index + 1) ≡ disk_pair_at disk (header_address n.next)
   next_pair = pair_at_index disk before hs sets (index + 1) n.next (there_at hs index h n)
 
-  whole : complete_content commits.new ≡ Some can.content
+  whole : decoded_content commits.new ≡ Some can.content
   whole = let m = made_of_header disk before hs sets index h changes can.content (here_at hs index h n) can.made in
-      ap complete_content (same_Some commits.new m.raw (sym commits.made ∙ m.is)) ∙ m.complete
+      ap decoded_content (same_Some commits.new m.raw (sym commits.made ∙ m.is)) ∙ m.complete
 
   now_header : IsHeader left after new
   now_header =
@@ -125,22 +125,22 @@ module _ (disk : Disk) (before : List CallEvent) (blocks : Blocks) (after : List
   same_blocks = ap (λ (at : ℕ × ℕ). at.0 ∷ at.1 ∷ []) commits.holds.same
 
   -- how often a block occurs in each part
-  counts : (b : ℕ) → number_occurrences b (pairs_blocks (header_pairs disk n.front)) + (number_occurrences b (pairs_blocks (header_pairs disk (h ∷ []))) + (number_occurrences b (pairs_blocks (header_pairs disk (n.next ∷ []))) + number_occurrences b (pairs_blocks (header_pairs disk n.back)))) ≤ 1
+  counts : (b : ℕ) → occurrence_count b (pairs_blocks (header_pairs disk n.front)) + (occurrence_count b (pairs_blocks (header_pairs disk (h ∷ []))) + (occurrence_count b (pairs_blocks (header_pairs disk (n.next ∷ []))) + occurrence_count b (pairs_blocks (header_pairs disk n.back)))) ≤ 1
   counts b =
       let o = once_from_distinct (pairs_blocks (header_pairs disk (n.front ++ (two ++ n.back)))) kept_parts.distinct b in
-      let e = ap (λ ps. number_occurrences b (pairs_blocks ps)) (map-append (λ x. disk_pair_at disk (header_address x)) n.front (two ++ n.back)) in
+      let e = ap (λ ps. occurrence_count b (pairs_blocks ps)) (map-append (λ x. disk_pair_at disk (header_address x)) n.front (two ++ n.back)) in
       let f = blocks_append (header_pairs disk n.front) (header_pairs disk (two ++ n.back)) b in
       let g = blocks_append (header_pairs disk (h ∷ [])) (header_pairs disk (n.next ∷ n.back)) b in
       let k = blocks_append (header_pairs disk (n.next ∷ [])) (header_pairs disk n.back) b in
       omega arith
 
-  first_once : 1 ≤ number_occurrences (header_address n.next).0 (pairs_blocks (header_pairs disk (n.next ∷ [])))
+  first_once : 1 ≤ occurrence_count (header_address n.next).0 (pairs_blocks (header_pairs disk (n.next ∷ [])))
   first_once = let m = count_here (header_address n.next).0 ((header_address n.next).1 ∷ []) in omega arith
 
-  second_once : 1 ≤ number_occurrences (header_address n.next).1 (pairs_blocks (header_pairs disk (n.next ∷ [])))
+  second_once : 1 ≤ occurrence_count (header_address n.next).1 (pairs_blocks (header_pairs disk (n.next ∷ [])))
   second_once = let m = count_here (header_address n.next).1 [] in omega arith
 
-  stay_used : (bs : List ℕ) → ((b : ℕ) → 1 ≤ number_occurrences b (pairs_blocks (header_pairs disk (n.next ∷ []))) → number_occurrences b bs ≡ 0) → AllBlocksUsed sets bs → AllBlocksUsed now bs
+  stay_used : (bs : List ℕ) → ((b : ℕ) → 1 ≤ occurrence_count b (pairs_blocks (header_pairs disk (n.next ∷ []))) → occurrence_count b bs ≡ 0) → AllBlocksUsed sets bs → AllBlocksUsed now bs
   stay_used bs f used = both_released sets (header_address n.next) bs (f (header_address n.next).0 first_once) (f (header_address n.next).1 second_once) used
 
   used_parts : AllBlocksUsed sets (pairs_blocks (header_pairs disk n.front)) × (AllBlocksUsed sets (pairs_blocks (header_pairs disk (h ∷ []))) × AllBlocksUsed sets (pairs_blocks (header_pairs disk n.back)))
@@ -157,8 +157,8 @@ module _ (disk : Disk) (before : List CallEvent) (blocks : Blocks) (after : List
     touched = λ b k. omega arith;
     free = λ b. let o = once_from_distinct (pairs_blocks (header_pairs disk (n.front ++ (two ++ n.back)))) kept_parts.distinct b in omega arith;
     each = (now_header, tt);
-    no_more = λ b. let e = ap (number_occurrences b) same_blocks in omega arith;
-    links = λ ys from l. (l.0 ∙ ap Some (sym commits.holds.same), subst (λ x. AreLinked x ys) (sym same_next) l.1.1);
+    no_more = λ b. let e = ap (occurrence_count b) same_blocks in omega arith;
+    links = λ ys from l. (l.0 ∙ ap Some (sym commits.holds.same), subst (λ x. AreLinkedByTails x ys) (sym same_next) l.1.1);
     size = length-set (set sets (header_address n.next).0 Free) (header_address n.next).1 Free ∙ length-set sets (header_address n.next).0 Free ∙ kept_parts.size;
     used = (
       stay_used (pairs_blocks (header_pairs disk n.front)) (λ b k. let c = counts b in omega arith) used_parts.0,

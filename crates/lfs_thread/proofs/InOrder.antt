@@ -3,7 +3,7 @@ use Rattle.std.proofs.Common.{◌≡◌, ◌∙◌, ℕ, false, List, Some, subs
 use Rattle.std.specs.Prelude.{OnOk, is_err}
 use Rattle.lfs_device.specs.declared.error.Error.{Error}
 use Rattle.lfs_device.specs.declared.device.BlockDevice.{Ghosts}
-use Rattle.lfs_thread.proofs.Common.{BlockStates, Blocks, ContentChange, Disk, ordered_disk, CallEvent, PairContent, HoldsAtLosses-weaker, KeepsPairBlocks, CleanLossLeaves, KeptThread, SplitOnDisk, CanChangePair, CanDropNext, CanSplitAt, CanThreadIn, HasOldPair, RefusesChanges, IsNextDropped, IsPairCommitted, HasSplit, IsPairWritten, RefusesThreading, LossLeavesPair, LossLeavesThreadSplit, PartsFit}
+use Rattle.lfs_thread.proofs.Common.{BlockStates, Blocks, ContentChange, Disk, disk_with_order, CallEvent, PairContent, HoldsAtLosses-weaker, KeepsPairBlocks, CleanLossLeaves, KeptThread, SplitOnDisk, CanChangePair, CanDropNext, CanSplitAt, CanThreadIn, HasOldPair, RefusesChanges, IsNextDropped, IsPairCommitted, HasSplit, IsPairWritten, RefusesThreading, LossLeavesPair, LossLeavesThreadSplit, PartsFit}
 use Rattle.lfs_model.specs.declared.order.NameOrder.{NameOrder}
 use Rattle.lfs_thread.specs.Joins.{CanHold, HasNextRevision, IsJoined, JoinedOnDisk, LossLeavesJoined, content_behind, pairs_joined}
 use Rattle.lfs_thread.specs.Moves.{BeginsWithAnySuperblock}
@@ -13,7 +13,7 @@ use Rattle.lfs_thread.specs.declared.joins.Behind.TheVariants as kind
 
 -- the same thread, with its names in that order
 abbrev pub in_order : NameOrder → KeptThread → KeptThread
-in_order order t = record t { disk = ordered_disk order t.disk }
+in_order order t = record t { disk = disk_with_order order t.disk }
 
 module _ (order : NameOrder) where
   -- ---- the premises of a step
@@ -37,10 +37,10 @@ module _ (order : NameOrder) where
 
   -- ---- what a step does
 
-  shape_in : {old new : Disk} → SameGeometryAs old new → SameGeometryAs (ordered_disk order old) (ordered_disk order new)
+  shape_in : {old new : Disk} → SameGeometryAs old new → SameGeometryAs (disk_with_order order old) (disk_with_order order new)
   shape_in shape = record { block_size = shape.block_size; page = shape.page; order = refl; profile = shape.profile; count = shape.count }
 
-  written_in : (old : KeptThread) (index : ℕ) (content : PairContent) (disk : Disk) → IsPairWritten old index content disk → IsPairWritten (in_order order old) index content (ordered_disk order disk)
+  written_in : (old : KeptThread) (index : ℕ) (content : PairContent) (disk : Disk) → IsPairWritten old index content disk → IsPairWritten (in_order order old) index content (disk_with_order order disk)
   written_in old index content disk w = record { holds = w.holds; others = w.others; shape = shape_in w.shape; first = w.first }
 
   pub changed_in : (old new : KeptThread) (index : ℕ) (changes : List ContentChange) → IsPairCommitted old index changes new → IsPairCommitted (in_order order old) index changes (in_order order new)
@@ -59,10 +59,10 @@ module _ (order : NameOrder) where
     content = is.content;
     made = is.made;
     too_large = is.too_large;
-    only = record { disk = ap (ordered_disk order) is.only.disk; reads = is.only.reads; pairs = is.only.pairs; map = is.only.map };
+    only = record { disk = ap (disk_with_order order) is.only.disk; reads = is.only.reads; pairs = is.only.pairs; map = is.only.map };
   }
 
-  parts_in : (old : KeptThread) (index : ℕ) (content : PairContent) (cut : ℕ) (fresh : ℕ × ℕ) (disk : Disk) → PartsFit old index content cut fresh disk → PartsFit (in_order order old) index content cut fresh (ordered_disk order disk)
+  parts_in : (old : KeptThread) (index : ℕ) (content : PairContent) (cut : ℕ) (fresh : ℕ × ℕ) (disk : Disk) → PartsFit old index content cut fresh disk → PartsFit (in_order order old) index content cut fresh (disk_with_order order disk)
   parts_in old index content cut fresh disk parts = record { front_fits = parts.front_fits; back_fits = parts.back_fits; inside = parts.inside; first = parts.first }
 
   pub split_in : (old new : KeptThread) (index : ℕ) (fresh : ℕ × ℕ) (changes : List ContentChange) → HasSplit old index fresh changes new → HasSplit (in_order order old) index fresh changes (in_order order new)
@@ -90,11 +90,11 @@ module _ (order : NameOrder) where
     pairs = is.pairs ∙ ap (λ c. pairs_joined b old.pairs index (record { at = (thread_pair old index).at; content = is.content }) (record { at = fresh; content = c })) (behind_in b old index);
     thread = is.thread;
     map = is.map;
-    anew = subst (λ c. BeginsWithAnySuperblock (record { at = fresh; content = c }) (ordered_disk order new.disk)) (behind_in b old index) is.anew;
+    anew = subst (λ c. BeginsWithAnySuperblock (record { at = fresh; content = c }) (disk_with_order order new.disk)) (behind_in b old index) is.anew;
     revision = revision_in b is.revision;
   }
     where
-      revision_in : (b : Behind) → HasNextRevision old index b fresh new.disk → HasNextRevision (in_order order old) index b fresh (ordered_disk order new.disk)
+      revision_in : (b : Behind) → HasNextRevision old index b fresh new.disk → HasNextRevision (in_order order old) index b fresh (disk_with_order order new.disk)
       revision_in kind.Empty has = tt
       revision_in kind.Slots has = has
       revision_in kind.Next has = has
@@ -118,7 +118,7 @@ module _ (order : NameOrder) where
   pub left_changed_in : (old : KeptThread) (index : ℕ) (changes : List ContentChange) (left : Blocks) → LossLeavesPair old index changes left → LossLeavesPair (in_order order old) index changes left
   left_changed_in old index changes left is = record { content = is.content; is = is.is; written = written_in old index is.content (record old.disk { blocks = left }) is.written }
 
-  old_in : (old : KeptThread) (index : ℕ) (disk : Disk) → HasOldPair old index disk → HasOldPair (in_order order old) index (ordered_disk order disk)
+  old_in : (old : KeptThread) (index : ℕ) (disk : Disk) → HasOldPair old index disk → HasOldPair (in_order order old) index (disk_with_order order disk)
   old_in old index disk has = record { holds = has.holds; first = has.first }
 
   pub left_split_in : (old : KeptThread) (index : ℕ) (fresh : ℕ × ℕ) (changes : List ContentChange) (left : Blocks) → LossLeavesThreadSplit old index fresh changes left → LossLeavesThreadSplit (in_order order old) index fresh changes left
@@ -127,7 +127,7 @@ module _ (order : NameOrder) where
     content = elim is.content [
       | inl has ↦ inl (old_in old index (record old.disk { blocks = left }) has)
       | inr both ↦
-          let there : SplitOnDisk (in_order order old) index changes fresh (record (ordered_disk order old.disk) { blocks = left }) = record {
+          let there : SplitOnDisk (in_order order old) index changes fresh (record (disk_with_order order old.disk) { blocks = left }) = record {
             content = both.content;
             made = both.made;
             cut = both.cut;
@@ -145,14 +145,14 @@ module _ (order : NameOrder) where
     content = elim is.content [
       | inl has ↦ inl (old_in old index (record old.disk { blocks = left }) has)
       | inr both ↦
-          let there : JoinedOnDisk (in_order order old) index b fresh changes (record (ordered_disk order old.disk) { blocks = left }) = record {
+          let there : JoinedOnDisk (in_order order old) index b fresh changes (record (disk_with_order order old.disk) { blocks = left }) = record {
             content = both.content;
             made = both.made;
             fits = both.fits;
             holds = both.holds;
             behind = both.behind ∙ ap Some (behind_in b old index);
             first = both.first;
-            anew = subst (λ c. BeginsWithAnySuperblock (record { at = fresh; content = c }) (record (ordered_disk order old.disk) { blocks = left })) (behind_in b old index) both.anew;
+            anew = subst (λ c. BeginsWithAnySuperblock (record { at = fresh; content = c }) (record (disk_with_order order old.disk) { blocks = left })) (behind_in b old index) both.anew;
           } in
           inr there
     ];

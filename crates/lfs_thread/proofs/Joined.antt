@@ -1,6 +1,6 @@
 -- A pair is added to the thread: it is written first, and then another pair's tail names it.
 use Rattle.std.proofs.Common.{ℕ, suc, nat_eq, ◌≡◌, ◌+◌, ◌<◌, ◌≤◌, List, [], ◌∷◌, ◌++◌, length, Option, Some, refl, sym, ap, ap₂, subst, ◌∙◌, arith, set, insert, remove}
-use Rattle.lfs_thread.proofs.Common.{same_Some, map-append, length-map, length-set, flat_map-append, set-append_seam, Blocks, BlockStates, Free, IsDistinct, IsUsedBlock, option_and_then, Disk, CallEvent, PairContent, ContentChange, Pair, AreLinked, anchor_address, complete_content, raw_content, raw_content-stays, tail_target, pairs_blocks, pairs_split, AllBlocksUsed, AreApart, AreElsewhere, CommitsChanges, IsHeader, IsKeptOnDisk, IsPairAddress, KeepsOutsidePair, OutsideStaysUnprogrammed, PairHeader, changed_pair_content, complete_after, content_after_changes, count_here, disk_pair_at, header_address, header_pairs, kept_view, map_freeing, number_occurrences, once_from_distinct, thread_pair}
+use Rattle.lfs_thread.proofs.Common.{same_Some, map-append, length-map, length-set, flat_map-append, set-append_seam, Blocks, BlockStates, Free, IsDistinct, IsUsedBlock, option_and_then, Disk, CallEvent, PairContent, ContentChange, Pair, AreLinkedByTails, superblock_pair_address, decoded_content, raw_content, raw_content-stays, tail_target, pairs_blocks, pairs_split, AllBlocksUsed, AreApart, AreElsewhere, CommitsChanges, IsHeader, IsKeptOnDisk, IsPairAddress, KeepsOutsidePair, OutsideStaysUnprogrammed, PairHeader, changed_pair_content, complete_after, content_after_changes, count_here, disk_pair_at, header_address, header_pairs, kept_view, map_freeing, occurrence_count, once_from_distinct, thread_pair}
 use Rattle.lfs_thread.specs.Joins.{headers_without, map_without, pairs_joined, source_index}
 use Rattle.lfs_thread.specs.declared.joins.Behind.{Behind}
 use Rattle.lfs_thread.specs.declared.joins.Behind.TheVariants as kind
@@ -25,7 +25,7 @@ module _ (disk : Disk) (before : List CallEvent) (blocks : Blocks) (after : List
   pub beside_kept : IsKeptOnDisk (record disk { blocks = blocks }) after hs sets
   beside_kept = record {
     each = headers-stay disk before after hs elsewhere others stay kept.each;
-    links = subst (AreLinked (Some anchor_address)) (sym beside_pairs) kept.links;
+    links = subst (AreLinkedByTails (Some superblock_pair_address)) (sym beside_pairs) kept.links;
     distinct = subst (λ ps. IsDistinct nat_eq (pairs_blocks ps)) (sym beside_pairs) kept.distinct;
     size = kept.size ∙ sym others.count;
     used = subst (λ ps. AllBlocksUsed sets (pairs_blocks ps)) (sym beside_pairs) kept.used;
@@ -36,9 +36,9 @@ pub beside_made : (disk : Disk) (before : List CallEvent) (blocks : Blocks) (aft
     → IsKeptOnDisk disk before hs sets → ¬ IsUsedBlock sets fresh.0 → ¬ IsUsedBlock sets fresh.1 → KeepsOutsidePair fresh disk.blocks blocks
     → complete_after (kept_view (record disk { blocks = blocks }) after hs sets) index changes ≡ complete_after (kept_view disk before hs sets) index changes
 beside_made disk before blocks after hs sets fresh index h changes a kept first second others =
-    ap (λ (p : Pair). option_and_then complete_content (changed_pair_content (record disk { blocks = blocks }) p.at changes)) (pair_at_index (record disk { blocks = blocks }) after hs sets index h a)
-    ∙ ap (λ r. option_and_then complete_content (content_after_changes r changes)) (raw_content-stays disk (pair_elsewhere apart) others)
-    ∙ ap (λ (p : Pair). option_and_then complete_content (changed_pair_content disk p.at changes)) (sym (pair_at_index disk before hs sets index h a))
+    ap (λ (p : Pair). option_and_then decoded_content (changed_pair_content (record disk { blocks = blocks }) p.at changes)) (pair_at_index (record disk { blocks = blocks }) after hs sets index h a)
+    ∙ ap (λ r. option_and_then decoded_content (content_after_changes r changes)) (raw_content-stays disk (pair_elsewhere apart) others)
+    ∙ ap (λ (p : Pair). option_and_then decoded_content (changed_pair_content disk p.at changes)) (sym (pair_at_index disk before hs sets index h a))
   where
     used : AllBlocksUsed sets ((header_address h).0 ∷ (header_address h).1 ∷ [])
     used =
@@ -74,9 +74,9 @@ pub record IsJoint (disk : Disk) (join : List Pair → ℕ → Pair → Pair →
   pub parts : hs ≡ front ++ ((h ∷ mid) ++ back)
   pub are : items ≡ front ++ new ∷ f ∷ back
   pub pairs : (p q : Pair) → join (header_pairs disk hs) index p q ≡ header_pairs disk front ++ p ∷ q ∷ header_pairs disk back
-  pub links : (ys : List Pair) (from : Option (ℕ × ℕ)) → AreLinked from (header_pairs disk (h ∷ mid) ++ ys) → AreLinked target ys
+  pub links : (ys : List Pair) (from : Option (ℕ × ℕ)) → AreLinkedByTails from (header_pairs disk (h ∷ mid) ++ ys) → AreLinkedByTails target ys
   pub size : length now ≡ length sets
-  pub stays : (bs : List ℕ) → ((b : ℕ) → 1 ≤ number_occurrences b (pairs_blocks (header_pairs disk mid)) → number_occurrences b bs ≡ 0) → AllBlocksUsed sets bs → AllBlocksUsed now bs
+  pub stays : (bs : List ℕ) → ((b : ℕ) → 1 ≤ occurrence_count b (pairs_blocks (header_pairs disk mid)) → occurrence_count b bs ≡ 0) → AllBlocksUsed sets bs → AllBlocksUsed now bs
 
 module _ (disk : Disk) (hs : List PairHeader) (index : ℕ) (h : PairHeader) (sets : BlockStates) (new f : PairHeader) where
   pub joint_alone : (a : IsAt hs index h) → IsJoint disk pairs_split hs index h sets sets (insert (set hs index new) (index + 1) f) new f (tail_target (disk_pair_at disk (header_address h)).content.tail)
@@ -116,8 +116,8 @@ module _ (disk : Disk) (hs : List PairHeader) (index : ℕ) (h : PairHeader) (se
     links = λ ys from l. l.1.1;
     size = length-set (set sets (header_address n.next).0 Free) (header_address n.next).1 Free ∙ length-set sets (header_address n.next).0 Free;
     stays = λ bs none used.
-        let first : 1 ≤ number_occurrences (header_address n.next).0 (pairs_blocks (header_pairs disk (n.next ∷ []))) = let m = count_here (header_address n.next).0 ((header_address n.next).1 ∷ []) in omega arith in
-        let second : 1 ≤ number_occurrences (header_address n.next).1 (pairs_blocks (header_pairs disk (n.next ∷ []))) = let m = count_here (header_address n.next).1 [] in omega arith in
+        let first : 1 ≤ occurrence_count (header_address n.next).0 (pairs_blocks (header_pairs disk (n.next ∷ []))) = let m = count_here (header_address n.next).0 ((header_address n.next).1 ∷ []) in omega arith in
+        let second : 1 ≤ occurrence_count (header_address n.next).1 (pairs_blocks (header_pairs disk (n.next ∷ []))) = let m = count_here (header_address n.next).1 [] in omega arith in
         both_released sets (header_address n.next) bs (none (header_address n.next).0 first) (none (header_address n.next).1 second) used;
   }
 
@@ -151,9 +151,9 @@ module _ (disk : Disk) (before : List CallEvent) (blocks : Blocks) (after : List
   kept_parts : IsKeptOnDisk disk before (j.front ++ (olds ++ j.back)) sets
   kept_parts = subst (λ z. IsKeptOnDisk disk before z sets) j.parts kept
 
-  whole : complete_content commits.new ≡ Some c
+  whole : decoded_content commits.new ≡ Some c
   whole = let m = made_of_header disk before hs sets index h changes c a made in
-      ap complete_content (same_Some commits.new m.raw (sym commits.made ∙ m.is)) ∙ m.complete
+      ap decoded_content (same_Some commits.new m.raw (sym commits.made ∙ m.is)) ∙ m.complete
 
   now_header : IsHeader left after new
   now_header =
@@ -176,13 +176,13 @@ module _ (disk : Disk) (before : List CallEvent) (blocks : Blocks) (after : List
   now_pair = pair_on_content left (header_address new) c (header_content left after new now_header) ∙ ap (λ at. record { at = at; content = c }) commits.holds.same
 
   -- how often a block occurs in each part
-  counts : (b : ℕ) → number_occurrences b (pairs_blocks (header_pairs disk j.front)) + (number_occurrences b (pairs_blocks (header_pairs disk (h ∷ []))) + (number_occurrences b (pairs_blocks (header_pairs disk j.mid)) + number_occurrences b (pairs_blocks (header_pairs disk j.back)))) ≤ 1
+  counts : (b : ℕ) → occurrence_count b (pairs_blocks (header_pairs disk j.front)) + (occurrence_count b (pairs_blocks (header_pairs disk (h ∷ []))) + (occurrence_count b (pairs_blocks (header_pairs disk j.mid)) + occurrence_count b (pairs_blocks (header_pairs disk j.back)))) ≤ 1
   counts b =
       let o = once_from_distinct (pairs_blocks (header_pairs disk (j.front ++ (olds ++ j.back)))) kept_parts.distinct b in
-      let e = ap (λ ps. number_occurrences b (pairs_blocks ps)) (map-append (λ x. disk_pair_at disk (header_address x)) j.front (olds ++ j.back)) in
+      let e = ap (λ ps. occurrence_count b (pairs_blocks ps)) (map-append (λ x. disk_pair_at disk (header_address x)) j.front (olds ++ j.back)) in
       let l = blocks_append (header_pairs disk j.front) (header_pairs disk (olds ++ j.back)) b in
       let m = blocks_append (header_pairs disk (h ∷ [])) (header_pairs disk (j.mid ++ j.back)) b in
-      let d = ap (λ ps. number_occurrences b (pairs_blocks ps)) (map-append (λ x. disk_pair_at disk (header_address x)) j.mid j.back) in
+      let d = ap (λ ps. occurrence_count b (pairs_blocks ps)) (map-append (λ x. disk_pair_at disk (header_address x)) j.mid j.back) in
       let k = blocks_append (header_pairs disk j.mid) (header_pairs disk j.back) b in
       omega arith
 
@@ -220,7 +220,7 @@ module _ (disk : Disk) (before : List CallEvent) (blocks : Blocks) (after : List
   new_blocks = ap₂ (λ (x y : ℕ × ℕ). x.0 ∷ x.1 ∷ y.0 ∷ y.1 ∷ []) commits.holds.same at_fresh
 
   -- what isn't among the blocks of those that go is used
-  still_used : (bs : List ℕ) → ((b : ℕ) → 1 ≤ number_occurrences b (pairs_blocks (header_pairs disk j.mid)) → number_occurrences b bs ≡ 0) → AllBlocksUsed sets bs → AllBlocksUsed now bs
+  still_used : (bs : List ℕ) → ((b : ℕ) → 1 ≤ occurrence_count b (pairs_blocks (header_pairs disk j.mid)) → occurrence_count b bs ≡ 0) → AllBlocksUsed sets bs → AllBlocksUsed now bs
   still_used bs none used = j.stays bs none (used_still sets using fresh bs uses used)
 
   fresh_used : AllBlocksUsed now (fresh.0 ∷ fresh.1 ∷ [])
@@ -240,10 +240,10 @@ module _ (disk : Disk) (before : List CallEvent) (blocks : Blocks) (after : List
     free = two_unused sets fresh.0 fresh.1 (pairs_blocks (header_pairs disk (j.front ++ (olds ++ j.back)))) uses.first_unused uses.second_unused uses.apart kept_parts.used
         (once_from_distinct (pairs_blocks (header_pairs disk (j.front ++ (olds ++ j.back)))) kept_parts.distinct);
     each = (now_header, (f_header, tt));
-    no_more = λ b. let e = ap (number_occurrences b) new_blocks in omega arith;
+    no_more = λ b. let e = ap (occurrence_count b) new_blocks in omega arith;
     links = λ ys from l. (
       l.0 ∙ ap Some (sym commits.holds.same),
-      (ap (λ (p : Pair). tail_target p.content.tail) now_pair ∙ next ∙ ap Some (sym at_fresh), subst (λ t. AreLinked t ys) (ap (λ (p : Pair). tail_target p.content.tail) (sym f_pair)) (j.links ys from l)),
+      (ap (λ (p : Pair). tail_target p.content.tail) now_pair ∙ next ∙ ap Some (sym at_fresh), subst (λ t. AreLinkedByTails t ys) (ap (λ (p : Pair). tail_target p.content.tail) (sym f_pair)) (j.links ys from l)),
     );
     size = j.size ∙ uses.size ∙ kept_parts.size;
     used = (

@@ -9,7 +9,7 @@ use Rattle.lfs_model.specs.declared.order.NameOrder.{NameOrder}
 use Rattle.lfs_model.specs.format.Slots.{slot_size}
 use Rattle.lfs_model.specs.layers.Changes.{Delete}
 use Rattle.lfs_model.proofs.Effects.{deletes}
-use Rattle.lfs_thread.proofs.Common.{ne_eqb, same_Some, option_and_then, Blocks, RawContent, complete_content, Disk, block_count, FitsInPair, PairContent, Tail, null_address, tail_if_any, Pair, BlockStates, ContentChange, PutTail, content_after_changes, changed_pair_content, content_with_changes, IsAllowedTail, CallEvent, complete_length, complete_take, completed_from, completed_parts, does_first, does_nothing, puts_tail, CanMoveNext, CanUnload, HasOldPair, IsHeader, IsKeptOnDisk, IsNextMoved, IsPairAddress, IsThreadedIn, IsUnloaded, KeepsSuperblockFirst, KeptThread, LossLeavesNextMoved, LossLeavesThreaded, LossLeavesUnloaded, NextMovedOnDisk, PairHeader, RefusesThreading, ThreadedInOnDisk, UnloadedOnDisk, complete_after, disk_of_device, disk_pair_at, header_address, header_pairs, kept_in_order, kept_view, length-map, thread_pair}
+use Rattle.lfs_thread.proofs.Common.{ne_eqb, same_Some, option_and_then, Blocks, RawContent, decoded_content, Disk, block_count, FitsInPair, PairContent, Tail, null_address, tail_if_not_null, Pair, BlockStates, ContentChange, PutTail, content_after_changes, changed_pair_content, content_with_changes, IsAllowedTail, CallEvent, complete_length, complete_take, completed_from, completed_parts, does_first, does_nothing, puts_tail, CanMoveNext, CanUnload, HasOldPair, IsHeader, IsKeptOnDisk, IsNextMoved, IsPairAddress, IsThreadedIn, IsUnloaded, KeepsSuperblockFirst, KeptThread, LossLeavesNextMoved, LossLeavesThreaded, LossLeavesUnloaded, NextMovedOnDisk, PairHeader, RefusesThreading, ThreadedInOnDisk, UnloadedOnDisk, complete_after, disk_of_device, disk_pair_at, header_address, header_pairs, kept_in_order, kept_view, length-map, thread_pair}
 use Rattle.lfs_thread.specs.Joins.{IsJoined, JoinedOnDisk, LossLeavesJoined, pair_behind, pairs_joined}
 use Rattle.lfs_thread.specs.Moves.{pair_leading_to}
 use Rattle.lfs_thread.specs.Unloads.{changes_of_unload, unloaded_pair}
@@ -31,8 +31,8 @@ named disk fresh on few =
 
 hard_made : (c : RawContent) (fresh : ℕ × ℕ) → IsAllowedTail (hard_to fresh) → content_with_changes c (PutTail true (Some fresh) ∷ []) ≡ Some (record c { tail = hard_to fresh })
 hard_made c fresh h =
-    let is : tail_if_any true fresh ≡ hard_to fresh = ap (λ b. cond b None (hard_to fresh)) h.1 in
-    does_first (PutTail true (Some fresh)) [] c (record c { tail = tail_if_any true fresh }) (record c { tail = tail_if_any true fresh }) (puts_tail c true fresh h.0) (does_nothing (record c { tail = tail_if_any true fresh }))
+    let is : tail_if_not_null true fresh ≡ hard_to fresh = ap (λ b. cond b None (hard_to fresh)) h.1 in
+    does_first (PutTail true (Some fresh)) [] c (record c { tail = tail_if_not_null true fresh }) (record c { tail = tail_if_not_null true fresh }) (puts_tail c true fresh h.0) (does_nothing (record c { tail = tail_if_not_null true fresh }))
     ∙ ap (λ (x : Option Tail). Some (record c { tail = x })) is
 
 take_removed : {X : Type 0} (k : ℕ) (xs : List X) → take k (remove xs k) ≡ take k xs
@@ -55,8 +55,8 @@ leave_made (suc count) c fresh keep allowed is few =
     (leave_made count (record c { slots = remove c.slots keep }) fresh keep allowed (omega (arith, is, less)) (omega (arith, less, few)))
     ∙ ap (λ slots. Some (record { slots = slots; tail = hard_to fresh; move = c.move })) (take_removed keep c.slots)
 
-left_complete : (raw : RawContent) (c : PairContent) (keep : ℕ) (t : Option Tail) → complete_content raw ≡ Some c
-    → complete_content (record { slots = take keep raw.slots; tail = t; move = raw.move }) ≡ Some (record { slots = take keep c.slots; tail = t; move = c.move })
+left_complete : (raw : RawContent) (c : PairContent) (keep : ℕ) (t : Option Tail) → decoded_content raw ≡ Some c
+    → decoded_content (record { slots = take keep raw.slots; tail = t; move = raw.move }) ≡ Some (record { slots = take keep c.slots; tail = t; move = c.move })
 left_complete raw c keep t h =
     let parts = completed_parts raw c h in
     completed_from (record { slots = take keep raw.slots; tail = t; move = raw.move }) (take keep c.slots) (complete_take keep raw.slots c.slots parts.slots)
@@ -79,9 +79,9 @@ leave_after disk history hs sets index fresh keep count few kept on below counte
     let was = pair_at_index disk history hs sets index at.0 at.1 in
     let content_is : is.content ≡ (thread_pair (kept_view disk history hs sets) index).content = sym (ap (λ (p : Pair). p.content) (was ∙ pair_on_content disk (header_address at.0) is.content (header_content disk history at.0 is))) in
     let same_count : length is.held.slots ≡ length (thread_pair (kept_view disk history hs sets) index).content.slots = sym (complete_length is.held.slots is.content.slots (completed_parts is.held is.content is.complete).slots) ∙ ap (λ (c : PairContent). length c.slots) content_is in
-    ap (λ (p : Pair). option_and_then complete_content (changed_pair_content disk p.at (changes_of_unload fresh keep count))) was
-    ∙ ap (λ r. option_and_then complete_content (content_after_changes r (changes_of_unload fresh keep count))) is.raw
-    ∙ ap (λ r. option_and_then complete_content r) (leave_made count is.held fresh keep (named disk fresh on few) (same_count ∙ counted) (omega (arith, same_count, some)))
+    ap (λ (p : Pair). option_and_then decoded_content (changed_pair_content disk p.at (changes_of_unload fresh keep count))) was
+    ∙ ap (λ r. option_and_then decoded_content (content_after_changes r (changes_of_unload fresh keep count))) is.raw
+    ∙ ap (λ r. option_and_then decoded_content r) (leave_made count is.held fresh keep (named disk fresh on few) (same_count ∙ counted) (omega (arith, same_count, some)))
     ∙ left_complete is.held is.content keep (hard_to fresh) is.complete
     ∙ ap (λ (c : PairContent). Some (record { slots = take keep c.slots; tail = hard_to fresh; move = c.move })) content_is
 

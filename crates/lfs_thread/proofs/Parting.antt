@@ -1,6 +1,6 @@
 -- A split of a pair of the thread.
 use Rattle.std.proofs.Common.{ℕ, zero, suc, ◌≡◌, ◌⊎◌, inl, inr, ◌+◌, ◌-◌, ◌<◌, true, List, [], ◌∷◌, ◌++◌, length, take, drop, Option, Some, None, refl, sym, ap, ap₂, subst, ◌∙◌, arith, set, insert}
-use Rattle.lfs_thread.proofs.Common.{option_and_then, option_map, same_Some, map-append, length-map, flat_map-append, set-append_seam, Blocks, BlockStates, IsUsedBlock, disk_of_blocks, Disk, CallEvent, Slot, PairContent, FitsInPair, Gstate, Tail, zero_gstate, AreWellFormed, IsWellFormed, nothing_logged, BeginsWith, superblock_entry, ContentChange, RawSlot, RawContent, current_block, raw_content, content_at, content_after, complete_content, complete_slots, empty_raw_content, block_entries, Pair, AreLinked, tail_target, pairs_blocks, number_occurrences, once_from_distinct, complete_parts, complete_take, completed_from, fits_pair, header_address, IsPairAddress, CanCommit, HasOldContent, KeepsFirstEntry, changed_pair_content, content_after_changes, superblock_anew, KeepsOutsideBoth, KeptThread, PairHeader, kept_view, disk_pair_at, header_pairs, IsHeader, AllBlocksUsed, IsKeptOnDisk, thread_pair, CanSplitAt, map_using, pairs_split, HasSplit, SplitOnDisk, PartsFit, HasOldPair, LossLeavesThreadSplit}
+use Rattle.lfs_thread.proofs.Common.{option_and_then, option_map, same_Some, map-append, length-map, flat_map-append, set-append_seam, Blocks, BlockStates, IsUsedBlock, disk_of_blocks, Disk, CallEvent, Slot, PairContent, FitsInPair, Gstate, Tail, zero_gstate, AreWellFormed, IsWellFormed, nothing_logged, HasFirstLogEntry, superblock_entry, ContentChange, RawSlot, RawContent, current_block, raw_content, content_at, content_after, decoded_content, decoded_slots, empty_raw_content, block_entries, Pair, AreLinkedByTails, tail_target, pairs_blocks, occurrence_count, once_from_distinct, complete_parts, complete_take, completed_from, fits_pair, header_address, IsPairAddress, CanCommit, HasOldContent, KeepsFirstEntry, changed_pair_content, content_after_changes, superblock_anew, KeepsOutsideBoth, KeptThread, PairHeader, kept_view, disk_pair_at, header_pairs, IsHeader, AllBlocksUsed, IsKeptOnDisk, thread_pair, CanSplitAt, map_using, pairs_split, HasSplit, SplitOnDisk, PartsFit, HasOldPair, LossLeavesThreadSplit}
 use Rattle.std.proofs.lemmas.List.Edits.{insert-append_right}
 use Rattle.lfs_device.specs.declared.geometry.Geometry.{Geometry}
 use Rattle.lfs_model.proofs.Completed.{complete_drop}
@@ -14,14 +14,14 @@ use Rattle.lfs_thread.proofs.Changing.{IsAt, header_at_index, pair_at_index, Com
 -- ---- the parts of a complete content
 
 record IsComplete (raw : RawContent) (c : PairContent) : Type 0 where
-  pub slots : complete_slots raw.slots ≡ Some c.slots
+  pub slots : decoded_slots raw.slots ≡ Some c.slots
   pub tail : c.tail ≡ raw.tail
   pub move : c.move ≡ raw.move
 
-is_complete : (raw : RawContent) (c : PairContent) → complete_content raw ≡ Some c → IsComplete raw c
-is_complete raw c h = go (complete_slots raw.slots) refl h
+is_complete : (raw : RawContent) (c : PairContent) → decoded_content raw ≡ Some c → IsComplete raw c
+is_complete raw c h = go (decoded_slots raw.slots) refl h
   where
-    go : (o : Option (List Slot)) → complete_slots raw.slots ≡ o → option_map (λ slots. record { slots = slots; tail = raw.tail; move = raw.move }) o ≡ Some c → IsComplete raw c
+    go : (o : Option (List Slot)) → decoded_slots raw.slots ≡ o → option_map (λ slots. record { slots = slots; tail = raw.tail; move = raw.move }) o ≡ Some c → IsComplete raw c
     go None e k = absurd (cc)
     go (Some all) e k =
         let is : record { slots = all; tail = raw.tail; move = raw.move } ≡ c = same_Some (record { slots = all; tail = raw.tail; move = raw.move }) c k in
@@ -32,12 +32,12 @@ is_complete raw c h = go (complete_slots raw.slots) refl h
         }
 
 front_complete : (raw : RawContent) (c : PairContent) (cut : ℕ) (fresh : ℕ × ℕ) → IsComplete raw c
-    → complete_content (split_front raw cut fresh) ≡ Some (record { slots = take cut c.slots; tail = Some (record { hard = true; to = fresh }); move = c.move })
+    → decoded_content (split_front raw cut fresh) ≡ Some (record { slots = take cut c.slots; tail = Some (record { hard = true; to = fresh }); move = c.move })
 front_complete raw c cut fresh is =
     ap (option_map (λ (slots : List Slot). record { slots = slots; tail = Some (record { hard = true; to = fresh }); move = raw.move })) (complete_take cut raw.slots c.slots is.slots)
     ∙ ap (λ m. Some (record { slots = take cut c.slots; tail = Some (record { hard = true; to = fresh }); move = m })) (sym is.move)
 
-back_complete : (raw : RawContent) (c : PairContent) (cut : ℕ) → IsComplete raw c → complete_content (split_back raw cut) ≡ Some (record { slots = drop cut c.slots; tail = c.tail; move = zero_gstate })
+back_complete : (raw : RawContent) (c : PairContent) (cut : ℕ) → IsComplete raw c → decoded_content (split_back raw cut) ≡ Some (record { slots = drop cut c.slots; tail = c.tail; move = zero_gstate })
 back_complete raw c cut is =
     ap (option_map (λ (slots : List Slot). record { slots = slots; tail = raw.tail; move = zero_gstate })) (complete_drop cut raw.slots c.slots is.slots)
     ∙ ap (λ t. Some (record { slots = drop cut c.slots; tail = t; move = zero_gstate })) (sym is.tail)
@@ -52,20 +52,20 @@ HaveParts-drop zero slots have = have
 HaveParts-drop (suc n) [] have = tt
 HaveParts-drop (suc n) (s ∷ slots) have = HaveParts-drop n slots have.1
 
-slots_fit : (block_size page : ℕ) (slots : List RawSlot) (us : List Slot) (tail : Option Tail) (move : Gstate) → AreWellFormed slots → complete_slots slots ≡ Some us → SlotsFitPair block_size page slots
+slots_fit : (block_size page : ℕ) (slots : List RawSlot) (us : List Slot) (tail : Option Tail) (move : Gstate) → AreWellFormed slots → decoded_slots slots ≡ Some us → SlotsFitPair block_size page slots
     → FitsInPair block_size page (record { slots = us; tail = tail; move = move })
 slots_fit block_size page slots us tail move have e fit =
     let f = fits_pair block_size page (record { slots = slots; tail = None; move = zero_gstate }) (record { slots = us; tail = None; move = zero_gstate })
     (record { slots = have; tail = tt; move = nothing_logged.move }) (completed_from (record { slots = slots; tail = None; move = zero_gstate }) us e) (record { size = fit.size; count = fit.count }) in
     record { size = f.size; count = f.count }
 
-complete_length : (slots : List RawSlot) (all : List Slot) → complete_slots slots ≡ Some all → length all ≡ length slots
+complete_length : (slots : List RawSlot) (all : List Slot) → decoded_slots slots ≡ Some all → length all ≡ length slots
 complete_length [] all e = ap length (sym (same_Some [] all e))
 complete_length (s ∷ slots) all e =
     let p = complete_parts s slots all e in
     ap length p.all_are ∙ ap suc (complete_length slots p.others p.are_others)
 
-parts_of_cut : (old : KeptThread) (index : ℕ) (raw : RawContent) (c : PairContent) (cut : ℕ) (fresh : ℕ × ℕ) (disk : Disk) → IsComplete raw c → complete_content raw ≡ Some c → IsWellFormed raw → IsFittingSplit old.disk.block_size old.disk.page raw.slots cut
+parts_of_cut : (old : KeptThread) (index : ℕ) (raw : RawContent) (c : PairContent) (cut : ℕ) (fresh : ℕ × ℕ) (disk : Disk) → IsComplete raw c → decoded_content raw ≡ Some c → IsWellFormed raw → IsFittingSplit old.disk.block_size old.disk.page raw.slots cut
     → BothHaveSlots old.disk.block_size old.disk.page raw cut
     → KeepsFirstEntry old.disk (thread_pair old index).at (Some (split_front raw cut fresh)) disk → PartsFit old index c cut fresh disk
 parts_of_cut old index raw c cut fresh disk is whole logged is_cut is_inside keeps = record {
@@ -145,8 +145,8 @@ module _ (disk : Disk) (before : List CallEvent) (blocks : Blocks) (after : List
   was_pair : thread_pair (kept_view disk before hs sets) index ≡ disk_pair_at disk (header_address h)
   was_pair = pair_at_index disk before hs sets index h a
 
-  is_whole : complete_content splits.new ≡ Some c
-  is_whole = let m = made_of_header disk before hs sets index h changes c a can.can.made in ap complete_content (same_Some splits.new m.raw (sym splits.made ∙ m.is)) ∙ m.complete
+  is_whole : decoded_content splits.new ≡ Some c
+  is_whole = let m = made_of_header disk before hs sets index h changes c a can.can.made in ap decoded_content (same_Some splits.new m.raw (sym splits.made ∙ m.is)) ∙ m.complete
 
   parts_of : IsComplete splits.new c
   parts_of = is_complete splits.new c is_whole
@@ -212,10 +212,10 @@ module _ (disk : Disk) (before : List CallEvent) (blocks : Blocks) (after : List
     free = two_unused sets fresh.0 fresh.1 (pairs_blocks (header_pairs disk (a.front ++ (h ∷ [] ++ a.back)))) uses.first_unused uses.second_unused uses.apart kept_parts.used
         (once_from_distinct (pairs_blocks (header_pairs disk (a.front ++ (h ∷ [] ++ a.back)))) kept_parts.distinct);
     each = (new_header, (fresh_header, tt));
-    no_more = λ b. let e = ap (number_occurrences b) new_blocks in omega arith;
+    no_more = λ b. let e = ap (occurrence_count b) new_blocks in omega arith;
     links = λ ys from l. (
       l.0 ∙ ap Some (sym splits.front.same),
-      (ap (λ (p : Pair). tail_target p.content.tail) new_pair ∙ ap Some (sym splits.back.same), subst (λ n. AreLinked n ys) (sym same_next) l.1),
+      (ap (λ (p : Pair). tail_target p.content.tail) new_pair ∙ ap Some (sym splits.back.same), subst (λ n. AreLinkedByTails n ys) (sym same_next) l.1),
     );
     size = uses.size ∙ kept_parts.size;
     used = (
@@ -318,8 +318,8 @@ left_by_split disk before hs sets index h fresh changes blocks a kept can l = re
     was : content_at disk (header_address h) ≡ Some (thread_pair (kept_view disk before hs sets) index).content
     was = header_content disk before h is ∙ ap (λ (p : Pair). Some p.content) (sym (e ∙ pair_on_content disk (header_address h) is.content (header_content disk before h is)))
 
-    made_whole : (raw : RawContent) → changed_pair_content disk (header_address h) changes ≡ Some raw → complete_content raw ≡ Some can.can.content
-    made_whole raw made = let m = made_of_header disk before hs sets index h changes can.can.content a can.can.made in ap complete_content (same_Some raw m.raw (sym made ∙ m.is)) ∙ m.complete
+    made_whole : (raw : RawContent) → changed_pair_content disk (header_address h) changes ≡ Some raw → decoded_content raw ≡ Some can.can.content
+    made_whole raw made = let m = made_of_header disk before hs sets index h changes can.can.content a can.can.made in ap decoded_content (same_Some raw m.raw (sym made ∙ m.is)) ∙ m.complete
 
     whole : (raw : RawContent) → changed_pair_content disk (header_address h) changes ≡ Some raw → IsComplete raw can.can.content
     whole raw made = is_complete raw can.can.content (made_whole raw made)
@@ -328,15 +328,15 @@ left_by_split disk before hs sets index h fresh changes blocks a kept can l = re
         → HasOldPair (kept_view disk before hs sets) index (record disk { blocks = blocks })
         ⊎ SplitOnDisk (kept_view disk before hs sets) index changes fresh (record disk { blocks = blocks })
     sides (inl k) = inl (record {
-      holds = ap (λ (p : Pair). content_at (record disk { blocks = blocks }) p.at) e ∙ ap (λ o. option_and_then complete_content o) k.content ∙ was;
-      first = subst (λ (p : Pair). BeginsWith (current_block disk p.at) superblock_entry → BeginsWith (current_block (record disk { blocks = blocks }) p.at) superblock_entry) (sym e) (k.first superblock_entry);
+      holds = ap (λ (p : Pair). content_at (record disk { blocks = blocks }) p.at) e ∙ ap (λ o. option_and_then decoded_content o) k.content ∙ was;
+      first = subst (λ (p : Pair). HasFirstLogEntry (current_block disk p.at) superblock_entry → HasFirstLogEntry (current_block (record disk { blocks = blocks }) p.at) superblock_entry) (sym e) (k.first superblock_entry);
     })
     sides (inr k) = inr (record {
       content = can.can.content;
       made = can.can.made;
       cut = k.cut;
-      front = ap (λ (p : Pair). content_at (record disk { blocks = blocks }) p.at) e ∙ ap (λ o. option_and_then complete_content o) k.front.content ∙ front_complete k.new can.can.content k.cut fresh (whole k.new k.made);
-      back = ap (λ o. option_and_then complete_content o) k.back ∙ back_complete k.new can.can.content k.cut (whole k.new k.made);
+      front = ap (λ (p : Pair). content_at (record disk { blocks = blocks }) p.at) e ∙ ap (λ o. option_and_then decoded_content o) k.front.content ∙ front_complete k.new can.can.content k.cut fresh (whole k.new k.made);
+      back = ap (λ o. option_and_then decoded_content o) k.back ∙ back_complete k.new can.can.content k.cut (whole k.new k.made);
       parts = parts_of_cut (kept_view disk before hs sets) index k.new can.can.content k.cut fresh (record disk { blocks = blocks }) (whole k.new k.made) (made_whole k.new k.made) k.logged k.is_cut k.inside
           (subst (λ (p : Pair). KeepsFirstEntry disk p.at (Some (split_front k.new k.cut fresh)) (record disk { blocks = blocks })) (sym e) k.front.first);
     })

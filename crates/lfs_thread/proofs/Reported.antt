@@ -6,10 +6,10 @@ use Rattle.lfs_device.specs.declared.device.BlockDevice.{Ghosts}
 use Rattle.lfs_device.specs.declared.error.Error.{Error}
 use Rattle.lfs_device.specs.declared.error.Error.TheVariants.{Io, NoMemory}
 use Rattle.lfs_device.specs.declared.geometry.Geometry.{Geometry}
-use Rattle.lfs_thread.proofs.Common.{ReadsOnly, disk_of_blocks, Blocks, SameExceptBlocks, BlockStates, ordered_disk, HoldsAtLosses-weaker, goes_on_by, ChangesReadingFew, ReportsWritingNothing, PairHeader, kept_in_order, ThreadReportsErrors, ThreadReportsKeepingOthers, ChangesWithinReads, address_blocks, addresses_blocks}
+use Rattle.lfs_thread.proofs.Common.{ReadsOnly, disk_of_blocks, Blocks, SameExceptBlocks, BlockStates, disk_with_order, HoldsAtLosses-weaker, goes_on_by, ChangesReadingFew, ReportsWritingNothing, PairHeader, kept_in_order, ThreadReportsErrors, ThreadReportsKeepingOthers, ChangesWithinReads, address_blocks, addresses_blocks}
 use Rattle.lfs_device.specs.DeviceCalls.{ChangesTheseBlocks, ReportsFaults}
 use Rattle.lfs_model.specs.declared.order.NameOrder.{NameOrder}
-use Rattle.lfs_model.proofs.Histories.{StayUnprogrammed-trans, StayUnprogrammed-wider}
+use Rattle.lfs_model.proofs.Histories.{OthersStayUnprogrammed-trans, OthersStayUnprogrammed-wider}
 use Rattle.lfs_model.proofs.Overwrites.{SameExceptBlocks-trans, SameExceptBlocks-wider}
 use Rattle.lfs_pair.specs.declared.pair.Pair.{Pair}
 use Rattle.lfs_pair.specs.Commits.{CommitFails}
@@ -19,7 +19,7 @@ use Rattle.lfs_thread.specs.ThreadSteps.{OnlyReadsDevice, ChangesThreadBlocks}
 
 module _ {D : Type 0} (g : Ghosts D) (order : NameOrder) (old new : D) (hs now_hs : List PairHeader) (sets now_sets : BlockStates) where
   pub unwritten_from : ReadsOnly g old new → OnlyReadsDevice (kept_in_order g order old hs sets) (kept_in_order g order new now_hs now_sets)
-  unwritten_from r = record { disk = ap₂ (λ k bs. ordered_disk order (disk_of_blocks k bs)) r.geometry r.same; reads = r.reads }
+  unwritten_from r = record { disk = ap₂ (λ k bs. disk_with_order order (disk_of_blocks k bs)) r.geometry r.same; reads = r.reads }
 
   pub reported_from : {X : Type 0} (result : Result X Error) → ReportsWritingNothing g old new result → ThreadReportsErrors (kept_in_order g order old hs sets) (kept_in_order g order new now_hs now_sets) result
   reported_from result t = record {
@@ -69,7 +69,7 @@ module _ {D : Type 0} (g : Ghosts D) (at fresh : ℕ × ℕ) where
   pub changes_by_fresh : {old new : D} → ChangesTheseBlocks g (address_blocks fresh) old new → ChangesTheseBlocks g (addresses_blocks at fresh) old new
   changes_by_fresh w = record {
     others = keeps_by_fresh at fresh w.others;
-    elsewhere = StayUnprogrammed-wider (addresses_blocks at fresh) (among_second at fresh) w.elsewhere;
+    elsewhere = OthersStayUnprogrammed-wider (addresses_blocks at fresh) (among_second at fresh) w.elsewhere;
     geometry = w.geometry;
     at_worst = HoldsAtLosses-weaker (λ disk left. keeps_by_fresh at fresh left) w.at_worst;
   }
@@ -77,7 +77,7 @@ module _ {D : Type 0} (g : Ghosts D) (at fresh : ℕ × ℕ) where
   pub changes_by_both : {old mid new : D} → ChangesTheseBlocks g (address_blocks fresh) old mid → ChangesTheseBlocks g (address_blocks at) mid new → ChangesTheseBlocks g (addresses_blocks at fresh) old new
   changes_by_both w v = record {
     others = keeps_by_both at fresh w.others v.others;
-    elsewhere = StayUnprogrammed-trans (StayUnprogrammed-wider (addresses_blocks at fresh) (among_second at fresh) w.elsewhere) (StayUnprogrammed-wider (addresses_blocks at fresh) (among_first at fresh) v.elsewhere);
+    elsewhere = OthersStayUnprogrammed-trans (OthersStayUnprogrammed-wider (addresses_blocks at fresh) (among_second at fresh) w.elsewhere) (OthersStayUnprogrammed-wider (addresses_blocks at fresh) (among_first at fresh) v.elsewhere);
     geometry = v.geometry ∙ w.geometry;
     at_worst = goes_on_by (HoldsAtLosses-weaker (λ disk left. keeps_by_fresh at fresh left) w.at_worst)
         (HoldsAtLosses-weaker (λ disk left. keeps_by_both at fresh w.others left) v.at_worst);

@@ -1,6 +1,6 @@
 -- A fresh pair, before a tail names it and after.
 use Rattle.std.proofs.Common.{ℕ, arith, length-append, ◌≡◌, ◌⊎◌, inl, inr, get_or, ◌+◌, ◌<◌, ◌≤◌, List, [], ◌∷◌, length, Some, refl, sym, ap, ap₂, subst, ◌∙◌, set, insert, remove}
-use Rattle.lfs_thread.proofs.Common.{same_Some, map-append, flat_map-append, Blocks, option_and_then, fits_pair, BeginsWith, superblock_entry, BlockStates, IsUsedBlock, Disk, disk_of_blocks, LossLeavesAtWorst, CallEvent, HoldsAtLosses, OnlyReadsSince, LeftByLoss, AllCallsSince-behind, HoldsAtLosses-weaker, HoldsAtLosses-worst, goes_on_by, PairContent, FitsInPair, ContentChange, RawContent, current_block, raw_content, content_at, complete_content, Pair, pairs_blocks, header_address, IsWellFormed, CanCommit, CommitsChanges, HasChangedContent, HasOldContent, KeepsFirstEntry, LossLeavesChanged, changed_pair_content, KeepsOutsidePair, OutsideStaysUnprogrammed, AreApart, KeepsOutsideBoth, superblock_anew, AreElsewhere, raw_content-stays, KeptThread, PairHeader, kept_view, disk_pair_at, header_pairs, IsHeader, AllBlocksUsed, IsKeptOnDisk, CleanLossLeaves, thread_pair, empty_anchor, RefusesThreading, complete_after, CanThreadIn, HasSuperblock, HasOldPair, KeepsSuperblockFirst, map_using, tail_target, pair_revision, length-map, length-set, map_freeing, Used}
+use Rattle.lfs_thread.proofs.Common.{same_Some, map-append, flat_map-append, Blocks, option_and_then, fits_pair, HasFirstLogEntry, superblock_entry, BlockStates, IsUsedBlock, Disk, disk_of_blocks, LossLeavesAtWorst, CallEvent, HoldsAtLosses, OnlyReadsSince, LeftByLoss, AllCallsSince-behind, HoldsAtLosses-weaker, HoldsAtLosses-worst, goes_on_by, PairContent, FitsInPair, ContentChange, RawContent, current_block, raw_content, content_at, decoded_content, Pair, pairs_blocks, header_address, IsWellFormed, CanCommit, CommitsChanges, HasChangedContent, HasOldContent, KeepsFirstEntry, LossLeavesChanged, changed_pair_content, KeepsOutsidePair, OutsideStaysUnprogrammed, AreApart, KeepsOutsideBoth, superblock_anew, AreElsewhere, raw_content-stays, KeptThread, PairHeader, kept_view, disk_pair_at, header_pairs, IsHeader, AllBlocksUsed, IsKeptOnDisk, CleanLossLeaves, thread_pair, empty_anchor, RefusesThreading, complete_after, CanThreadIn, HasSuperblock, HasOldPair, KeepsSuperblockFirst, map_using, tail_target, pair_revision, length-map, length-set, map_freeing, Used}
 use Rattle.std.proofs.lemmas.List.Edits.{length-insert}
 use Rattle.lfs_device.specs.declared.geometry.Geometry.{Geometry}
 use Rattle.lfs_thread.specs.Joins.{CanDropCopied, CanHold, IsJoined, IsWrittenBehind, JoinedOnDisk, LossLeavesJoined, map_without, pair_behind, pairs_joined, source_index}
@@ -72,7 +72,7 @@ module _ (disk : Disk) (history : List CallEvent) (hs : List PairHeader) (sets :
   same_raw = raw_content-stays disk (pair_elsewhere apart) others
 
   -- the log that holds begins as it did
-  still_first : (left : Disk) (c : PairContent) → (BeginsWith (current_block beside (header_address h)) superblock_entry → HasSuperblock c → BeginsWith (current_block left (header_address h)) superblock_entry)
+  still_first : (left : Disk) (c : PairContent) → (HasFirstLogEntry (current_block beside (header_address h)) superblock_entry → HasSuperblock c → HasFirstLogEntry (current_block left (header_address h)) superblock_entry)
       → KeepsSuperblockFirst disk (header_address h) c left
   still_first left c f begins has = f (first_stays disk (pair_elsewhere apart) others superblock_entry begins) has
 
@@ -81,8 +81,8 @@ module _ (disk : Disk) (history : List CallEvent) (hs : List PairHeader) (sets :
   pub old_beside : (left : Blocks) → KeepsOutsidePair fresh disk.blocks left → HasOldPair old index (record disk { blocks = left })
   old_beside left keeps = record {
     holds = ap (λ (p : Pair). content_at (record disk { blocks = left }) p.at) was_pair
-        ∙ ap (λ r. option_and_then complete_content r) (raw_content-stays disk (pair_elsewhere apart) keeps) ∙ was_content;
-    first = subst (λ (p : Pair). BeginsWith (current_block disk p.at) superblock_entry → BeginsWith (current_block (record disk { blocks = left }) p.at) superblock_entry) (sym was_pair)
+        ∙ ap (λ r. option_and_then decoded_content r) (raw_content-stays disk (pair_elsewhere apart) keeps) ∙ was_content;
+    first = subst (λ (p : Pair). HasFirstLogEntry (current_block disk p.at) superblock_entry → HasFirstLogEntry (current_block (record disk { blocks = left }) p.at) superblock_entry) (sym was_pair)
         (first_stays disk (pair_elsewhere apart) keeps superblock_entry);
   }
 
@@ -93,8 +93,8 @@ module _ (disk : Disk) (history : List CallEvent) (hs : List PairHeader) (sets :
 
   pub old_still : (left : Blocks) → HasOldContent beside (header_address h) (record disk { blocks = left }) → HasOldPair old index (record disk { blocks = left })
   old_still left k = record {
-    holds = ap (λ (p : Pair). content_at (record disk { blocks = left }) p.at) was_pair ∙ ap (λ o. option_and_then complete_content o) (k.content ∙ same_raw) ∙ was_content;
-    first = subst (λ (p : Pair). BeginsWith (current_block disk p.at) superblock_entry → BeginsWith (current_block (record disk { blocks = left }) p.at) superblock_entry) (sym was_pair)
+    holds = ap (λ (p : Pair). content_at (record disk { blocks = left }) p.at) was_pair ∙ ap (λ o. option_and_then decoded_content o) (k.content ∙ same_raw) ∙ was_content;
+    first = subst (λ (p : Pair). HasFirstLogEntry (current_block disk p.at) superblock_entry → HasFirstLogEntry (current_block (record disk { blocks = left }) p.at) superblock_entry) (sym was_pair)
         (λ begins. k.first superblock_entry (first_stays disk (pair_elsewhere apart) others superblock_entry begins));
   }
 
@@ -102,12 +102,12 @@ module _ (disk : Disk) (history : List CallEvent) (hs : List PairHeader) (sets :
   made_beside = made_of_header beside then hs sets index h changes can.content a still_made
 
   -- the content that the changes make is complete
-  pub whole_made : (new : RawContent) → changed_pair_content beside (header_address h) changes ≡ Some new → complete_content new ≡ Some can.content
-  whole_made new made = ap complete_content (same_Some new made_beside.raw (sym made ∙ made_beside.is)) ∙ made_beside.complete
+  pub whole_made : (new : RawContent) → changed_pair_content beside (header_address h) changes ≡ Some new → decoded_content new ≡ Some can.content
+  whole_made new made = ap decoded_content (same_Some new made_beside.raw (sym made ∙ made_beside.is)) ∙ made_beside.complete
 
   pub content_made_there : (left : Blocks) (new : RawContent) → changed_pair_content beside (header_address h) changes ≡ Some new → raw_content (record disk { blocks = left }) (header_address h) ≡ Some new
       → content_at (record disk { blocks = left }) (thread_pair old index).at ≡ Some can.content
-  content_made_there left new made is = ap (λ (p : Pair). content_at (record disk { blocks = left }) p.at) was_pair ∙ ap (λ o. option_and_then complete_content o) is ∙ whole_made new made
+  content_made_there left new made is = ap (λ (p : Pair). content_at (record disk { blocks = left }) p.at) was_pair ∙ ap (λ o. option_and_then decoded_content o) is ∙ whole_made new made
 
   pub first_made : (left : Blocks) (new : RawContent) → changed_pair_content beside (header_address h) changes ≡ Some new → IsWellFormed new → KeepsFirstEntry beside (header_address h) (Some new) (record disk { blocks = left })
       → KeepsSuperblockFirst disk (thread_pair old index).at can.content (record disk { blocks = left })
@@ -139,7 +139,7 @@ module _ (disk : Disk) (history : List CallEvent) (hs : List PairHeader) (sets :
           fits = fits_pair disk.block_size disk.page k.new can.content k.logged (whole_made k.new k.made) k.fits;
           holds = content_made_there left k.new k.made k.now.content;
           behind = ap (content_at (record disk { blocks = left })) (sym is.at)
-              ∙ ap (λ r. option_and_then complete_content r) (raw_content-stays beside f_elsewhere l.others)
+              ∙ ap (λ r. option_and_then decoded_content r) (raw_content-stays beside f_elsewhere l.others)
               ∙ header_content beside then f is.header ∙ ap Some is.content;
           first = first_made left k.new k.made k.logged k.now.first;
           anew = begins_anew left l.others;
@@ -209,14 +209,14 @@ module _ (geometry later : Geometry) (old mid : Blocks) (before then : List Call
       (kept_read (disk_of_blocks geometry mid) mid then after hs sets reads (still_kept (disk_of_blocks geometry old) before hs sets index h fresh changes a kept can b mid then others stay)))
 
   pub is_beside : (disk : Disk) (after : List CallEvent) → disk ≡ disk_of_blocks later mid
-      → ((raw : RawContent) (d : PairContent) → changed_pair_content (disk_of_blocks later mid) (header_address h) changes ≡ Some raw → complete_content raw ≡ Some d → FitsInPair later.block_size later.page d → ⊥)
+      → ((raw : RawContent) (d : PairContent) → changed_pair_content (disk_of_blocks later mid) (header_address h) changes ≡ Some raw → decoded_content raw ≡ Some d → FitsInPair later.block_size later.page d → ⊥)
       → RefusesThreading was index fresh changes (kept_view disk after hs sets)
   is_beside disk after e too_large = subst (λ d. RefusesThreading was index fresh changes (kept_view d after hs sets)) (sym e) (subst (λ k. RefusesThreading was index fresh changes (kept_view (disk_of_blocks k mid) after hs sets)) (sym same) (record {
     content = can.content;
     made = can.made;
     too_large = λ f.
         let m = made_of_header (disk_of_blocks geometry mid) then hs sets index h changes can.content a (still_made (disk_of_blocks geometry old) before hs sets index h fresh changes a kept can b mid then others stay) in
-        subst (λ k. (raw : RawContent) (d : PairContent) → changed_pair_content (disk_of_blocks k mid) (header_address h) changes ≡ Some raw → complete_content raw ≡ Some d → FitsInPair k.block_size k.page d → ⊥) same too_large m.raw can.content m.is m.complete f;
+        subst (λ k. (raw : RawContent) (d : PairContent) → changed_pair_content (disk_of_blocks k mid) (header_address h) changes ≡ Some raw → decoded_content raw ≡ Some d → FitsInPair k.block_size k.page d → ⊥) same too_large m.raw can.content m.is m.complete f;
     pairs = still_pairs (disk_of_blocks geometry old) before hs sets index h fresh changes a kept can b mid then others stay;
     map = refl;
     others = others;

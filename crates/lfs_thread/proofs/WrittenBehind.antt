@@ -1,9 +1,9 @@
 -- The fresh pair of a step is written: its conditions, and its content.
 use Rattle.std.proofs.Common.{ℕ, ◌≡◌, ◌+◌, ◌%◌, ◌^◌, ◌<◌, ◌≤◌, ◌==◌, ◌&&◌, true, false, cond, List, [], ◌∷◌, ◌++◌, Option, Some, None, sym, ap, ap₂, subst, ◌∙◌, arith, not, slice_get, flat_map}
-use Rattle.lfs_thread.proofs.Common.{ne_eqb, same_Some, map-append, Blocks, option_map, tail_view, completed_from, completed_parts, fits_raw, nothing_logged, superblock_anew, BeginsWith, superblock_entry, BlockStates, Disk, block_count, disk_block, CallEvent, FitsInPair, Gstate, LogEntry, PairContent, Tail, zero_gstate, null_address, AreNamed, AreWellFormed, IsAllowedTail, ContentChange, PutMove, PutTail, content_with_changes, content_after_changes, does_first, does_nothing, puts_tail, RawContent, empty_raw_content, raw_content, complete_content, current_block, tail_if_any, Pair, AreLinked, anchor_address, tail_target, AreHeaders, CanCopyPair, HasSuperblock, IsHeader, IsKeptOnDisk, IsPairAddress, IsPairCopied, KeepsOutsidePair, PairHeader, disk_pair_at, header_address, header_pairs, kept_view, pair_revision, tail_change, thread_pair, KeptThread}
-use Rattle.lfs_model.specs.format.Content.{current_of_two, has_commit, is_later}
+use Rattle.lfs_thread.proofs.Common.{ne_eqb, same_Some, map-append, Blocks, option_map, tail_view, completed_from, completed_parts, fits_raw, nothing_logged, superblock_anew, HasFirstLogEntry, superblock_entry, BlockStates, Disk, block_count, disk_block, CallEvent, FitsInPair, Gstate, LogEntry, PairContent, Tail, zero_gstate, null_address, AreNamed, AreWellFormed, IsAllowedTail, ContentChange, PutMove, PutTail, content_with_changes, content_after_changes, does_first, does_nothing, puts_tail, RawContent, empty_raw_content, raw_content, decoded_content, current_block, tail_if_not_null, Pair, AreLinkedByTails, superblock_pair_address, tail_target, AreHeaders, CanCopyPair, HasSuperblock, IsHeader, IsKeptOnDisk, IsPairAddress, IsPairCopied, KeepsOutsidePair, PairHeader, disk_pair_at, header_address, header_pairs, kept_view, pair_revision, tail_change, thread_pair, KeptThread}
+use Rattle.lfs_model.specs.format.Content.{later_committed_block, has_commit, is_later}
 use Rattle.lfs_model.specs.format.Log.{block_revision}
-use Rattle.lfs_model.specs.layers.LoggedContent.{AreWords, is_null}
+use Rattle.lfs_model.specs.layers.LoggedContent.{AreU32Addresses, is_null}
 use Rattle.lfs_model.specs.layers.WrittenContent.{content_entries}
 use Rattle.lfs_model.proofs.Effects.{ends_tail, puts_move}
 use Rattle.lfs_pair.specs.FreshPair.{CanMakeFresh}
@@ -19,9 +19,9 @@ use Rattle.lfs_thread.proofs.Changing.{IsAt, completes, header_at_index, pair_at
 fresh_made : (t : Option Tail) → IsAllowedTail t → content_with_changes empty_raw_content (tail_change t ∷ []) ≡ Some (record { slots = []; tail = t; move = zero_gstate })
 fresh_made None h = does_first (PutTail false None) [] empty_raw_content (record empty_raw_content { tail = None }) (record empty_raw_content { tail = None }) (ends_tail empty_raw_content false) (does_nothing (record empty_raw_content { tail = None }))
 fresh_made (Some t) h =
-    let is : tail_if_any t.hard t.to ≡ Some t = ap (λ b. cond b None (Some t)) h.1 in
-    does_first (PutTail t.hard (Some t.to)) [] empty_raw_content (record empty_raw_content { tail = tail_if_any t.hard t.to }) (record empty_raw_content { tail = tail_if_any t.hard t.to }) (puts_tail empty_raw_content t.hard t.to h.0)
-    (does_nothing (record empty_raw_content { tail = tail_if_any t.hard t.to }))
+    let is : tail_if_not_null t.hard t.to ≡ Some t = ap (λ b. cond b None (Some t)) h.1 in
+    does_first (PutTail t.hard (Some t.to)) [] empty_raw_content (record empty_raw_content { tail = tail_if_not_null t.hard t.to }) (record empty_raw_content { tail = tail_if_not_null t.hard t.to }) (puts_tail empty_raw_content t.hard t.to h.0)
+    (does_nothing (record empty_raw_content { tail = tail_if_not_null t.hard t.to }))
     ∙ ap (λ (x : Option Tail). Some (record { slots = []; tail = x; move = zero_gstate })) is
 
 can_be_fresh : (disk : Disk) (fresh : ℕ × ℕ) (t : Option Tail) → IsPairAddress disk fresh → IsAllowedTail t → CanMakeFresh disk fresh (tail_change t ∷ [])
@@ -36,27 +36,27 @@ can_be_fresh disk fresh t on h = record {
 -- the tail of a pair of the thread names a pair of the disk
 tail_named : (disk : Disk) (history : List CallEvent) (hs : List PairHeader) (sets : BlockStates) (index : ℕ) (h : PairHeader) → IsAt hs index h → IsKeptOnDisk disk history hs sets → block_count disk ≤ 65536
     → IsAllowedTail (disk_pair_at disk (header_address h)).content.tail
-tail_named disk history hs sets index h a kept few = go (disk_pair_at disk (header_address h)).content.tail a.back (behind a.front (Some anchor_address) links) (headers_right disk history a.front (h ∷ a.back) each).1
+tail_named disk history hs sets index h a kept few = go (disk_pair_at disk (header_address h)).content.tail a.back (behind a.front (Some superblock_pair_address) links) (headers_right disk history a.front (h ∷ a.back) each).1
   where
     each : AreHeaders disk history (a.front ++ h ∷ a.back)
     each = subst (AreHeaders disk history) a.parts kept.each
 
-    links : AreLinked (Some anchor_address) (header_pairs disk a.front ++ disk_pair_at disk (header_address h) ∷ header_pairs disk a.back)
-    links = subst (AreLinked (Some anchor_address)) (ap (header_pairs disk) a.parts ∙ map-append (λ x. disk_pair_at disk (header_address x)) a.front (h ∷ a.back)) kept.links
+    links : AreLinkedByTails (Some superblock_pair_address) (header_pairs disk a.front ++ disk_pair_at disk (header_address h) ∷ header_pairs disk a.back)
+    links = subst (AreLinkedByTails (Some superblock_pair_address)) (ap (header_pairs disk) a.parts ∙ map-append (λ x. disk_pair_at disk (header_address x)) a.front (h ∷ a.back)) kept.links
 
-    behind : (front : List PairHeader) (from : Option (ℕ × ℕ)) → AreLinked from (header_pairs disk front ++ disk_pair_at disk (header_address h) ∷ header_pairs disk a.back)
-        → AreLinked (tail_target (disk_pair_at disk (header_address h)).content.tail) (header_pairs disk a.back)
+    behind : (front : List PairHeader) (from : Option (ℕ × ℕ)) → AreLinkedByTails from (header_pairs disk front ++ disk_pair_at disk (header_address h) ∷ header_pairs disk a.back)
+        → AreLinkedByTails (tail_target (disk_pair_at disk (header_address h)).content.tail) (header_pairs disk a.back)
     behind [] from l = l.1
     behind (x ∷ front) from l = behind front (tail_target (disk_pair_at disk (header_address x)).content.tail) l.1
 
-    go : (t : Option Tail) (back : List PairHeader) → AreLinked (tail_target t) (header_pairs disk back) → AreHeaders disk history back → IsAllowedTail t
+    go : (t : Option Tail) (back : List PairHeader) → AreLinkedByTails (tail_target t) (header_pairs disk back) → AreHeaders disk history back → IsAllowedTail t
     go None back l are = tt
     go (Some t) [] l are = absurd (cc)
     go (Some t) (x ∷ back) l are =
         let same : t.to ≡ header_address x = same_Some t.to (header_address x) l.0 in
         let f = are.0.address.first in let s = are.0.address.second in
         let real : (header_address x).0 == null_address ≡ false = ne_eqb (header_address x).0 null_address (λ e. absurd (omega (arith, e, f, few))) in
-        subst (λ (to : ℕ × ℕ). AreWords to × (is_null to ≡ false)) (sym same) ((omega (arith, f, few), omega (arith, s, few)), ap (λ b. b && (header_address x).1 == null_address) real)
+        subst (λ (to : ℕ × ℕ). AreU32Addresses to × (is_null to ≡ false)) (sym same) ((omega (arith, f, few), omega (arith, s, few)), ap (λ b. b && (header_address x).1 == null_address) real)
 
 header_tail : (disk : Disk) (history : List CallEvent) (h : PairHeader) → IsHeader disk history h → (disk_pair_at disk (header_address h)).content.tail ≡ option_map tail_view h.tail
 header_tail disk history h is = ap (λ (q : Pair). q.content.tail) (pair_on_content disk (header_address h) is.content (header_content disk history h is))
@@ -64,7 +64,7 @@ header_tail disk history h is = ap (λ (q : Pair). q.content.tail) (pair_on_cont
 
 -- ---- a copy
 
-complete_with_move : (raw : RawContent) (c : PairContent) (m : Gstate) → complete_content raw ≡ Some c → complete_content (record raw { move = m }) ≡ Some (record c { move = m })
+complete_with_move : (raw : RawContent) (c : PairContent) (m : Gstate) → decoded_content raw ≡ Some c → decoded_content (record raw { move = m }) ≡ Some (record c { move = m })
 complete_with_move raw c m h =
     let parts = completed_parts raw c h in
     completed_from (record raw { move = m }) c.slots parts.slots ∙ ap (λ t. Some (record { slots = c.slots; tail = t; move = m })) (sym parts.tail)
@@ -83,7 +83,7 @@ first_of [] ys e h = absurd (cc)
 first_of (x ∷ xs) ys e h = h
 
 -- the first block holds, since no log is in the second
-first_holds : (a b : List ℕ) → has_commit a ≡ true → has_commit b ≡ false → current_of_two a b ≡ Some a
+first_holds : (a b : List ℕ) → has_commit a ≡ true → has_commit b ≡ false → later_committed_block a b ≡ Some a
 first_holds a b first second =
     ap₂ (λ p q. cond (not p) (cond q (Some b) None) (cond (q && is_later (block_revision a) (block_revision b)) (Some b) (Some a))) first second
 
@@ -140,17 +140,17 @@ module _ (disk : Disk) (history : List CallEvent) (hs : List PairHeader) (sets :
         is_pair = copied.holds.is_pair;
         raw = ap (raw_content beside) copied.holds.same ∙ copied.holds.content;
         content = record is.content { move = m };
-        complete = ap complete_content same_new ∙ complete_with_move is.held is.content m is.complete;
+        complete = ap decoded_content same_new ∙ complete_with_move is.held is.content m is.complete;
       }
 
       copy_content : (record is.content { move = m }) ≡ record (thread_pair old i).content { move = m }
       copy_content = ap (λ (c : PairContent). record c { move = m }) content_is
 
       -- a compacted log begins with the superblock's entry, if slot 0 is the superblock
-      copy_first : HasSuperblock (record (thread_pair old i).content { move = m }) → BeginsWith (current_block beside fresh) superblock_entry
+      copy_first : HasSuperblock (record (thread_pair old i).content { move = m }) → HasFirstLogEntry (current_block beside fresh) superblock_entry
       copy_first has =
           let full = subst HasSuperblock (sym copy_content) has in
-          subst (λ o. BeginsWith o superblock_entry) (sym (first_holds (disk_block beside fresh.0) (disk_block beside fresh.1) copied.fresh_is.anew.has_commit copied.fresh_is.cleared))
+          subst (λ o. HasFirstLogEntry o superblock_entry) (sym (first_holds (disk_block beside fresh.0) (disk_block beside fresh.1) copied.fresh_is.anew.has_commit copied.fresh_is.cleared))
           (ap (λ (cs : List (List LogEntry)). slice_get (flat_map (λ c. c) cs) 0) copied.fresh_is.anew.commits
           ∙ first_of (content_entries copied.new ++ copied.fresh_is.anew.checksum ∷ []) [] superblock_entry (first_of (content_entries copied.new) (copied.fresh_is.anew.checksum ∷ []) superblock_entry
           (superblock_anew copied.new (record is.content { move = m }) (subst (λ (r : RawContent). AreWellFormed r.slots) (sym same_new) is.is_pair.describes.logged.slots) copy_header.complete full.0 full.1)))
@@ -194,7 +194,7 @@ written_header kind.Empty disk history hs sets index source fresh a kept on few 
         is_pair = written.holds.is_pair;
         raw = ap (raw_content (record disk { blocks = mid })) written.holds.same ∙ written.holds.content;
         content = record { slots = []; tail = t; move = zero_gstate };
-        complete = ap complete_content (same_Some written.new (record { slots = []; tail = t; move = zero_gstate }) (sym written.made ∙ is_made ∙ fresh_made t (tail_named disk history hs sets index source a kept few)));
+        complete = ap decoded_content (same_Some written.new (record { slots = []; tail = t; move = zero_gstate }) (sym written.made ∙ is_made ∙ fresh_made t (tail_named disk history hs sets index source a kept few)));
       };
       at = written.holds.same;
       content = ap (λ (p : Pair). record { slots = []; tail = p.content.tail; move = zero_gstate }) (sym (pair_at_index disk history hs sets index source a));

@@ -6,7 +6,7 @@ use Rattle.lfs_device.specs.declared.device.BlockDevice.{Ghosts}
 use Rattle.lfs_device.specs.declared.geometry.Geometry.{Geometry}
 use Rattle.lfs_model.specs.format.Blocks.{block_bytes}
 use Rattle.lfs_model.specs.layers.BlockSets.{BlockStates, IsUsedBlock}
-use Rattle.lfs_model.specs.format.Disk.{Disk, block_count, ordered_disk}
+use Rattle.lfs_model.specs.format.Disk.{Disk, block_count, disk_with_order}
 use Rattle.lfs_model.specs.session.History.{is_unprogrammed_byte}
 use Rattle.lfs_model.specs.format.Thread.{pairs_blocks}
 use Rattle.lfs_thread.specs.Kept.{KeptThread, disk_of_device}
@@ -24,7 +24,7 @@ DeviceWork F D X = Once F (MutBor D × (MutBor BlockStates × Unit {0})) (X × (
 
 -- the device and the map are the thread's
 pub record BelongToThread {D : Type 0} (g : Ghosts D) (t : KeptThread) (device : D) (sets : BlockStates) : Type 0 where
-  pub disk : ordered_disk t.disk.order (disk_of_device g device) ≡ t.disk
+  pub disk : disk_with_order t.disk.order (disk_of_device g device) ≡ t.disk
   pub history : g.history device ≡ t.history
   pub map : sets ≡ t.map
 

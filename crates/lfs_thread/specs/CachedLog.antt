@@ -5,7 +5,7 @@ use Rattle.lfs_model.specs.layers.Cache.{CachedBlocks, cached_bytes, cache_with}
 use Rattle.lfs_model.specs.format.Disk.{disk_block}
 use Rattle.lfs_model.specs.format.Log.{block_entries}
 use Rattle.lfs_model.specs.format.Slots.{PairContent}
-use Rattle.lfs_model.specs.format.Content.{RawContent, complete_content, content_after, empty_raw_content}
+use Rattle.lfs_model.specs.format.Content.{RawContent, decoded_content, content_after, empty_raw_content}
 use Rattle.lfs_pair.specs.Pair.{active_block_at}
 use Rattle.lfs_thread.specs.Kept.{KeptThread, ThreadView}
 use Rattle.lfs_thread.specs.ThreadSteps.{thread_pair}
@@ -31,6 +31,6 @@ loaded_cache t index = cache_with t.cache (active_block_at t.kept.disk (thread_p
 pub record IsContentLog (block : List ℕ) (content : PairContent) : Type 0 where
   pub raw : RawContent
   pub log : content_after empty_raw_content (block_entries block) ≡ Some raw
-  pub complete : complete_content raw ≡ Some content
+  pub complete : decoded_content raw ≡ Some content
   pub short : length block ≤ 2 ^ 16
   pub bytes : ElementsAreBytes block

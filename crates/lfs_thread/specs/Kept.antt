@@ -6,12 +6,12 @@ use Rattle.lfs_device.specs.DeviceDisk.{disk_of_blocks}
 use Rattle.lfs_model.specs.format.Blocks.{Blocks, block_bytes}
 use Rattle.lfs_model.specs.layers.BlockSets.{BlockStates, IsUsedBlock}
 use Rattle.lfs_model.specs.layers.Cache.{CachedBlocks, cached_bytes}
-use Rattle.lfs_model.specs.format.Disk.{Disk, block_count, ordered_disk}
+use Rattle.lfs_model.specs.format.Disk.{Disk, block_count, disk_with_order}
 use Rattle.lfs_model.specs.session.History.{CallEvent, OnlyReadsSince}
 use Rattle.lfs_model.specs.format.Slots.{PairContent, zero_gstate}
-use Rattle.lfs_model.specs.format.Content.{RawContent, raw_content, content_at, complete_content}
+use Rattle.lfs_model.specs.format.Content.{RawContent, raw_content, content_at, decoded_content}
 use Rattle.lfs_model.specs.declared.order.NameOrder.{NameOrder}
-use Rattle.lfs_model.specs.format.Thread.{Pair, anchor_address, AreLinked, pairs_blocks}
+use Rattle.lfs_model.specs.format.Thread.{Pair, superblock_pair_address, AreLinkedByTails, pairs_blocks}
 use Rattle.lfs_pair.specs.declared.pair.Pair as header
 use Rattle.lfs_thread.specs.declared.parts.ThreadParts.{ThreadParts}
 use Rattle.lfs_pair.specs.Pair.{IsTrueHeader, header_address}
@@ -51,7 +51,7 @@ pub record IsHeader (disk : Disk) (history : List CallEvent) (h : PairHeader) : 
   pub is_pair : IsTrueHeader disk history h held
   pub raw : raw_content disk (header_address h) ≡ Some held
   pub content : PairContent
-  pub complete : complete_content held ≡ Some content
+  pub complete : decoded_content held ≡ Some content
 
 abbrev pub AreHeaders : Disk → List CallEvent → List PairHeader → Type 0
 AreHeaders disk history [] = Unit {0}
@@ -64,7 +64,7 @@ AllBlocksUsed sets (b ∷ bs) = IsUsedBlock sets b × AllBlocksUsed sets bs
 -- The state kept is that of the disk: the headers are those of its thread, and their blocks are used in the map.
 pub record IsKeptOnDisk (disk : Disk) (history : List CallEvent) (headers : List PairHeader) (sets : BlockStates) : Type 0 where
   pub each : AreHeaders disk history headers
-  pub links : AreLinked (Some anchor_address) (header_pairs disk headers)
+  pub links : AreLinkedByTails (Some superblock_pair_address) (header_pairs disk headers)
   pub distinct : IsDistinct nat_eq (pairs_blocks (header_pairs disk headers))
   pub size : length sets ≡ block_count disk
   pub used : AllBlocksUsed sets (pairs_blocks (header_pairs disk headers))
@@ -74,7 +74,7 @@ pub record WasKeptOnDisk (disk : Disk) (history : List CallEvent) (headers : Lis
   pub before : List CallEvent
   pub since : OnlyReadsSince disk.blocks before history
   pub each : AreHeaders disk before headers
-  pub links : AreLinked (Some anchor_address) (header_pairs disk headers)
+  pub links : AreLinkedByTails (Some superblock_pair_address) (header_pairs disk headers)
   pub distinct : IsDistinct nat_eq (pairs_blocks (header_pairs disk headers))
   pub size : length sets ≡ block_count disk
   pub used : AllBlocksUsed sets (pairs_blocks (header_pairs disk headers))
@@ -93,7 +93,7 @@ kept_of_device g device headers sets = kept_view (disk_of_device g device) (g.hi
 
 -- what is kept of a thread over a device, with its names in that order
 abbrev pub kept_in_order : {D : Type 0} → Ghosts D → NameOrder → D → List PairHeader → BlockStates → KeptThread
-kept_in_order g order device headers sets = kept_view (ordered_disk order (disk_of_device g device)) (g.history device) headers sets
+kept_in_order g order device headers sets = kept_view (disk_with_order order (disk_of_device g device)) (g.history device) headers sets
 
 abbrev pub IsKept : {D : Type 0} → Ghosts D → D → List PairHeader → BlockStates → Type 0
 IsKept g device headers sets = IsKeptOnDisk (disk_of_device g device) (g.history device) headers sets

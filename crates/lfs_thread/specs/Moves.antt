@@ -6,7 +6,7 @@ use Rattle.lfs_model.specs.format.Disk.{Disk, block_count}
 use Rattle.lfs_model.specs.format.Log.{block_revision}
 use Rattle.lfs_model.specs.format.Slots.{FitsInPair}
 use Rattle.lfs_model.specs.format.Thread.{IsThread, Pair, is_hard_tail}
-use Rattle.lfs_model.specs.tree.View.{BeginsWith, superblock_entry}
+use Rattle.lfs_model.specs.tree.View.{HasFirstLogEntry, superblock_entry}
 use Rattle.lfs_pair.specs.Split.{KeepsOutsideBoth}
 use Rattle.lfs_thread.specs.Kept.{KeptThread}
 use Rattle.lfs_thread.specs.ThreadSteps.{FreshInFlight, HasOldPair, HasSuperblock, KeepsSuperblockFirst, map_freeing, map_using, thread_pair}
@@ -36,7 +36,7 @@ pairs_with_next_moved t index fresh = slice_set (slice_set t.pairs index (pair_l
 
 -- If the pair has the superblock in slot 0, its log begins with that entry.
 abbrev pub BeginsWithAnySuperblock : Pair → Disk → Type 0
-BeginsWithAnySuperblock p disk = HasSuperblock p.content → BeginsWith (current_block disk p.at) superblock_entry
+BeginsWithAnySuperblock p disk = HasSuperblock p.content → HasFirstLogEntry (current_block disk p.at) superblock_entry
 
 -- A relocation that is done: the hard tail of the pair at the index names the two blocks. The pair behind it has its content
 -- there, with the next revision. Its old blocks are free.

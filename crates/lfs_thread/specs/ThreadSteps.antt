@@ -6,27 +6,27 @@ use Rattle.std.specs.Option.{option_and_then, option_map}
 use Rattle.std.specs.List.{insert, remove}
 use Rattle.lfs_model.specs.format.Blocks.{Blocks, SameExceptBlocks}
 use Rattle.lfs_model.specs.format.Disk.{Disk, block_count}
-use Rattle.lfs_model.specs.session.History.{LossLeavesAtWorst, HoldsAtLosses, OnlyReadsSince, StayUnprogrammed, fault_count, read_count}
+use Rattle.lfs_model.specs.session.History.{LossLeavesAtWorst, HoldsAtLosses, OnlyReadsSince, OthersStayUnprogrammed, fault_count, read_count}
 use Rattle.lfs_model.specs.format.Slots.{PairContent, FitsInPair, Slot, Tail, zero_gstate}
-use Rattle.lfs_model.specs.format.Content.{RawContent, content_at, complete_content, current_block}
+use Rattle.lfs_model.specs.format.Content.{RawContent, content_at, decoded_content, current_block}
 use Rattle.lfs_model.specs.layers.Changes.{ContentChange, PutTail}
-use Rattle.lfs_model.specs.format.Thread.{Pair, anchor_address, IsThread, tail_target, superblock_first}
+use Rattle.lfs_model.specs.format.Thread.{Pair, superblock_pair_address, IsThread, tail_target, begins_with_superblock}
 use Rattle.lfs_pair.specs.Commits.{changed_pair_content, KeepsOutsidePair}
-use Rattle.lfs_model.specs.tree.View.{BeginsWith, superblock_entry}
+use Rattle.lfs_model.specs.tree.View.{HasFirstLogEntry, superblock_entry}
 use Rattle.lfs_model.specs.layers.BlockSets.{Free, Used, BlockStates, IsInFlight}
 use Rattle.lfs_pair.specs.HalfCut.{AreSplittable}
 use Rattle.lfs_pair.specs.Split.{KeepsOutsideBoth}
 use Rattle.lfs_thread.specs.Kept.{KeptThread}
 
 abbrev pub empty_anchor : Pair
-empty_anchor = record { at = anchor_address; content = record { slots = []; tail = Option.None; move = zero_gstate } }
+empty_anchor = record { at = superblock_pair_address; content = record { slots = []; tail = Option.None; move = zero_gstate } }
 
 abbrev pub thread_pair : KeptThread → ℕ → Pair
 thread_pair t index = slice_index_or t.pairs index empty_anchor
 
 -- the content of the pair at an index after changes, if each slot then has a name and a struct
 abbrev pub complete_after : KeptThread → ℕ → List ContentChange → Option PairContent
-complete_after t index changes = option_and_then complete_content (changed_pair_content t.disk (thread_pair t index).at changes)
+complete_after t index changes = option_and_then decoded_content (changed_pair_content t.disk (thread_pair t index).at changes)
 
 -- ---- what every step reports
 
@@ -42,7 +42,7 @@ pub record SameGeometryAs (old new : Disk) : Type 0 where
 -- blocks as they were.
 pub record ChangesThreadBlocks (bs : List ℕ) (old new : KeptThread) : Type 0 where
   pub others : SameExceptBlocks bs old.disk.blocks new.disk.blocks
-  pub elsewhere : StayUnprogrammed bs old.history new.history
+  pub elsewhere : OthersStayUnprogrammed bs old.history new.history
   pub shape : SameGeometryAs old.disk new.disk
   pub at_worst : HoldsAtLosses LossLeavesAtWorst old.history new.history (SameExceptBlocks bs old.disk.blocks)
 
@@ -91,7 +91,7 @@ pairs_with_content t index c = slice_set t.pairs index (record { at = (thread_pa
 
 -- slot 0 is the superblock
 abbrev pub BeginWithSuperblock : List Slot → Type 0
-BeginWithSuperblock slots = (superblock_first slots ≡ true) × (option_map (λ s. s.name) (slice_get slots 0) ≡ Some (codes "littlefs"))
+BeginWithSuperblock slots = (begins_with_superblock slots ≡ true) × (option_map (λ s. s.name) (slice_get slots 0) ≡ Some (codes "littlefs"))
 
 abbrev pub HasSuperblock : PairContent → Type 0
 HasSuperblock c = BeginWithSuperblock c.slots
@@ -99,7 +99,7 @@ HasSuperblock c = BeginWithSuperblock c.slots
 -- If a pair's log began with the superblock's entry, and its content now has the superblock in slot 0, its log begins with that
 -- entry now.
 abbrev pub KeepsSuperblockFirst : Disk → ℕ × ℕ → PairContent → Disk → Type 0
-KeepsSuperblockFirst old at c disk = BeginsWith (current_block old at) superblock_entry → HasSuperblock c → BeginsWith (current_block disk at) superblock_entry
+KeepsSuperblockFirst old at c disk = HasFirstLogEntry (current_block old at) superblock_entry → HasSuperblock c → HasFirstLogEntry (current_block disk at) superblock_entry
 
 -- The pair at an index has this content on the disk, and only its two blocks differ. The superblock stays first.
 pub record IsPairWritten (old : KeptThread) (index : ℕ) (content : PairContent) (disk : Disk) : Type 0 where
@@ -150,7 +150,7 @@ pairs_split ps index p q = insert (slice_set ps index p) (index + 1) q
 -- the pair has its old content, and its log still begins with the superblock's entry if it did before
 pub record HasOldPair (old : KeptThread) (index : ℕ) (disk : Disk) : Type 0 where
   pub holds : content_at disk (thread_pair old index).at ≡ Some (thread_pair old index).content
-  pub first : BeginsWith (current_block old.disk (thread_pair old index).at) superblock_entry → BeginsWith (current_block disk (thread_pair old index).at) superblock_entry
+  pub first : HasFirstLogEntry (current_block old.disk (thread_pair old index).at) superblock_entry → HasFirstLogEntry (current_block disk (thread_pair old index).at) superblock_entry
 
 -- ---- a pair is split
 

@@ -4,7 +4,7 @@ ghost use Rattle.std.specs.Prelude.{◌≡◌, ◌+◌, IfErr, IfOk, OnOk};
 ghost use Rattle.lfs_device.specs.DeviceCalls.{ReportsFaults};
 ghost use Rattle.lfs_device.specs.DeviceDisk.{disk_of_blocks};
 ghost use Rattle.lfs_model.specs.layers.Cache.{cached_bytes, cache_without};
-ghost use Rattle.lfs_model.specs.format.Slots.{address_view};
+ghost use Rattle.lfs_model.specs.format.Slots.{address_of_array};
 ghost use Rattle.lfs_model.specs.format.Thread.{address_blocks, addresses_blocks};
 ghost use Rattle.lfs_pair.specs.ChangeView.{changes_view};
 ghost use Rattle.lfs_pair.specs.Commits.{CommitFails, LossLeavesChanged};
@@ -22,7 +22,7 @@ use std::alloc::Global;
 
 // Removes both blocks of a pair from the cache.
 pub(crate) fn forget_cached_pair(cache: &mut Cache, blocks: [u32; 2])
-    ensures { cache.new ≡ cache_without (cache_without cache.old (address_view blocks).0) (address_view blocks).1 }
+    ensures { cache.new ≡ cache_without (cache_without cache.old (address_of_array blocks).0) (address_of_array blocks).1 }
 {
     cache.forget(blocks[0]);
     cache.forget(blocks[1]);
@@ -67,13 +67,13 @@ pub(crate) fn split_cached<D: BlockDevice>(
     fresh: [u32; 2],
     changes: &[Change<'_>],
 ) -> Result<Pair, Error>
-    requires { CanSplitCached D.BlockDevice dev.old cache.old pair.old (address_view fresh) (changes_view changes.now) }
+    requires { CanSplitCached D.BlockDevice dev.old cache.old pair.old (address_of_array fresh) (changes_view changes.now) }
 
-    ensures splits { IfOk result (SplitsCached D.BlockDevice (changes_view changes.now) dev.old dev.new pair.old pair.new cache.new (address_view fresh)) }
+    ensures splits { IfOk result (SplitsCached D.BlockDevice (changes_view changes.now) dev.old dev.new pair.old pair.new cache.new (address_of_array fresh)) }
     ensures error { IfErr result (λ e. CommitFails D.BlockDevice dev.old dev.new pair.old pair.new e) }
-    ensures device { ChangesReadingFew D.BlockDevice (3 + reads_unless_cached (cached_bytes cache.old pair.old.active)) (addresses_blocks (header_address pair.old) (address_view fresh)) dev.old dev.new }
+    ensures device { ChangesReadingFew D.BlockDevice (3 + reads_unless_cached (cached_bytes cache.old pair.old.active)) (addresses_blocks (header_address pair.old) (address_of_array fresh)) dev.old dev.new }
     ensures faults { ReportsFaults D.BlockDevice dev.old dev.new result }
-    ensures stops { CleanLossLeaves (D.history dev.old) (D.history dev.new) (LossLeavesSplit (disk_of_blocks (D.geometry dev.old) (D.blocks dev.old)) (header_address pair.old) (address_view fresh) (changes_view changes.now)) }
+    ensures stops { CleanLossLeaves (D.history dev.old) (D.history dev.new) (LossLeavesSplit (disk_of_blocks (D.geometry dev.old) (D.blocks dev.old)) (header_address pair.old) (address_of_array fresh) (changes_view changes.now)) }
 {
     cache.forget(pair.inactive_block());
     cache.fill(dev, pair.active)?;

@@ -2,7 +2,7 @@
 
 ghost use Rattle.std.specs.Prelude.{◌≡◌, ◌+◌, [], length, sum_by, IfErr, IfOk, List, OnOk};
 ghost use Rattle.std.specs.Option.{option_map};
-ghost use Rattle.lfs_model.specs.format.Slots.{address_view};
+ghost use Rattle.lfs_model.specs.format.Slots.{address_of_array};
 ghost use Rattle.lfs_tag.specs.ContentView.{tail_view};
 ghost use Rattle.lfs_model.specs.layers.BlockSets.{AreInFlight, AreUsed};
 ghost use Rattle.lfs_model.specs.session.History.{read_count};
@@ -54,7 +54,7 @@ pub(crate) fn read_thread_headers<D: BlockDevice>(
 
 // Returns the address to which a pair's tail points.
 fn tail_address(pair: &Pair) -> Option<[u32; 2]>
-    ensures { option_map address_view result ≡ tail_target (option_map tail_view pair.now.tail) }
+    ensures { option_map address_of_array result ≡ tail_target (option_map tail_view pair.now.tail) }
 {
     match pair.tail {
         None => None,
@@ -72,11 +72,11 @@ fn read_pair_header<D: BlockDevice>(
     at: [u32; 2],
 ) -> Result<Pair, MountError>
     requires { length map.old ≡ (D.geometry device.old).block_count }
-    ensures read { IfOk result (IsHeaderRead (disk_of_device D.BlockDevice device.old) (D.history device.new) (address_view at) map.old map.new) }
-    ensures broken { (before : List ThreadPair) → ThreadBeginsWith (disk_of_device D.BlockDevice device.old) map.old before (address_view at)
+    ensures read { IfOk result (IsHeaderRead (disk_of_device D.BlockDevice device.old) (D.history device.new) (address_of_array at) map.old map.new) }
+    ensures broken { (before : List ThreadPair) → ThreadBeginsWith (disk_of_device D.BlockDevice device.old) map.old before (address_of_array at)
         → IfErr result (λ e. IsThreadViolation (disk_of_device D.BlockDevice device.old) e) }
     ensures reported { ReadsReportingFaults D.BlockDevice device.old device.new result }
-    ensures few { OnOk result (read_count (D.history device.new) ≡ read_count (D.history device.old) + fetch_reads (disk_of_device D.BlockDevice device.old) (address_view at)) }
+    ensures few { OnOk result (read_count (D.history device.new) ≡ read_count (D.history device.old) + fetch_reads (disk_of_device D.BlockDevice device.old) (address_of_array at)) }
 {
     let [first, second] = at;
     let block_count = device.geometry().block_count;

@@ -4,7 +4,7 @@ ghost use Rattle.std.specs.Prelude.{◌≡◌, ◌⊎◌, ◌<◌, ◌+◌, IfEr
 ghost use Rattle.std.specs.Option.{option_map};
 ghost use Rattle.lfs_device.specs.DeviceCalls.{ReportsFaults};
 ghost use Rattle.lfs_device.specs.DeviceDisk.{disk_of_blocks};
-ghost use Rattle.lfs_model.specs.format.Slots.{address_view};
+ghost use Rattle.lfs_model.specs.format.Slots.{address_of_array};
 ghost use Rattle.lfs_model.specs.format.Thread.{address_blocks, addresses_blocks};
 ghost use Rattle.lfs_tag.specs.ContentView.{tail_view};
 ghost use Rattle.lfs_pair.specs.ChangeView.{change_view, changes_view};
@@ -48,15 +48,15 @@ pub(crate) fn join_pair<D: BlockDevice>(
     changes: &[Change<'_>],
 ) -> Result<Outcome, Error>
     requires kept { AreKeptParts D.BlockDevice parts.old }
-    requires can { CanThreadIn (kept_parts D.BlockDevice parts.old) index (address_view fresh) (changes_view changes.now) }
+    requires can { CanThreadIn (kept_parts D.BlockDevice parts.old) index (address_of_array fresh) (changes_view changes.now) }
     requires holds { CanHold (kept_parts D.BlockDevice parts.old) index behind }
-    ensures parts { ChangesKeptParts D.BlockDevice (reads_behind behind + 1 + reads_unless_cached (cached_block_log (kept_parts D.BlockDevice parts.old) parts.old.cache index)) (addresses_blocks (thread_pair (kept_parts D.BlockDevice parts.old) index).at (address_view fresh)) parts.old parts.new result }
+    ensures parts { ChangesKeptParts D.BlockDevice (reads_behind behind + 1 + reads_unless_cached (cached_block_log (kept_parts D.BlockDevice parts.old) parts.old.cache index)) (addresses_blocks (thread_pair (kept_parts D.BlockDevice parts.old) index).at (address_of_array fresh)) parts.old parts.new result }
     ensures ends { EndsByOutcome result
-        (IsJoined (kept_parts D.BlockDevice parts.old) index behind (address_view fresh) (changes_view changes.now) (kept_parts D.BlockDevice parts.new))
-        (RefusesThreading (kept_parts D.BlockDevice parts.old) index (address_view fresh) (changes_view changes.now) (kept_parts D.BlockDevice parts.new)) }
-    ensures errors { ReportsKeepingOthers D.BlockDevice (address_blocks (address_view fresh)) parts.old.device parts.new.device result }
+        (IsJoined (kept_parts D.BlockDevice parts.old) index behind (address_of_array fresh) (changes_view changes.now) (kept_parts D.BlockDevice parts.new))
+        (RefusesThreading (kept_parts D.BlockDevice parts.old) index (address_of_array fresh) (changes_view changes.now) (kept_parts D.BlockDevice parts.new)) }
+    ensures errors { ReportsKeepingOthers D.BlockDevice (address_blocks (address_of_array fresh)) parts.old.device parts.new.device result }
     ensures stops { CleanLossLeaves (D.history parts.old.device) (D.history parts.new.device)
-        (LossLeavesJoined (kept_parts D.BlockDevice parts.old) index behind (address_view fresh) (changes_view changes.now)) }
+        (LossLeavesJoined (kept_parts D.BlockDevice parts.old) index behind (address_of_array fresh) (changes_view changes.now)) }
 {
     let mut pair = parts.pairs[index];
     let source = source_of(&parts.pairs, index, behind);
@@ -105,12 +105,12 @@ fn write_behind<D: BlockDevice>(
     behind: Behind,
     fresh: [u32; 2],
 ) -> Result<Pair, Error>
-    requires { CanWriteBehind (disk_of_blocks (D.geometry dev.old) (D.blocks dev.old)) (D.history dev.old) source.now (address_view fresh) behind }
+    requires { CanWriteBehind (disk_of_blocks (D.geometry dev.old) (D.blocks dev.old)) (D.history dev.old) source.now (address_of_array fresh) behind }
 
     ensures written { IfOk result (λ pair. IsWrittenBehind (disk_of_blocks (D.geometry dev.old) (D.blocks dev.old)) (D.history dev.old) source.now behind
-        (disk_of_blocks (D.geometry dev.new) (D.blocks dev.new)) (D.history dev.new) (address_view fresh) pair) }
+        (disk_of_blocks (D.geometry dev.new) (D.blocks dev.new)) (D.history dev.new) (address_of_array fresh) pair) }
     ensures error { IfErr result (λ e. (e ≡ Error.Io) ⊎ (e ≡ Error.NoMemory)) }
-    ensures device { ChangesReadingFew D.BlockDevice (reads_behind behind) (address_blocks (address_view fresh)) dev.old dev.new }
+    ensures device { ChangesReadingFew D.BlockDevice (reads_behind behind) (address_blocks (address_of_array fresh)) dev.old dev.new }
     ensures faults { ReportsFaults D.BlockDevice dev.old dev.new result }
 {
     match behind {

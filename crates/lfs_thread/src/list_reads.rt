@@ -2,7 +2,7 @@
 
 ghost use Rattle.std.specs.Prelude.{◌≡◌, ◌+◌, IfOk, length, slice_range, take};
 ghost use Rattle.lfs_blocks.specs.BlockReads.{ReadsOnceUncached};
-ghost use Rattle.lfs_device.specs.DeviceCalls.{ReadsOrIo};
+ghost use Rattle.lfs_device.specs.DeviceCalls.{ReadsOnlyOrIo};
 ghost use Rattle.lfs_model.specs.format.Blocks.{block_bytes};
 ghost use Rattle.lfs_model.specs.layers.Cache.{cached_bytes};
 ghost use Rattle.lfs_thread.specs.Kept.{IsCacheCurrent};
@@ -24,7 +24,7 @@ pub(crate) fn read_part_cached<D: BlockDevice>(
     ensures read { IfOk result (λ n. (n ≡ part.len) × (take n buf.new ≡ slice_range (block_bytes (D.blocks device.old) part.block) part.offset (part.offset + n))) }
     ensures current { IsCacheCurrent (D.blocks device.new) cache.new }
     ensures few { ReadsOnceUncached D.BlockDevice (cached_bytes cache.old part.block) device.old device.new }
-    ensures reading { ReadsOrIo D.BlockDevice device.old device.new result }
+    ensures reading { ReadsOnlyOrIo D.BlockDevice device.old device.new result }
 {
     let len = part.len as usize;
     cache.read(device, part.block, part.offset, &mut buf[..len])?;

@@ -2,7 +2,7 @@
 
 ghost use Rattle.std.specs.Prelude.{IfSome, IfNone, ◌≡◌, ◌++◌, ◌∷◌, [], ◌<◌, false, nat_eq, OnOk, OnErr, IfErr, length, map};
 ghost use Rattle.std.specs.List.{AllByRecursion, IsDistinct};
-ghost use Rattle.lfs_model.specs.format.Slots.{address_view, same_pair};
+ghost use Rattle.lfs_model.specs.format.Slots.{address_of_array, same_pair};
 ghost use Rattle.lfs_thread.specs.PairPlaces.{SameAddressAt, blocks_of_addresses, greater_of, lesser_of, address_index};
 
 use lfs_device::Error;
@@ -11,13 +11,13 @@ use std::collections::BTreeMap;
 use std::marker::Model;
 
 fn lesser_block(pair: [u32; 2]) -> u32
-    ensures { result ≡ lesser_of (address_view pair) }
+    ensures { result ≡ lesser_of (address_of_array pair) }
 {
     pair[0].min(pair[1])
 }
 
 fn greater_block(pair: [u32; 2]) -> u32
-    ensures { result ≡ greater_of (address_view pair) }
+    ensures { result ≡ greater_of (address_of_array pair) }
 {
     pair[0].max(pair[1])
 }
@@ -35,14 +35,14 @@ impl Model for PairAddressList {
     ghost use Rattle.std.specs.Prelude.{List, ℕ, map};
     ghost use Rattle.std.specs.Ordering.{nat_cmp};
     ghost use Rattle.std.specs.BTreeMap.{get};
-    ghost use Rattle.lfs_model.specs.format.Slots.{address_view};
+    ghost use Rattle.lfs_model.specs.format.Slots.{address_of_array};
     ghost use Rattle.lfs_thread.specs.PairPlaces.{FindsByLesser};
 
     ghost Value = { List (ℕ × ℕ) };
 
-    ghost view = { λ p. map address_view p.addresses.items };
+    ghost view = { λ p. map address_of_array p.addresses.items };
 
-    ghost invariant = { λ p. FindsByLesser (map address_view p.addresses.items) (get nat_cmp p.by_block) };
+    ghost invariant = { λ p. FindsByLesser (map address_of_array p.addresses.items) (get nat_cmp p.by_block) };
 }
 
 impl PairAddressList {
@@ -61,8 +61,8 @@ impl PairAddressList {
     ///
     /// Errors: `NoMemory` if memory can't be allocated. After an error, the list is unchanged.
     pub fn add(&mut self, pair: [u32; 2]) -> Result<(), Error>
-        requires { IsDistinct nat_eq (blocks_of_addresses (self.old ++ address_view pair ∷ [])) }
-        ensures added { OnOk result (self.new ≡ self.old ++ address_view pair ∷ []) }
+        requires { IsDistinct nat_eq (blocks_of_addresses (self.old ++ address_of_array pair ∷ [])) }
+        ensures added { OnOk result (self.new ≡ self.old ++ address_of_array pair ∷ []) }
         ensures same { OnErr result (self.new ≡ self.old) }
         ensures error { IfErr result (λ e. e ≡ Error.NoMemory) }
     {
@@ -78,7 +78,7 @@ impl PairAddressList {
 
     /// Returns the addresses in the order in which they were added.
     pub fn addresses(&self) -> &[[u32; 2]]
-        ensures { map address_view result.now ≡ self.now }
+        ensures { map address_of_array result.now ≡ self.now }
     {
         &self.addresses
     }
@@ -86,10 +86,10 @@ impl PairAddressList {
     /// Returns the list index of the address whose two blocks, in either order, are those of
     /// `pair`. Returns None if the list has no such address.
     pub fn find(&self, pair: [u32; 2]) -> Option<u32>
-        ensures value { result ≡ address_index self.now (address_view pair) }
+        ensures value { result ≡ address_index self.now (address_of_array pair) }
         ensures within { IfSome result (λ place. place < length self.now) }
-        ensures there { IfSome result (SameAddressAt self.now (address_view pair)) }
-        ensures nowhere { IfNone result (AllByRecursion (λ a. same_pair a (address_view pair) ≡ false) self.now) }
+        ensures there { IfSome result (SameAddressAt self.now (address_of_array pair)) }
+        ensures nowhere { IfNone result (AllByRecursion (λ a. same_pair a (address_of_array pair) ≡ false) self.now) }
     {
         let Some(place) = self.by_block.get(&lesser_block(pair)) else {
             return None;

@@ -1,7 +1,7 @@
 // Splits of pairs of the thread.
 
 ghost use Rattle.std.specs.Prelude.{◌+◌, OnOk};
-ghost use Rattle.lfs_model.specs.format.Slots.{address_view};
+ghost use Rattle.lfs_model.specs.format.Slots.{address_of_array};
 ghost use Rattle.lfs_pair.specs.ChangeView.{changes_view};
 ghost use Rattle.lfs_thread.specs.Parts.{ChangesKeptParts};
 ghost use Rattle.lfs_thread.specs.ThreadDevice.{CleanLossLeaves, ReportsWritingNothing};
@@ -27,13 +27,13 @@ pub(crate) fn split_pair<D: BlockDevice>(
     changes: &[Change<'_>],
 ) -> Result<(), Error>
     requires kept { AreKeptParts D.BlockDevice parts.old }
-    requires can { CanSplitAt (kept_parts D.BlockDevice parts.old) index (address_view fresh) (changes_view changes.now) }
-    ensures parts { ChangesKeptParts D.BlockDevice (3 + reads_unless_cached (cached_block_log (kept_parts D.BlockDevice parts.old) parts.old.cache index)) (addresses_blocks (thread_pair (kept_parts D.BlockDevice parts.old) index).at (address_view fresh)) parts.old parts.new result }
-    ensures is_split { OnOk result (HasSplit (kept_parts D.BlockDevice parts.old) index (address_view fresh) (changes_view changes.now)
+    requires can { CanSplitAt (kept_parts D.BlockDevice parts.old) index (address_of_array fresh) (changes_view changes.now) }
+    ensures parts { ChangesKeptParts D.BlockDevice (3 + reads_unless_cached (cached_block_log (kept_parts D.BlockDevice parts.old) parts.old.cache index)) (addresses_blocks (thread_pair (kept_parts D.BlockDevice parts.old) index).at (address_of_array fresh)) parts.old parts.new result }
+    ensures is_split { OnOk result (HasSplit (kept_parts D.BlockDevice parts.old) index (address_of_array fresh) (changes_view changes.now)
         (kept_parts D.BlockDevice parts.new)) }
     ensures errors { ReportsWritingNothing D.BlockDevice parts.old.device parts.new.device result }
     ensures stops { CleanLossLeaves (D.history parts.old.device) (D.history parts.new.device)
-        (LossLeavesThreadSplit (kept_parts D.BlockDevice parts.old) index (address_view fresh) (changes_view changes.now)) }
+        (LossLeavesThreadSplit (kept_parts D.BlockDevice parts.old) index (address_of_array fresh) (changes_view changes.now)) }
 {
     let mut pair = parts.pairs[index];
     // Allocates memory for the new pair's header before anything is written.

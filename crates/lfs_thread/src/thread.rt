@@ -1,14 +1,14 @@
 ghost use Rattle.std.specs.Prelude.{ℕ, ◌+◌, ◌≤◌, if◌then◌else◌, None, Some, ◌↔◌, IfOk, ◌≡◌, IsTrue, true, ◌<◌, length, false, is_err, [], replicate, slice_set, IfErr, IfNone, IfSome, IsSome, OnOk, ◌-◌, min, take, drop, slice_range};
 ghost use Rattle.std.specs.Option.{option_map};
 ghost use Rattle.lfs_model.specs.format.Content.{current_block};
-ghost use Rattle.lfs_model.specs.format.Disk.{ordered_disk};
+ghost use Rattle.lfs_model.specs.format.Disk.{disk_with_order};
 ghost use Rattle.lfs_model.specs.layers.BlockSets.{IsFree, IsInFlight, IsUsedBlock, used_count};
 ghost use Rattle.lfs_model.specs.layers.BlockSets.BlockState.{Free, InFlight};
 ghost use Rattle.lfs_file.specs.Known.{AreKnownBlocks, ReadsKnownList};
 ghost use Rattle.lfs_model.specs.tree.Shown.{struct_blocks};
 ghost use Rattle.lfs_model.specs.format.SkipLists.{IsSkipList, list_bytes};
 ghost use Rattle.lfs_model.specs.session.History.{read_count};
-ghost use Rattle.lfs_model.specs.format.Slots.{Ctz, address_view};
+ghost use Rattle.lfs_model.specs.format.Slots.{Ctz, address_of_array};
 ghost use Rattle.lfs_model.specs.format.Thread.{pairs_gstate, is_hard_tail, address_blocks, addresses_blocks};
 ghost use Rattle.lfs_tag.specs.ContentView.{tail_view};
 ghost use Rattle.lfs_tag.specs.FieldsView.{move_view};
@@ -37,7 +37,7 @@ use crate::parts::ThreadParts;
 use crate::splits::split_pair;
 use lfs_blocks::{BlockMap, Cache};
 use lfs_device::{BlockDevice, Error, Geometry};
-use lfs_file::{KnownBlocks, read_at};
+use lfs_file::{IndexCache, read_at};
 use lfs_model::NameOrder;
 use lfs_pair::{Change, Outcome};
 use lfs_tag::{Log, MoveState, Tail, has_hard_tail};
@@ -144,7 +144,7 @@ impl<D: BlockDevice> Thread<D> {
 
     /// Returns a reference to the device, even if the thread has failed.
     pub fn device(&self) -> &D
-        ensures disk { ordered_disk self.now.kept.disk.order (disk_of_device D.BlockDevice result.now) ≡ self.now.kept.disk }
+        ensures disk { disk_with_order self.now.kept.disk.order (disk_of_device D.BlockDevice result.now) ≡ self.now.kept.disk }
         ensures history { D.history result.now ≡ self.now.kept.history }
     {
         &self.parts.device
@@ -160,14 +160,14 @@ impl<D: BlockDevice> Thread<D> {
     /// Sets the order by which the names in each directory are sorted. The order of names doesn't
     /// affect any other part of the thread.
     pub fn set_order(&mut self, order: NameOrder)
-        ensures { self.new ≡ record self.old { kept = record self.old.kept { disk = ordered_disk order self.old.kept.disk } } }
+        ensures { self.new ≡ record self.old { kept = record self.old.kept { disk = disk_with_order order self.old.kept.disk } } }
     {
         self.parts.order = order;
     }
 
     /// Consumes the thread and returns its device, even if the thread has failed.
     pub fn into_device(self) -> D
-        ensures disk { ordered_disk self.kept.disk.order (disk_of_device D.BlockDevice result) ≡ self.kept.disk }
+        ensures disk { disk_with_order self.kept.disk.order (disk_of_device D.BlockDevice result) ≡ self.kept.disk }
         ensures history { D.history result ≡ self.kept.history }
     {
         self.parts.device
@@ -193,7 +193,7 @@ impl<D: BlockDevice> Thread<D> {
     /// pair.
     pub fn blocks_of_pair(&self, index: usize) -> [u32; 2]
         requires { index < length self.now.kept.pairs }
-        ensures { address_view result ≡ (thread_pair self.now.kept index).at }
+        ensures { address_of_array result ≡ (thread_pair self.now.kept index).at }
     {
         self.parts.pairs[index].blocks
     }
@@ -328,7 +328,7 @@ impl<D: BlockDevice> Thread<D> {
         &mut self,
         head: u32,
         size: u32,
-        known: &mut KnownBlocks,
+        known: &mut IndexCache,
         pos: u32,
         buf: &mut [u8],
     ) -> Result<usize, Error>
@@ -344,7 +344,7 @@ impl<D: BlockDevice> Thread<D> {
     {
         let goes_on = known.end == pos;
         known.end = pos + buf.len().min(size.saturating_sub(pos) as usize) as u32;
-        if let Some(part) = known.find_known_part(&self.parts.device, size, pos, buf.len()) {
+        if let Some(part) = known.find_cached_part(&self.parts.device, size, pos, buf.len()) {
             let is_cached = self.parts.cache.lend(part.block).is_some();
             if goes_on || is_cached {
                 return read_part_cached(&mut self.parts.device, &mut self.parts.cache, part, buf);
@@ -435,12 +435,12 @@ impl<D: BlockDevice> Thread<D> {
         changes: &[Change<'_>],
     ) -> Result<(), Error>
         requires works { self.old.failed ≡ false }
-        requires can { CanSplitAt self.old.kept index (address_view fresh) (changes_view changes.now) }
-        ensures done { OnOk result (HasSplit self.old.kept index (address_view fresh) (changes_view changes.now) self.new.kept) }
+        requires can { CanSplitAt self.old.kept index (address_of_array fresh) (changes_view changes.now) }
+        ensures done { OnOk result (HasSplit self.old.kept index (address_of_array fresh) (changes_view changes.now) self.new.kept) }
         ensures failed { self.new.failed ≡ is_err result }
         ensures errors { ThreadReportsErrors self.old.kept self.new.kept result }
-        ensures device { ChangesWithinReads (3 + reads_unless_cached (cached_log self.old index)) (addresses_blocks (thread_pair self.old.kept index).at (address_view fresh)) self.old.kept self.new.kept }
-        ensures stops { CleanLossLeaves self.old.kept.history self.new.kept.history (LossLeavesThreadSplit self.old.kept index (address_view fresh) (changes_view changes.now)) }
+        ensures device { ChangesWithinReads (3 + reads_unless_cached (cached_log self.old index)) (addresses_blocks (thread_pair self.old.kept index).at (address_of_array fresh)) self.old.kept self.new.kept }
+        ensures stops { CleanLossLeaves self.old.kept.history self.new.kept.history (LossLeavesThreadSplit self.old.kept index (address_of_array fresh) (changes_view changes.now)) }
     {
         let result = split_pair(alloc, &mut self.parts, index, fresh, changes);
         self.has_failed = result.is_err();
@@ -465,13 +465,13 @@ impl<D: BlockDevice> Thread<D> {
         changes: &[Change<'_>],
     ) -> Result<Outcome, Error>
         requires works { self.old.failed ≡ false }
-        requires can { CanThreadIn self.old.kept index (address_view fresh) (changes_view changes.now) }
-        ensures done { result ≡ Ok Outcome.Done → IsThreadedIn self.old.kept index (address_view fresh) (changes_view changes.now) self.new.kept }
-        ensures full { result ≡ Ok Outcome.Full → RefusesThreading self.old.kept index (address_view fresh) (changes_view changes.now) self.new.kept }
+        requires can { CanThreadIn self.old.kept index (address_of_array fresh) (changes_view changes.now) }
+        ensures done { result ≡ Ok Outcome.Done → IsThreadedIn self.old.kept index (address_of_array fresh) (changes_view changes.now) self.new.kept }
+        ensures full { result ≡ Ok Outcome.Full → RefusesThreading self.old.kept index (address_of_array fresh) (changes_view changes.now) self.new.kept }
         ensures failed { self.new.failed ≡ is_err result }
-        ensures errors { ThreadReportsKeepingOthers (address_blocks (address_view fresh)) self.old.kept self.new.kept result }
-        ensures device { ChangesWithinReads (3 + reads_unless_cached (cached_log self.old index)) (addresses_blocks (thread_pair self.old.kept index).at (address_view fresh)) self.old.kept self.new.kept }
-        ensures stops { CleanLossLeaves self.old.kept.history self.new.kept.history (LossLeavesThreaded self.old.kept index (address_view fresh) (changes_view changes.now)) }
+        ensures errors { ThreadReportsKeepingOthers (address_blocks (address_of_array fresh)) self.old.kept self.new.kept result }
+        ensures device { ChangesWithinReads (3 + reads_unless_cached (cached_log self.old index)) (addresses_blocks (thread_pair self.old.kept index).at (address_of_array fresh)) self.old.kept self.new.kept }
+        ensures stops { CleanLossLeaves self.old.kept.history self.new.kept.history (LossLeavesThreaded self.old.kept index (address_of_array fresh) (changes_view changes.now)) }
     {
         self.join(alloc, index, Behind::Empty, fresh, changes)
     }
@@ -489,14 +489,14 @@ impl<D: BlockDevice> Thread<D> {
         changes: &[Change<'_>],
     ) -> Result<Outcome, Error>
         requires works { self.old.failed ≡ false }
-        requires can { CanThreadIn self.old.kept index (address_view fresh) (changes_view changes.now) }
+        requires can { CanThreadIn self.old.kept index (address_of_array fresh) (changes_view changes.now) }
         requires holds { CanHold self.old.kept index behind }
-        ensures done { result ≡ Ok Outcome.Done → IsJoined self.old.kept index behind (address_view fresh) (changes_view changes.now) self.new.kept }
-        ensures full { result ≡ Ok Outcome.Full → RefusesThreading self.old.kept index (address_view fresh) (changes_view changes.now) self.new.kept }
+        ensures done { result ≡ Ok Outcome.Done → IsJoined self.old.kept index behind (address_of_array fresh) (changes_view changes.now) self.new.kept }
+        ensures full { result ≡ Ok Outcome.Full → RefusesThreading self.old.kept index (address_of_array fresh) (changes_view changes.now) self.new.kept }
         ensures failed { self.new.failed ≡ is_err result }
-        ensures errors { ThreadReportsKeepingOthers (address_blocks (address_view fresh)) self.old.kept self.new.kept result }
-        ensures device { ChangesWithinReads (reads_behind behind + 1 + reads_unless_cached (cached_log self.old index)) (addresses_blocks (thread_pair self.old.kept index).at (address_view fresh)) self.old.kept self.new.kept }
-        ensures stops { CleanLossLeaves self.old.kept.history self.new.kept.history (LossLeavesJoined self.old.kept index behind (address_view fresh) (changes_view changes.now)) }
+        ensures errors { ThreadReportsKeepingOthers (address_blocks (address_of_array fresh)) self.old.kept self.new.kept result }
+        ensures device { ChangesWithinReads (reads_behind behind + 1 + reads_unless_cached (cached_log self.old index)) (addresses_blocks (thread_pair self.old.kept index).at (address_of_array fresh)) self.old.kept self.new.kept }
+        ensures stops { CleanLossLeaves self.old.kept.history self.new.kept.history (LossLeavesJoined self.old.kept index behind (address_of_array fresh) (changes_view changes.now)) }
     {
         let outcome = join_pair(alloc, &mut self.parts, index, behind, fresh, changes);
         self.has_failed = outcome.is_err();
@@ -540,12 +540,12 @@ impl<D: BlockDevice> Thread<D> {
     /// Errors are those of [`thread_in`](Thread::thread_in).
     pub fn move_next(&mut self, alloc: Global, index: usize, fresh: [u32; 2]) -> Result<(), Error>
         requires works { self.old.failed ≡ false }
-        requires can { CanMoveNext self.old.kept index (address_view fresh) }
-        ensures done { OnOk result (IsNextMoved self.old.kept index (address_view fresh) self.new.kept) }
+        requires can { CanMoveNext self.old.kept index (address_of_array fresh) }
+        ensures done { OnOk result (IsNextMoved self.old.kept index (address_of_array fresh) self.new.kept) }
         ensures failed { self.new.failed ≡ is_err result }
-        ensures errors { ThreadReportsKeepingOthers (address_blocks (address_view fresh)) self.old.kept self.new.kept result }
-        ensures device { ChangesWithinReads (4 + reads_unless_cached (cached_log self.old index)) (addresses_blocks (thread_pair self.old.kept index).at (address_view fresh)) self.old.kept self.new.kept }
-        ensures stops { CleanLossLeaves self.old.kept.history self.new.kept.history (LossLeavesNextMoved self.old.kept index (address_view fresh)) }
+        ensures errors { ThreadReportsKeepingOthers (address_blocks (address_of_array fresh)) self.old.kept self.new.kept result }
+        ensures device { ChangesWithinReads (4 + reads_unless_cached (cached_log self.old index)) (addresses_blocks (thread_pair self.old.kept index).at (address_of_array fresh)) self.old.kept self.new.kept }
+        ensures stops { CleanLossLeaves self.old.kept.history self.new.kept.history (LossLeavesNextMoved self.old.kept index (address_of_array fresh)) }
     {
         let tail = Change::Tail {
             hard: true,
@@ -578,12 +578,12 @@ impl<D: BlockDevice> Thread<D> {
         keep: u16,
     ) -> Result<(), Error>
         requires works { self.old.failed ≡ false }
-        requires can { CanUnload self.old.kept index (address_view fresh) keep }
-        ensures done { OnOk result (IsUnloaded self.old.kept index (address_view fresh) keep self.new.kept) }
+        requires can { CanUnload self.old.kept index (address_of_array fresh) keep }
+        ensures done { OnOk result (IsUnloaded self.old.kept index (address_of_array fresh) keep self.new.kept) }
         ensures failed { self.new.failed ≡ is_err result }
-        ensures errors { ThreadReportsKeepingOthers (address_blocks (address_view fresh)) self.old.kept self.new.kept result }
-        ensures device { ChangesWithinReads (4 + reads_unless_cached (cached_log self.old index)) (addresses_blocks (thread_pair self.old.kept index).at (address_view fresh)) self.old.kept self.new.kept }
-        ensures stops { CleanLossLeaves self.old.kept.history self.new.kept.history (LossLeavesUnloaded self.old.kept index (address_view fresh) keep) }
+        ensures errors { ThreadReportsKeepingOthers (address_blocks (address_of_array fresh)) self.old.kept self.new.kept result }
+        ensures device { ChangesWithinReads (4 + reads_unless_cached (cached_log self.old index)) (addresses_blocks (thread_pair self.old.kept index).at (address_of_array fresh)) self.old.kept self.new.kept }
+        ensures stops { CleanLossLeaves self.old.kept.history self.new.kept.history (LossLeavesUnloaded self.old.kept index (address_of_array fresh) keep) }
     {
         // Lets the proof use the invariant of the thread.
         let _ = &self.parts;
@@ -606,7 +606,7 @@ impl<D: BlockDevice> Thread<D> {
     /// use this method to write a file's list into blocks that aren't used, or to mark a committed
     /// list's blocks as used. Requires that `work` changes no used block, and that the pairs'
     /// blocks stay used. Removes blocks that aren't used from the cache before it calls `work`.
-    pub fn run_work<X, F: FnOnce(&mut D, &mut BlockMap) -> X>(&mut self, work: F) -> X
+    pub fn with_device_map<X, F: FnOnce(&mut D, &mut BlockMap) -> X>(&mut self, work: F) -> X
         requires works { self.old.failed ≡ false }
         requires can { (device : D) (map : BlockMap) → BelongToThread D.BlockDevice self.old.kept device map → CanRunWork F.FnOnce work device map }
         requires leaves { (device : D) (map : BlockMap) (x : X) (later : D) (later_map : BlockMap) → BelongToThread D.BlockDevice self.old.kept device map
@@ -712,7 +712,7 @@ fn unload_changes<'a>(
     keep: u16,
     count: usize,
 ) -> Result<Vec<Change<'a>>, Error>
-    ensures changes { IfOk result (λ changes. changes_view changes.items ≡ changes_of_unload (address_view fresh) keep count) }
+    ensures changes { IfOk result (λ changes. changes_view changes.items ≡ changes_of_unload (address_of_array fresh) keep count) }
     ensures errors { IfErr result (λ e. e ≡ Error.NoMemory) }
 {
     let mut changes = Vec::from_elem(alloc, Change::Delete { id: keep }, count)?;

@@ -2,7 +2,7 @@
 pub use Rattle.lfs_device.specs.RamDevice.{ram_blocks, ram_geometry}
 pub use Rattle.lfs_lookup.specs.Items.{owned_view}
 pub use Rattle.lfs_lookup.specs.TreeWalk.{AreTreeItems, AreWalkItems, IsStructNode, IsTreeItem, PathStruct, tree_items_view}
-pub use Rattle.lfs_model.specs.format.Disk.{Disk, IsWholeImage, block_count, disk_of_image, ordered_disk}
+pub use Rattle.lfs_model.specs.format.Disk.{Disk, IsWholeImage, block_count, disk_of_image, disk_with_order}
 pub use Rattle.lfs_model.specs.format.Slots.{Branch, Ctz, Inline, Struct}
 pub use Rattle.lfs_model.specs.format.Thread.{Pair}
 pub use Rattle.lfs_model.specs.layers.BlockSets.{AreUsed}
@@ -10,15 +10,15 @@ pub use Rattle.lfs_model.specs.layers.Listing.{PathNode, UnpackingAction}
 pub use Rattle.lfs_model.specs.session.History.{CallEvent, fault_count}
 pub use Rattle.lfs_model.specs.tree.Shown.{used_blocks}
 pub use Rattle.lfs_model.specs.tree.Tree.{Node}
-pub use Rattle.lfs_model.specs.tree.View.{HasDiskView, IsAccepted, IsFormedList, disk_view}
+pub use Rattle.lfs_model.specs.tree.View.{HasDiskView, IsAccepted, IsWellFormedList, disk_view}
 pub use Rattle.lfs_thread.specs.MountErrors.{error_of_mount}
 pub use Rattle.lfs_thread.specs.ThreadSteps.{OnlyReadsThread}
-pub use Rattle.lfs_tool.specs.CheckResults.{IsWrongNumber}
+pub use Rattle.lfs_tool.specs.CheckResults.{IsWrongSuperblockField}
 pub use Rattle.lfs_tool.specs.ImageSummaries.{is_file_item}
-pub use Rattle.lfs_tool.specs.KnownBytes.{AppendsBeginning}
-pub use Rattle.lfs_tool.specs.Listings.{IsDiskListing, IsImageWalk, IsMountError, RefusesToList, place_lines}
+pub use Rattle.lfs_tool.specs.KnownBytes.{AppendsPrefix}
+pub use Rattle.lfs_tool.specs.Listings.{IsDiskListing, IsImageWalk, IsMountError, RefusesToList, path_struct_lines}
 pub use Rattle.lfs_tool.specs.Reports.{IsReadToEnd}
-pub use Rattle.lfs_tool.specs.Unpackings.{ActionsPartlyDone, HasDoneActions, HaveFormedLists, place_action, place_actions}
+pub use Rattle.lfs_tool.specs.Unpackings.{HasDoneActionsPrefix, HasDoneActions, HaveWellFormedLists, path_struct_action, path_struct_actions}
 pub use Rattle.lfs_tool.specs.Verdict.{IsDiskVerdict}
 pub use Rattle.lfs_tool.specs.WrongNumbers.{AreFieldsRight, SuperblocksAreRight}
 pub use Rattle.std.proofs.KnownBytes.{Keeps-refl, Keeps-trans}

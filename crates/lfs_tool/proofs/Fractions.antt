@@ -4,7 +4,7 @@ use Rattle.std.proofs.lemmas.Bool.{eq-eqb, ne_eqb, eqb-true, eqb-false, le-ltb, 
 use Rattle.std.proofs.Math.Nat.{add-mul-mod_self_right, div-add-mod, mul-le-mul_left, mul-mod_left, mul-div-mul_right, pow-succ', one-le-pow}
 use Rattle.std.specs.Prelude.{nat_lt}
 use Rattle.std.specs.Char.{digit_value}
-use Rattle.lfs_tool.specs.Numbers.{parts_bytes, number_after}
+use Rattle.lfs_tool.specs.Numbers.{unit_fraction_bytes, append_digits}
 
 -- a tenth of so many bytes
 abbrev pub whole_tenth : ℕ → Option ℕ
@@ -29,15 +29,15 @@ front_step n d k (Some f) =
     let same : (n * 10 + d) * 10 ^ k + f ≡ n * 10 ^ suc k + ((0 * 10 + d) * 10 ^ k + f) = omega (arith, ap (λ (x : ℕ). n * x) (pow-succ' 10 k)) in
     ap (λ (x : ℕ). Some x) same
 
-pub digits_behind : (n : ℕ) (ds : List ℕ) → number_after 10 n ds ≡ option_map (λ f. n * 10 ^ length ds + f) (number_after 10 0 ds)
+pub digits_behind : (n : ℕ) (ds : List ℕ) → append_digits 10 n ds ≡ option_map (λ f. n * 10 ^ length ds + f) (append_digits 10 0 ds)
 digits_behind n [] = let same : n ≡ n * 10 ^ 0 + 0 = omega arith in ap (λ (x : ℕ). Some x) same
 digits_behind n (c ∷ cs) = go (nat_lt (digit_value c) 10) (digits_behind (n * 10 + digit_value c) cs) (digits_behind (0 * 10 + digit_value c) cs)
   where
-    go : (b : Bool) → number_after 10 (n * 10 + digit_value c) cs ≡ option_map (λ f. (n * 10 + digit_value c) * 10 ^ length cs + f) (number_after 10 0 cs)
-        → number_after 10 (0 * 10 + digit_value c) cs ≡ option_map (λ f. (0 * 10 + digit_value c) * 10 ^ length cs + f) (number_after 10 0 cs)
-        → (if b then number_after 10 (n * 10 + digit_value c) cs else None)
-        ≡ option_map (λ f. n * 10 ^ suc (length cs) + f) (if b then number_after 10 (0 * 10 + digit_value c) cs else None)
-    go true one two = one ∙ (front_step n (digit_value c) (length cs) (number_after 10 0 cs) ∙ sym (ap (option_map (λ f. n * 10 ^ suc (length cs) + f)) two))
+    go : (b : Bool) → append_digits 10 (n * 10 + digit_value c) cs ≡ option_map (λ f. (n * 10 + digit_value c) * 10 ^ length cs + f) (append_digits 10 0 cs)
+        → append_digits 10 (0 * 10 + digit_value c) cs ≡ option_map (λ f. (0 * 10 + digit_value c) * 10 ^ length cs + f) (append_digits 10 0 cs)
+        → (if b then append_digits 10 (n * 10 + digit_value c) cs else None)
+        ≡ option_map (λ f. n * 10 ^ suc (length cs) + f) (if b then append_digits 10 (0 * 10 + digit_value c) cs else None)
+    go true one two = one ∙ (front_step n (digit_value c) (length cs) (append_digits 10 0 cs) ∙ sym (ap (option_map (λ f. n * 10 ^ suc (length cs) + f)) two))
     go false one two = refl
 
 -- ---- a digit more
@@ -84,7 +84,7 @@ stays_broken unit d p f broken zero_is =
     broken (sym (add-mul-mod_self_right (f * unit) (d * unit) p) ∙ (ap (λ (x : ℕ). x % p) same ∙ mul-mod_left (10 * (a / (10 * p))) p))
 
 digit_before : (unit d p : ℕ) (x : Option ℕ) → 0 < p
-    → parts_bytes unit (10 * p) (option_map (λ f. (0 * 10 + d) * p + f) x) ≡ with_digit unit d (parts_bytes unit p x)
+    → unit_fraction_bytes unit (10 * p) (option_map (λ f. (0 * 10 + d) * p + f) x) ≡ with_digit unit d (unit_fraction_bytes unit p x)
 digit_before unit d p None some = refl
 digit_before unit d p (Some f) some = go ((f * unit) % p == 0) refl
   where
@@ -99,7 +99,7 @@ digit_before unit d p (Some f) some = go ((f * unit) % p == 0) refl
     go false e = rw (ne_eqb ((((0 * 10 + d) * p + f) * unit) % (10 * p)) 0 (stays_broken unit d p f (eqb-false ((f * unit) % p) 0 e))) refl
 
 -- read from the last one on, the digits make the bytes of their parts
-pub tenths_are_parts : (unit : ℕ) (ds : List ℕ) → bytes_of_tenths unit ds ≡ parts_bytes unit (10 ^ length ds) (number_after 10 0 ds)
+pub tenths_are_parts : (unit : ℕ) (ds : List ℕ) → bytes_of_tenths unit ds ≡ unit_fraction_bytes unit (10 ^ length ds) (append_digits 10 0 ds)
 tenths_are_parts unit [] = let none : 0 * unit ≡ 0 = omega arith in rw none refl
 tenths_are_parts unit (c ∷ cs) = go (nat_lt (digit_value c) 10) refl (tenths_are_parts unit cs) (digits_behind (0 * 10 + digit_value c) cs)
   where
@@ -109,15 +109,15 @@ tenths_are_parts unit (c ∷ cs) = go (nat_lt (digit_value c) 10) refl (tenths_a
     tenth_by true (Some n) e = rw e refl
     tenth_by false (Some n) e = rw e refl
 
-    go : (b : Bool) → nat_lt (digit_value c) 10 ≡ b → bytes_of_tenths unit cs ≡ parts_bytes unit (10 ^ length cs) (number_after 10 0 cs)
-        → number_after 10 (0 * 10 + digit_value c) cs ≡ option_map (λ f. (0 * 10 + digit_value c) * 10 ^ length cs + f) (number_after 10 0 cs)
+    go : (b : Bool) → nat_lt (digit_value c) 10 ≡ b → bytes_of_tenths unit cs ≡ unit_fraction_bytes unit (10 ^ length cs) (append_digits 10 0 cs)
+        → append_digits 10 (0 * 10 + digit_value c) cs ≡ option_map (λ f. (0 * 10 + digit_value c) * 10 ^ length cs + f) (append_digits 10 0 cs)
         → tenth_of_digit unit c (bytes_of_tenths unit cs)
-        ≡ parts_bytes unit (10 ^ suc (length cs)) (if b then number_after 10 (0 * 10 + digit_value c) cs else None)
+        ≡ unit_fraction_bytes unit (10 ^ suc (length cs)) (if b then append_digits 10 (0 * 10 + digit_value c) cs else None)
     go true e rest front =
         tenth_by true (bytes_of_tenths unit cs) e ∙ (ap (with_digit unit (digit_value c)) rest
-        ∙ (sym (digit_before unit (digit_value c) (10 ^ length cs) (number_after 10 0 cs) (power_some (length cs)))
-        ∙ (ap (λ (p : ℕ). parts_bytes unit p (option_map (λ f. (0 * 10 + digit_value c) * 10 ^ length cs + f) (number_after 10 0 cs))) (sym (pow-succ' 10 (length cs)))
-        ∙ ap (parts_bytes unit (10 ^ suc (length cs))) (sym front))))
+        ∙ (sym (digit_before unit (digit_value c) (10 ^ length cs) (append_digits 10 0 cs) (power_some (length cs)))
+        ∙ (ap (λ (p : ℕ). unit_fraction_bytes unit p (option_map (λ f. (0 * 10 + digit_value c) * 10 ^ length cs + f) (append_digits 10 0 cs))) (sym (pow-succ' 10 (length cs)))
+        ∙ ap (unit_fraction_bytes unit (10 ^ suc (length cs))) (sym front))))
     go false e rest front = tenth_by false (bytes_of_tenths unit cs) e
 
 none_stays : (unit : ℕ) (ds : List ℕ) (i : ℕ) → bytes_of_tenths unit (drop i ds) ≡ None → bytes_of_tenths unit ds ≡ None
@@ -140,17 +140,17 @@ no_tenth_none : (unit c n : ℕ) → digit_value c < 10 → (digit_value c * uni
 no_tenth_none unit c n digit broken = rw (lt-ltb (digit_value c) 10 digit, ne_eqb ((digit_value c * unit + n) % 10) 0 broken) refl
 
 pub none_at_letter : (unit : ℕ) (ds : List ℕ) (i j n : ℕ) → j ≡ suc i → i < length ds → bytes_of_tenths unit (drop j ds) ≡ Some n
-    → 10 ≤ digit_value (get_or ds i 0) → None ≡ parts_bytes unit (10 ^ length ds) (number_after 10 0 ds)
+    → 10 ≤ digit_value (get_or ds i 0) → None ≡ unit_fraction_bytes unit (10 ^ length ds) (append_digits 10 0 ds)
 none_at_letter unit ds i j n next lt behind large =
     sym (none_from_digit unit ds i j n next lt behind (no_digit_none unit (get_or ds i 0) n large)) ∙ tenths_are_parts unit ds
 
 pub none_at_digit : (unit : ℕ) (ds : List ℕ) (i j n : ℕ) → j ≡ suc i → i < length ds → bytes_of_tenths unit (drop j ds) ≡ Some n
     → digit_value (get_or ds i 0) < 10 → (digit_value (get_or ds i 0) * unit + n) % 10 ≢ 0
-    → None ≡ parts_bytes unit (10 ^ length ds) (number_after 10 0 ds)
+    → None ≡ unit_fraction_bytes unit (10 ^ length ds) (append_digits 10 0 ds)
 none_at_digit unit ds i j n next lt behind digit broken =
     sym (none_from_digit unit ds i j n next lt behind (no_tenth_none unit (get_or ds i 0) n digit broken)) ∙ tenths_are_parts unit ds
 
 pub some_at_start : (unit : ℕ) (ds : List ℕ) (i n : ℕ) → i ≤ 0 → bytes_of_tenths unit (drop i ds) ≡ Some n
-    → Some n ≡ parts_bytes unit (10 ^ length ds) (number_after 10 0 ds)
+    → Some n ≡ unit_fraction_bytes unit (10 ^ length ds) (append_digits 10 0 ds)
 some_at_start unit ds zero n le behind = sym behind ∙ tenths_are_parts unit ds
 some_at_start unit ds (suc i) n le behind = absurd (omega arith)

@@ -1,6 +1,6 @@
 -- What was found of an image.
 use Rattle.std.proofs.Common.{◌≡◌, ◌<◌, ◌*◌, ◌/◌, ℕ, List, arith, length, refl, subst, sym}
-use Rattle.lfs_tool.proofs.Common.{Disk, IsWholeImage, ordered_disk, disk_of_image, IsAccepted, AreWalkItems, IsImageWalk, IsMountError, PathStruct, RefusesToList, place_lines}
+use Rattle.lfs_tool.proofs.Common.{Disk, IsWholeImage, disk_with_order, disk_of_image, IsAccepted, AreWalkItems, IsImageWalk, IsMountError, PathStruct, RefusesToList, path_struct_lines}
 use Rattle.lfs_thread.specs.Kept.{ThreadView}
 use Rattle.lfs_tool.specs.declared.image_layout.ImageLayout.{ImageLayout}
 use Rattle.lfs_model.specs.declared.order.NameOrder.{NameOrder}
@@ -21,7 +21,7 @@ sizes_of_image layout order image is =
 
 pub refuses_image : (layout : ImageLayout) (image : List ℕ) (disk : Disk) (e : Error) → IsWholeImage layout.block_size layout.page image
     → disk ≡ disk_of_image layout.block_size layout.page layout.profile LongerFirst image → IsMountError disk e → RefusesToList layout image e
-refuses_image layout image disk Corrupt is same wrong = (is, λ view (order, (ps, (accepted, shows))). wrong order ps (subst (λ d. IsAccepted (ordered_disk order d) ps) (sym same) accepted))
+refuses_image layout image disk Corrupt is same wrong = (is, λ view (order, (ps, (accepted, shows))). wrong order ps (subst (λ d. IsAccepted (disk_with_order order d) ps) (sym same) accepted))
 refuses_image layout image disk NoMemory is same wrong = tt
 refuses_image layout image disk e is same wrong = absurd wrong
 
@@ -31,12 +31,12 @@ pub walked_image : (layout : ImageLayout) (image : List ℕ) (disk : Disk) (t : 
 walked_image layout image disk t places is same walked =
     let order = t.kept.disk.order in (
       is,
-      (order, (t.kept.pairs, (subst (λ d. IsAccepted (ordered_disk order d) t.kept.pairs) same walked.accepted, subst (λ d. AreWalkItems (ordered_disk order d) t.kept.pairs places) same walked.walked))),
+      (order, (t.kept.pairs, (subst (λ d. IsAccepted (disk_with_order order d) t.kept.pairs) same walked.accepted, subst (λ d. AreWalkItems (disk_with_order order d) t.kept.pairs places) same walked.walked))),
     )
 
-pub walk_lists : (layout : ImageLayout) (image : List ℕ) (places : List PathStruct) → IsImageWalk layout image places → IsImageListing layout image (place_lines places)
+pub walk_lists : (layout : ImageLayout) (image : List ℕ) (places : List PathStruct) → IsImageWalk layout image places → IsImageListing layout image (path_struct_lines places)
 walk_lists layout image places (is, (order, (ps, (accepted, walked)))) =
-    let (view, (shows, listing)) = listed_from (disk_of_image layout.block_size layout.page layout.profile order image) (place_lines places) (sizes_of_image layout order image is) (ps, (accepted, (places, (walked, refl)))) in
+    let (view, (shows, listing)) = listed_from (disk_of_image layout.block_size layout.page layout.profile order image) (path_struct_lines places) (sizes_of_image layout order image is) (ps, (accepted, (places, (walked, refl)))) in
     (is, (view, ((order, shows), listing)))
 
 -- ---- how long it is

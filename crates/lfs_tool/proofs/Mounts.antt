@@ -5,11 +5,11 @@ use Rattle.lfs_device.specs.declared.error.Error.TheVariants as error
 use Rattle.lfs_lookup.specs.Searchable.{CanSearchFromRoot}
 use Rattle.lfs_model.specs.format.Thread.{count_before_root}
 use Rattle.lfs_thread.specs.Kept.{ThreadView}
-use Rattle.lfs_tool.proofs.Common.{ordered_disk, Disk, CallEvent, fault_count, Pair, IsAccepted, IsMountError, OnlyReadsThread}
+use Rattle.lfs_tool.proofs.Common.{disk_with_order, Disk, CallEvent, fault_count, Pair, IsAccepted, IsMountError, OnlyReadsThread}
 use Rattle.lfs_mount.specs.MountFaults.{MountMayReport}
 use Rattle.lfs_model.specs.declared.order.NameOrder.{NameOrder}
 
-pub not_mounted : (disk : Disk) (e : Error) (old new : List CallEvent) → MountMayReport e → (e ≡ error.Corrupt → (order : NameOrder) (ps : List Pair) → IsAccepted (ordered_disk order disk) ps → ⊥)
+pub not_mounted : (disk : Disk) (e : Error) (old new : List CallEvent) → MountMayReport e → (e ≡ error.Corrupt → (order : NameOrder) (ps : List Pair) → IsAccepted (disk_with_order order disk) ps → ⊥)
     → (e ≡ error.Io → fault_count old < fault_count new) → fault_count new ≡ fault_count old → IsMountError disk e
 not_mounted disk e old new (inl io) corrupt fault none = let more = fault io in absurd (omega (arith, more, none))
 not_mounted disk e old new (inr (inl broken)) corrupt fault none = subst (IsMountError disk) (sym broken) (corrupt broken)

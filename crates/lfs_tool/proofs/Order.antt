@@ -11,11 +11,11 @@ use Rattle.std.proofs.lemmas.List.Sums.{sum_by-cons}
 use Rattle.std.proofs.lemmas.List.Sorted.{IsPermutation-map, sum_by-IsPermutation}
 use Rattle.lfs_model.specs.declared.order.NameOrder.TheVariants.{ShorterFirst}
 use Rattle.lfs_model.specs.format.Names.{Name, name_cmp, same_name, is_component, is_less}
-use Rattle.lfs_model.specs.layers.Source.{HaveBadOrRepeated, TreeSource, source_names, name_occurrences}
+use Rattle.lfs_model.specs.layers.Source.{HaveBadOrRepeatedNames, TreeSource, source_names, name_occurrences}
 use Rattle.lfs_tool.specs.SourceTrees.{listed_view}
 use Rattle.lfs_model.proofs.Counts.{Each, each_weaker}
 use Rattle.lfs_model.proofs.Paths.{name_from_equal, same_itself}
-use Rattle.lfs_tool.specs.SourceEntries.{AreRising, is_listed_before, listed_name, rise_after}
+use Rattle.lfs_tool.specs.SourceEntries.{AreAscendingComponents, is_listed_before, listed_name, are_ascending_after}
 use Rattle.lfs_tool.specs.declared.source.ListedName.{ListedName}
 
 -- ---- in order
@@ -30,10 +30,10 @@ record Rises (last : Name) (ns : List Name) : Type 0 where
   above : Each (λ n. name_cmp ShorterFirst last n ≡ Less) ns
   pairs : AllPairs (λ a b. name_cmp ShorterFirst a b ≡ Less) ns
 
-rises_from : (last : Name) (ns : List Name) → rise_after last ns ≡ true → Rises last ns
+rises_from : (last : Name) (ns : List Name) → are_ascending_after last ns ≡ true → Rises last ns
 rises_from last [] e = record { components = tt; above = tt; pairs = λ i j d l m. absurd (omega arith) }
 rises_from last (n ∷ ns) e =
-    let one = and_parts (is_component n && is_less (name_cmp ShorterFirst last n)) (rise_after n ns) e in
+    let one = and_parts (is_component n && is_less (name_cmp ShorterFirst last n)) (are_ascending_after n ns) e in
     let two = and_parts (is_component n) (is_less (name_cmp ShorterFirst last n)) one.0 in
     let less = less_from (name_cmp ShorterFirst last n) two.1 in
     let rest = rises_from n ns one.1 in
@@ -43,7 +43,7 @@ rises_from last (n ∷ ns) e =
       pairs = AllPairs-cons (λ a b. name_cmp ShorterFirst a b ≡ Less) n ns (All-from_recursion (λ m. name_cmp ShorterFirst n m ≡ Less) ns rest.above) rest.pairs;
     }
 
-pub in_order : (ns : List Name) → rise_after [] ns ≡ true → AreRising ns
+pub in_order : (ns : List Name) → are_ascending_after [] ns ≡ true → AreAscendingComponents ns
 in_order ns e =
     let r = rises_from [] ns e in
     record { components = All-from_recursion (λ n. is_component n ≡ true) ns r.components; rise = r.pairs }
@@ -71,24 +71,24 @@ times_more name n ns = sum_by-cons (λ m. cond (same_name name m) 1 0) n ns
 here_too : (n : Name) (ns : List Name) → name_occurrences n (n ∷ ns) ≡ 1 + name_occurrences n ns
 here_too n ns = times_more n n ns ∙ ap (λ b. cond b 1 0 + name_occurrences n ns) (same_itself n)
 
-bad_later : (n : Name) (ns : List Name) → HaveBadOrRepeated ns → HaveBadOrRepeated (n ∷ ns)
+bad_later : (n : Name) (ns : List Name) → HaveBadOrRepeatedNames ns → HaveBadOrRepeatedNames (n ∷ ns)
 bad_later n ns (inl h) = inl (h.0, h.1, omega (arith, h.2, times_more h.0 n ns))
 bad_later n ns (inr h) = inr (h.0, omega (arith, h.1, times_more h.0 n ns))
 
-odd_here : (n : Name) (ns : List Name) → is_component n ≡ false → HaveBadOrRepeated (n ∷ ns)
+odd_here : (n : Name) (ns : List Name) → is_component n ≡ false → HaveBadOrRepeatedNames (n ∷ ns)
 odd_here n ns e = inl (n, e, omega (arith, here_too n ns))
 
-twice : (n : Name) (ns : List Name) → HaveBadOrRepeated (n ∷ n ∷ ns)
+twice : (n : Name) (ns : List Name) → HaveBadOrRepeatedNames (n ∷ n ∷ ns)
 twice n ns = inr (n, omega (arith, here_too n (n ∷ ns), here_too n ns))
 
-bad_behind : (last : Name) (ns : List Name) → NeverFall (last ∷ ns) → rise_after last ns ≡ false → HaveBadOrRepeated (last ∷ ns)
+bad_behind : (last : Name) (ns : List Name) → NeverFall (last ∷ ns) → are_ascending_after last ns ≡ false → HaveBadOrRepeatedNames (last ∷ ns)
 bad_behind last [] h e = absurd (cc)
 bad_behind last (n ∷ ns) h e = go (is_component n) (name_cmp ShorterFirst last n) refl refl e (bad_behind n ns h.1)
   where
-    go : (c : Bool) (o : Ordering) → is_component n ≡ c → name_cmp ShorterFirst last n ≡ o → (c && is_less o && rise_after n ns) ≡ false → (rise_after n ns ≡ false → HaveBadOrRepeated (n ∷ ns)) → HaveBadOrRepeated (last ∷ n ∷ ns)
+    go : (c : Bool) (o : Ordering) → is_component n ≡ c → name_cmp ShorterFirst last n ≡ o → (c && is_less o && are_ascending_after n ns) ≡ false → (are_ascending_after n ns ≡ false → HaveBadOrRepeatedNames (n ∷ ns)) → HaveBadOrRepeatedNames (last ∷ n ∷ ns)
     go false o is cmp f next = bad_later last (n ∷ ns) (odd_here n ns is)
     go true Less is cmp f next = bad_later last (n ∷ ns) (next f)
-    go true Equal is cmp f next = subst (λ m. HaveBadOrRepeated (last ∷ m ∷ ns)) (name_from_equal last n cmp) (twice last ns)
+    go true Equal is cmp f next = subst (λ m. HaveBadOrRepeatedNames (last ∷ m ∷ ns)) (name_from_equal last n cmp) (twice last ns)
     go true Greater is cmp f next =
         let back : name_cmp ShorterFirst n last ≡ Less = nat_list_cmp_total.antisymm n last ∙ ap ordering_reverse cmp in
         let wrong : true ≡ false = sym (ap is_less back) ∙ h.0 in
@@ -98,15 +98,15 @@ above_nothing : (n : Name) → is_component n ≡ true → is_less (name_cmp Sho
 above_nothing [] e = absurd (cc)
 above_nothing (b ∷ n) e = refl
 
-bad_from : (ns : List Name) → NeverFall ns → rise_after [] ns ≡ false → HaveBadOrRepeated ns
+bad_from : (ns : List Name) → NeverFall ns → are_ascending_after [] ns ≡ false → HaveBadOrRepeatedNames ns
 bad_from [] h e = absurd (cc)
 bad_from (n ∷ ns) h e = go (is_component n) refl e
   where
-    go : (c : Bool) → is_component n ≡ c → (c && is_less (name_cmp ShorterFirst [] n) && rise_after n ns) ≡ false → HaveBadOrRepeated (n ∷ ns)
+    go : (c : Bool) → is_component n ≡ c → (c && is_less (name_cmp ShorterFirst [] n) && are_ascending_after n ns) ≡ false → HaveBadOrRepeatedNames (n ∷ ns)
     go false is f = odd_here n ns is
-    go true is f = bad_behind n ns h (sym (ap (λ b. b && rise_after n ns) (above_nothing n is)) ∙ f)
+    go true is f = bad_behind n ns h (sym (ap (λ b. b && are_ascending_after n ns) (above_nothing n is)) ∙ f)
 
-pub bad_names : (xs : List ListedName) → IsSortedBy is_listed_before xs → rise_after [] (map listed_name xs) ≡ false → HaveBadOrRepeated (map listed_name xs)
+pub bad_names : (xs : List ListedName) → IsSortedBy is_listed_before xs → are_ascending_after [] (map listed_name xs) ≡ false → HaveBadOrRepeatedNames (map listed_name xs)
 bad_names xs h e = bad_from (map listed_name xs) (never_fall xs h) e
 
 -- ---- in another order
@@ -114,7 +114,7 @@ bad_names xs h e = bad_from (map listed_name xs) (never_fall xs h) e
 same_times : (xs ys : List ListedName) (name : Name) → IsPermutation xs ys → name_occurrences name (map listed_name ys) ≡ name_occurrences name (map listed_name xs)
 same_times xs ys name h = sum_by-IsPermutation (λ n. cond (same_name name n) 1 0) (map listed_name xs) (map listed_name ys) (IsPermutation-map listed_name xs ys h)
 
-bad_before : (xs ys : List ListedName) → IsPermutation xs ys → HaveBadOrRepeated (map listed_name ys) → HaveBadOrRepeated (map listed_name xs)
+bad_before : (xs ys : List ListedName) → IsPermutation xs ys → HaveBadOrRepeatedNames (map listed_name ys) → HaveBadOrRepeatedNames (map listed_name xs)
 bad_before xs ys h (inl b) = inl (b.0, b.1, omega (arith, b.2, same_times xs ys b.0 h))
 bad_before xs ys h (inr b) = inr (b.0, omega (arith, b.1, same_times xs ys b.0 h))
 
@@ -123,8 +123,8 @@ names_given [] = refl
 names_given (x ∷ xs) = ap (λ ns. x.name.items ∷ ns) (names_given xs)
 
 -- what is bad once it is sorted was bad as it was given
-pub bad_given : (known : Option TreeSource) (folder : List ℕ) (xs ys zs : List ListedName) → IfSome known (λ s. map listed_view xs ≡ s.names folder) → IsPermutation xs ys → zs ≡ ys → HaveBadOrRepeated (map listed_name zs)
-    → IfSome known (λ s. HaveBadOrRepeated (source_names (s.names folder)))
+pub bad_given : (known : Option TreeSource) (folder : List ℕ) (xs ys zs : List ListedName) → IfSome known (λ s. map listed_view xs ≡ s.names folder) → IsPermutation xs ys → zs ≡ ys → HaveBadOrRepeatedNames (map listed_name zs)
+    → IfSome known (λ s. HaveBadOrRepeatedNames (source_names (s.names folder)))
 bad_given None folder xs ys zs e h same b = tt
 bad_given (Some s) folder xs ys zs e h same b =
-    subst (λ g. HaveBadOrRepeated (source_names g)) e (subst HaveBadOrRepeated (sym (names_given xs)) (bad_before xs ys h (subst (λ v. HaveBadOrRepeated (map listed_name v)) same b)))
+    subst (λ g. HaveBadOrRepeatedNames (source_names g)) e (subst HaveBadOrRepeatedNames (sym (names_given xs)) (bad_before xs ys h (subst (λ v. HaveBadOrRepeatedNames (map listed_name v)) same b)))

@@ -3,27 +3,27 @@ use Rattle.std.proofs.Common.{◌≡◌, ◌<◌, ◌+◌, ◌*◌, ◌/◌, ◌
 use Rattle.std.proofs.lemmas.Bool.{ltb-false}
 use Rattle.std.proofs.Math.Nat.{add-mul-mod_self_right, add-mul-div_right, le-mul_of_pos_right}
 use Rattle.std.specs.Char.{digit_value}
-use Rattle.lfs_tool.specs.Numbers.{parts_bytes, number_after, number_of_digits, fractional_number, fitting_number}
+use Rattle.lfs_tool.specs.Numbers.{unit_fraction_bytes, append_digits, number_of_digits, fractional_number, u32_or_none}
 use Rattle.lfs_tool.proofs.Digits.{large_within}
 use Rattle.lfs_tool.proofs.Fractions.{digits_behind, power_some}
 
 -- the number that digits name behind those of another number
 abbrev pub digits_behind_number : ℕ → List ℕ → Option ℕ → Option ℕ
 digits_behind_number radix ds None = None
-digits_behind_number radix ds (Some n) = number_after radix n ds
+digits_behind_number radix ds (Some n) = append_digits radix n ds
 
-digits_appended : (radix n : ℕ) (xs ys : List ℕ) → number_after radix n (xs ++ ys) ≡ digits_behind_number radix ys (number_after radix n xs)
+digits_appended : (radix n : ℕ) (xs ys : List ℕ) → append_digits radix n (xs ++ ys) ≡ digits_behind_number radix ys (append_digits radix n xs)
 digits_appended radix n [] ys = refl
 digits_appended radix n (c ∷ cs) ys = go (nat_lt (digit_value c) radix) (digits_appended radix (n * radix + digit_value c) cs ys)
   where
-    go : (b : Bool) → number_after radix (n * radix + digit_value c) (cs ++ ys) ≡ digits_behind_number radix ys (number_after radix (n * radix + digit_value c) cs)
-        → (if b then number_after radix (n * radix + digit_value c) (cs ++ ys) else None)
-        ≡ digits_behind_number radix ys (if b then number_after radix (n * radix + digit_value c) cs else None)
+    go : (b : Bool) → append_digits radix (n * radix + digit_value c) (cs ++ ys) ≡ digits_behind_number radix ys (append_digits radix (n * radix + digit_value c) cs)
+        → (if b then append_digits radix (n * radix + digit_value c) (cs ++ ys) else None)
+        ≡ digits_behind_number radix ys (if b then append_digits radix (n * radix + digit_value c) cs else None)
     go true rest = rest
     go false rest = refl
 
 units_and_parts : (unit n p : ℕ) (x : Option ℕ) → 0 < p
-    → parts_bytes unit p (option_map (λ f. n * p + f) x) ≡ option_map (λ q. n * unit + q) (parts_bytes unit p x)
+    → unit_fraction_bytes unit p (option_map (λ f. n * p + f) x) ≡ option_map (λ q. n * unit + q) (unit_fraction_bytes unit p x)
 units_and_parts unit n p None some = refl
 units_and_parts unit n p (Some f) some =
     let same : (n * p + f) * unit ≡ f * unit + n * unit * p = omega arith in
@@ -39,19 +39,19 @@ units_and_bytes unit None more = None
 units_and_bytes unit (Some n) more = option_map (λ q. n * unit + q) more
 
 pub pointed_is : (unit : ℕ) (whole fraction : List ℕ) → 0 < length fraction
-    → fractional_number unit whole fraction ≡ units_and_bytes unit (number_of_digits 10 whole) (parts_bytes unit (10 ^ length fraction) (number_after 10 0 fraction))
+    → fractional_number unit whole fraction ≡ units_and_bytes unit (number_of_digits 10 whole) (unit_fraction_bytes unit (10 ^ length fraction) (append_digits 10 0 fraction))
 pointed_is unit whole [] some = absurd (omega arith)
 pointed_is unit [] (d ∷ ds) some = refl
 pointed_is unit (c ∷ cs) (d ∷ ds) some =
-    ap (parts_bytes unit (10 ^ length (d ∷ ds))) (digits_appended 10 0 (c ∷ cs) (d ∷ ds)) ∙ go (number_after 10 0 (c ∷ cs))
+    ap (unit_fraction_bytes unit (10 ^ length (d ∷ ds))) (digits_appended 10 0 (c ∷ cs) (d ∷ ds)) ∙ go (append_digits 10 0 (c ∷ cs))
   where
-    go : (o : Option ℕ) → parts_bytes unit (10 ^ length (d ∷ ds)) (digits_behind_number 10 (d ∷ ds) o)
-        ≡ units_and_bytes unit o (parts_bytes unit (10 ^ length (d ∷ ds)) (number_after 10 0 (d ∷ ds)))
+    go : (o : Option ℕ) → unit_fraction_bytes unit (10 ^ length (d ∷ ds)) (digits_behind_number 10 (d ∷ ds) o)
+        ≡ units_and_bytes unit o (unit_fraction_bytes unit (10 ^ length (d ∷ ds)) (append_digits 10 0 (d ∷ ds)))
     go None = refl
-    go (Some n) = ap (parts_bytes unit (10 ^ length (d ∷ ds))) (digits_behind n (d ∷ ds))
-        ∙ units_and_parts unit n (10 ^ length (d ∷ ds)) (number_after 10 0 (d ∷ ds)) (power_some (length (d ∷ ds)))
+    go (Some n) = ap (unit_fraction_bytes unit (10 ^ length (d ∷ ds))) (digits_behind n (d ∷ ds))
+        ∙ units_and_parts unit n (10 ^ length (d ∷ ds)) (append_digits 10 0 (d ∷ ds)) (power_some (length (d ∷ ds)))
 
-pub within_some : (o : Option ℕ) (n : ℕ) → Some n ≡ fitting_number o → o ≡ Some n
+pub within_some : (o : Option ℕ) (n : ℕ) → Some n ≡ u32_or_none o → o ≡ Some n
 within_some None n is = cc
 within_some (Some m) n is = go (nat_lt m (2 ^ 32)) is
   where
@@ -60,25 +60,25 @@ within_some (Some m) n is = go (nat_lt m (2 ^ 32)) is
     go false e = cc
 
 -- where the units alone are too many, so are they with more
-none_with_more : (unit : ℕ) (o more : Option ℕ) → 0 < unit → None ≡ fitting_number o → None ≡ fitting_number (units_and_bytes unit o more)
+none_with_more : (unit : ℕ) (o more : Option ℕ) → 0 < unit → None ≡ u32_or_none o → None ≡ u32_or_none (units_and_bytes unit o more)
 none_with_more unit None more some is = refl
 none_with_more unit (Some n) None some is = refl
 none_with_more unit (Some n) (Some q) some is = go (nat_lt n (2 ^ 32)) refl is
   where
-    go : (b : Bool) → nat_lt n (2 ^ 32) ≡ b → None ≡ (if b then Some n else None) → None ≡ fitting_number (Some (n * unit + q))
+    go : (b : Bool) → nat_lt n (2 ^ 32) ≡ b → None ≡ (if b then Some n else None) → None ≡ u32_or_none (Some (n * unit + q))
     go true e h = cc
     go false e h = sym (large_within (n * unit + q) (omega (arith, ltb-false n (2 ^ 32) e, le-mul_of_pos_right {m = unit} n some)))
 
-pub none_of_units : (unit : ℕ) (whole fraction : List ℕ) → 0 < unit → 0 < length fraction → None ≡ fitting_number (number_of_digits 10 whole)
-    → None ≡ fitting_number (fractional_number unit whole fraction)
+pub none_of_units : (unit : ℕ) (whole fraction : List ℕ) → 0 < unit → 0 < length fraction → None ≡ u32_or_none (number_of_digits 10 whole)
+    → None ≡ u32_or_none (fractional_number unit whole fraction)
 none_of_units unit whole fraction some digit is =
-    none_with_more unit (number_of_digits 10 whole) (parts_bytes unit (10 ^ length fraction) (number_after 10 0 fraction)) some is
-    ∙ sym (ap fitting_number (pointed_is unit whole fraction digit))
+    none_with_more unit (number_of_digits 10 whole) (unit_fraction_bytes unit (10 ^ length fraction) (append_digits 10 0 fraction)) some is
+    ∙ sym (ap u32_or_none (pointed_is unit whole fraction digit))
 
-pub units_of_pointed : (unit : ℕ) (whole fraction : List ℕ) (n : ℕ) (more : Option ℕ) → 0 < length fraction → Some n ≡ fitting_number (number_of_digits 10 whole)
-    → more ≡ parts_bytes unit (10 ^ length fraction) (number_after 10 0 fraction)
-    → fitting_number (option_map (λ q. n * unit + q) more) ≡ fitting_number (fractional_number unit whole fraction)
+pub units_of_pointed : (unit : ℕ) (whole fraction : List ℕ) (n : ℕ) (more : Option ℕ) → 0 < length fraction → Some n ≡ u32_or_none (number_of_digits 10 whole)
+    → more ≡ unit_fraction_bytes unit (10 ^ length fraction) (append_digits 10 0 fraction)
+    → u32_or_none (option_map (λ q. n * unit + q) more) ≡ u32_or_none (fractional_number unit whole fraction)
 units_of_pointed unit whole fraction n more digit is parts =
-    ap fitting_number (ap (option_map (λ q. n * unit + q)) parts
-    ∙ (sym (ap (λ o. units_and_bytes unit o (parts_bytes unit (10 ^ length fraction) (number_after 10 0 fraction))) (within_some (number_of_digits 10 whole) n is))
+    ap u32_or_none (ap (option_map (λ q. n * unit + q)) parts
+    ∙ (sym (ap (λ o. units_and_bytes unit o (unit_fraction_bytes unit (10 ^ length fraction) (append_digits 10 0 fraction))) (within_some (number_of_digits 10 whole) n is))
     ∙ sym (pointed_is unit whole fraction digit)))

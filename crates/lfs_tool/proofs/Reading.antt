@@ -6,32 +6,32 @@ use Rattle.std.proofs.lemmas.List.{map-append, reverse-append, reverse-reverse}
 use Rattle.std.proofs.lemmas.List.Elements.{All-contains_itself, recursion_from_All}
 use Rattle.std.proofs.lemmas.List.Sorted.{All-permutation, IsPermutation-map}
 use Rattle.lfs_model.specs.format.Names.{Name}
-use Rattle.lfs_model.specs.layers.Source.{HaveBadOrRepeated, TreeSource, source_names, path_in_folder}
+use Rattle.lfs_model.specs.layers.Source.{HaveBadOrRepeatedNames, TreeSource, source_names, path_in_folder}
 use Rattle.lfs_model.proofs.Counts.{Each, each_append, each_left, each_right}
-use Rattle.lfs_tool.specs.SourceTrees.{IsUnchanged, listed_view}
+use Rattle.lfs_tool.specs.SourceTrees.{IsUnchangedIfKnown, listed_view}
 use Rattle.lfs_tool.specs.MemorySources.{optional_bytes_view}
-use Rattle.lfs_tool.specs.SourceEntries.{AreSourceEntries, AreRising, AreDepthFirst, AreSortedFolderNames, HasBadNames, HasSourceContents, IsSourceFolder, IsFolderReached, PathAndKind, listed_name, paths_in_folder}
+use Rattle.lfs_tool.specs.SourceEntries.{AreSourceEntries, AreAscendingComponents, AreDepthFirst, AreSortedFolderNames, HasBadNames, HasSourceContents, IsSourceFolder, IsFolderReached, PathAndKind, listed_name, paths_in_folder}
 use Rattle.lfs_tool.specs.declared.source.ListedName.{ListedName}
 use Rattle.lfs_tool.specs.declared.entries.SourceEntry.{SourceEntry}
 use Rattle.lfs_tool.proofs.Order.{names_given}
 
 -- ---- what a source shows stays
 
-pub rests_both : (a b c : Option TreeSource) → IsUnchanged a b → IsUnchanged b c → IsUnchanged a c
+pub rests_both : (a b c : Option TreeSource) → IsUnchangedIfKnown a b → IsUnchangedIfKnown b c → IsUnchangedIfKnown a c
 rests_both None b c x y = tt
 rests_both (Some t) None c x y = absurd x
 rests_both (Some t) (Some u) None x y = absurd y
 rests_both (Some t) (Some u) (Some v) x y = y ∙ x
 
-pub along : (P : TreeSource → Type 0) (a b : Option TreeSource) → IsUnchanged a b → IfSome b P → IfSome a P
+pub along : (P : TreeSource → Type 0) (a b : Option TreeSource) → IsUnchangedIfKnown a b → IfSome b P → IfSome a P
 along P None b x p = tt
 along P (Some t) None x p = absurd x
 along P (Some t) (Some u) x p = subst P x p
 
-pub within_along : (a b : Option TreeSource) (folder : List ℕ) (within : List (Name × Bool)) → IsUnchanged a b → AreSortedFolderNames b folder within → AreSortedFolderNames a folder within
+pub within_along : (a b : Option TreeSource) (folder : List ℕ) (within : List (Name × Bool)) → IsUnchangedIfKnown a b → AreSortedFolderNames b folder within → AreSortedFolderNames a folder within
 within_along a b folder within x h = record { order = h.order; names = along (λ s. IsPermutation (s.names folder) within) a b x h.names }
 
-pub holds_along : (a b : Option TreeSource) (path : List ℕ) (is_folder : Bool) (bytes : Option (List ℕ)) (within : List (Name × Bool)) → IsUnchanged a b → HasSourceContents b path is_folder bytes within
+pub holds_along : (a b : Option TreeSource) (path : List ℕ) (is_folder : Bool) (bytes : Option (List ℕ)) (within : List (Name × Bool)) → IsUnchangedIfKnown a b → HasSourceContents b path is_folder bytes within
     → HasSourceContents a path is_folder bytes within
 holds_along a b path false None within x h = absurd h
 holds_along a b path false (Some bytes) within x h = (along (λ s. bytes ≡ s.bytes path) a b x h.0, h.1)
@@ -40,9 +40,9 @@ holds_along a b path true (Some bytes) within x h = absurd h
 
 -- ---- names in a folder
 
-pub within_sorted : (known : Option TreeSource) (folder : List ℕ) (xs ys : List ListedName) → IfSome known (λ s. map listed_view xs ≡ s.names folder) → IsPermutation xs ys → AreRising (map listed_name ys)
+pub within_sorted : (known : Option TreeSource) (folder : List ℕ) (xs ys : List ListedName) → IfSome known (λ s. map listed_view xs ≡ s.names folder) → IsPermutation xs ys → AreAscendingComponents (map listed_name ys)
     → AreSortedFolderNames known folder (map listed_view ys)
-within_sorted known folder xs ys e p o = record { order = subst AreRising (sym (names_given ys)) o; names = go known e }
+within_sorted known folder xs ys e p o = record { order = subst AreAscendingComponents (sym (names_given ys)) o; names = go known e }
   where
     go : (known : Option TreeSource) → IfSome known (λ s. map listed_view xs ≡ s.names folder) → IfSome known (λ s. IsPermutation (s.names folder) (map listed_view ys))
     go None e = tt
@@ -125,13 +125,13 @@ folders_on (Some s) front p places bytes within h holds after =
 
 -- ---- faults
 
-pub bad_below : (known now : Option TreeSource) (front : List PathAndKind) (p : PathAndKind) → AreFolders known (front ++ p ∷ []) → IsUnchanged known now → p.1 ≡ true → IfSome now (λ s. HaveBadOrRepeated (source_names (s.names p.0)))
+pub bad_below : (known now : Option TreeSource) (front : List PathAndKind) (p : PathAndKind) → AreFolders known (front ++ p ∷ []) → IsUnchangedIfKnown known now → p.1 ≡ true → IfSome now (λ s. HaveBadOrRepeatedNames (source_names (s.names p.0)))
     → IfSome known HasBadNames
 bad_below None now front p h x is bad = tt
 bad_below (Some s) None front p h x is bad = absurd x
 bad_below (Some s) (Some t) front p h x is bad =
     let here = each_right (LeadsHere s) front (p ∷ []) h in
-    (p.0, (here.0 is, subst (λ u. HaveBadOrRepeated (source_names (u.names p.0))) x bad))
+    (p.0, (here.0 is, subst (λ u. HaveBadOrRepeatedNames (source_names (u.names p.0))) x bad))
 
 pub either : (P Q R S : Type 0) → (P → R) → (Q → S) → P ⊎ Q → R ⊎ S
 either P Q R S f g (inl p) = inl (f p)

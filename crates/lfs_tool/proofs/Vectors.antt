@@ -5,7 +5,7 @@ use Rattle.clap.specs.declared.error.ErrorKind.TheVariants as kind
 use Rattle.clap.proofs.OnLiterals.{clap_on_literals}
 use Rattle.lfs_tool.specs.Command.{mklittlefs}
 use Rattle.lfs_tool.specs.Matches.{faults, mode_count, rows}
-use Rattle.lfs_tool.specs.Numbers.{number_in_text, fitting_number}
+use Rattle.lfs_tool.specs.Numbers.{number_in_text, u32_or_none}
 use Rattle.lfs_tool.specs.Values.{is_option_auto, number_or, number_in_rows}
 
 abbrev create_line : List Text
@@ -63,8 +63,8 @@ unfolding number_in_text
 no_numbers = (refl, refl, refl, refl, refl, refl, refl, refl, refl, refl, refl, refl)
 
 -- the largest number in each form, and the next one
-largest : (fitting_number (number_in_text (codes "0xffffffff")) ≡ Some 4294967295) × (fitting_number (number_in_text (codes "0x100000000")) ≡ None)
-    × (fitting_number (number_in_text (codes "4095.5M")) ≡ Some 4294443008) × (fitting_number (number_in_text (codes "4096M")) ≡ None)
+largest : (u32_or_none (number_in_text (codes "0xffffffff")) ≡ Some 4294967295) × (u32_or_none (number_in_text (codes "0x100000000")) ≡ None)
+    × (u32_or_none (number_in_text (codes "4095.5M")) ≡ Some 4294443008) × (u32_or_none (number_in_text (codes "4096M")) ≡ None)
 unfolding number_in_text
 largest = (refl, refl, refl, refl)
 

@@ -2,16 +2,16 @@
 use Rattle.std.specs.Prelude.{ℕ, ◌-◌, ◌/◌, ◌%◌, ◌==◌, ◌++◌, if◌then◌else◌, Bool, true, false, List, [], Option, Some, None, codes}
 use Rattle.std.specs.Fmt.{decimal}
 use Rattle.lfs_model.specs.format.Disk.{default_profile}
-use Rattle.lfs_model.specs.format.Slots.{address_view}
+use Rattle.lfs_model.specs.format.Slots.{address_of_array}
 use Rattle.lfs_model.specs.declared.breaches.OtherLimit.{OtherLimit}
 use Rattle.lfs_model.specs.declared.breaches.OtherLimit.TheVariants as limit
 use Rattle.lfs_model.specs.declared.breaches.ProfileBreach.{ProfileBreach}
 use Rattle.lfs_model.specs.declared.breaches.ProfileBreach.TheVariants as breach
 use Rattle.lfs_tag.specs.declared.fields.Superblock.{Superblock}
-use Rattle.lfs_tool.specs.NumberTexts.{no_image_text, pair_text, wrong_number_text}
+use Rattle.lfs_tool.specs.NumberTexts.{no_image_text, pair_text, wrong_field_text}
 use Rattle.lfs_tool.specs.declared.verdict.CheckResult.{CheckResult}
 use Rattle.lfs_tool.specs.declared.verdict.CheckResult.TheVariants as checked
-use Rattle.lfs_tool.specs.declared.verdict.GivenSizes.{GivenSizes}
+use Rattle.lfs_tool.specs.declared.verdict.CheckedSizes.{CheckedSizes}
 use Rattle.lfs_tool.specs.declared.verdict.RefusalReason.{RefusalReason}
 use Rattle.lfs_tool.specs.declared.verdict.RefusalReason.TheVariants as reason
 use Rattle.lfs_tool.specs.declared.verdict.AcceptedOrders.{AcceptedOrders}
@@ -54,10 +54,10 @@ inline_limit_text (Some n) = codes "inline_max " ++ decimal n
 -- the rule of the writing profile that an image breaks
 abbrev pub breach_text : Option ℕ → ProfileBreach → List ℕ
 breach_text inline_max (breach.OtherLimits pair slot limit) =
-    pair_text (address_view pair) ++ codes ", slot " ++ decimal slot ++ codes ": a superblock with other limits than the options give, " ++ other_limit_text limit
+    pair_text (address_of_array pair) ++ codes ", slot " ++ decimal slot ++ codes ": a superblock with other limits than the options give, " ++ other_limit_text limit
 breach_text inline_max (breach.LongInline pair slot) =
-    pair_text (address_view pair) ++ codes ", slot " ++ decimal slot ++ codes ": more bytes inline than " ++ inline_limit_text inline_max
-breach_text inline_max (breach.EmptyPair pair) = pair_text (address_view pair) ++ codes ": no entry, but a directory goes on in it"
+    pair_text (address_of_array pair) ++ codes ", slot " ++ decimal slot ++ codes ": more bytes inline than " ++ inline_limit_text inline_max
+breach_text inline_max (breach.EmptyPair pair) = pair_text (address_of_array pair) ++ codes ": no entry, but a directory goes on in it"
 breach_text inline_max (breach.TooLarge pair) = codes "a pair or an entry is larger than this library writes"
 
 abbrev pub writable_text : Option ℕ → Option ProfileBreach → List ℕ
@@ -88,8 +88,8 @@ summary_text s orders = counts_text s ++ blocks_text s ++ order_line orders ++ s
 
 -- ---- why one isn't accepted
 
-abbrev pub reason_text : GivenSizes → RefusalReason → List ℕ
-reason_text given (reason.WrongNumber stated) = wrong_number_text given stated
+abbrev pub reason_text : CheckedSizes → RefusalReason → List ℕ
+reason_text given (reason.WrongNumber stated) = wrong_field_text given stated
 reason_text given reason.NoImage = no_image_text given
 reason_text given (reason.Broken rule) = rule.line.items
 

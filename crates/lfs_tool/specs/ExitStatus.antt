@@ -6,7 +6,7 @@ use Rattle.clap.specs.declared.error.ErrorKind.TheVariants as kind
 use Rattle.lfs_tool.specs.declared.line.LineError.TheVariants.{Modes, NotUtf8, Order, Parser}
 use Rattle.lfs_tool.specs.declared.line.LineError.TheVariants as line_error
 use Rattle.lfs_tool.specs.declared.limits.Limit.{Limit}
-use Rattle.lfs_tool.specs.Extras.{misuse_rule}
+use Rattle.lfs_tool.specs.RunOptions.{misuse_rule}
 use Rattle.lfs_tool.specs.Limits.{limit_rule}
 use Rattle.lfs_model.specs.layers.Listing.{newline}
 use Rattle.lfs_tool.specs.Errors.{error_line, error_line_of, error_status}

@@ -7,11 +7,11 @@ use Rattle.lfs_tool.specs.declared.errors.ToolError.{ToolError}
 use Rattle.lfs_tool.specs.declared.errors.ToolError.TheVariants.{Fs, Input, Output}
 
 -- known bytes grow by a beginning of these
-abbrev pub AppendsBeginning : Option (List ℕ) → Option (List ℕ) → List ℕ → Type 0
-AppendsBeginning old new bytes = (n : ℕ) × (n ≤ length bytes) × Appends old new (take n bytes)
+abbrev pub AppendsPrefix : Option (List ℕ) → Option (List ℕ) → List ℕ → Type 0
+AppendsPrefix old new bytes = (n : ℕ) × (n ≤ length bytes) × Appends old new (take n bytes)
 
 -- either the reader failed, or a growth was refused and the reader did not fail
-abbrev pub IsReaderError : ToolError → Bool → Type 0
-IsReaderError Input failed = failed ≡ true
-IsReaderError Output failed = ⊥
-IsReaderError (Fs e) failed = (e ≡ NoMemory) × (failed ≡ false)
+abbrev pub IsReadError : ToolError → Bool → Type 0
+IsReadError Input failed = failed ≡ true
+IsReadError Output failed = ⊥
+IsReadError (Fs e) failed = (e ≡ NoMemory) × (failed ≡ false)

@@ -1,4 +1,4 @@
-pub mod OwnLayouts
+pub mod SuperblockLayouts
 pub mod WrongNumbers
 pub mod ImageSummaries
 pub mod Verdict
@@ -6,7 +6,7 @@ pub mod RunEnds
 pub mod Streams
 pub mod Reports
 pub mod KnownBytes
-pub mod EitherOrder
+pub mod AcceptedViews
 pub mod Errors
 pub mod ExitStatus
 pub mod Listings
@@ -17,7 +17,7 @@ pub mod NumberTexts
 pub mod Boards
 pub mod Choices
 pub mod Command
-pub mod Extras
+pub mod RunOptions
 pub mod Limits
 pub mod Matches
 pub mod Numbers

@@ -1,8 +1,8 @@
 -- The limits that options set, and their rules.
 use Rattle.std.specs.Prelude.{◌/◌, ◌&&◌, if◌then◌else◌, nat_le, min, ℕ, List, Bool, true, Option, Some, None, codes}
-use Rattle.lfs_model.specs.format.Disk.{attribute_limit, size_limit}
+use Rattle.lfs_model.specs.format.Disk.{attribute_limit, file_size_limit}
 use Rattle.lfs_model.specs.format.Names.{name_limit}
-use Rattle.lfs_model.specs.format.Tag.{data_limit}
+use Rattle.lfs_model.specs.format.Tag.{tag_data_limit}
 use Rattle.clap.specs.Words.{Row}
 use Rattle.lfs_tool.specs.Values.{number_in_rows}
 use Rattle.lfs_tool.specs.declared.limits.Limit.{Limit}
@@ -17,9 +17,9 @@ is_limit_within most (Some n) = nat_le 1 n && nat_le n most
 abbrev pub first_broken_limit : ℕ → List Row → Option Limit
 first_broken_limit block_size rows =
     if is_limit_within name_limit (number_in_rows (codes "name-max") rows) then
-    (if is_limit_within size_limit (number_in_rows (codes "file-max") rows) then
+    (if is_limit_within file_size_limit (number_in_rows (codes "file-max") rows) then
     (if is_limit_within attribute_limit (number_in_rows (codes "attr-max") rows) then
-    (if is_limit_within (min (block_size / 8) data_limit) (number_in_rows (codes "inline-max") rows) then None
+    (if is_limit_within (min (block_size / 8) tag_data_limit) (number_in_rows (codes "inline-max") rows) then None
     else Some limit.Inline) else Some limit.Attr) else Some limit.File) else Some limit.Name
 
 -- the text of the limit's rule

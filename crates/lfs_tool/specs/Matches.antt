@@ -12,7 +12,7 @@ use Rattle.lfs_model.specs.declared.order.NameOrder.{NameOrder}
 use Rattle.lfs_model.specs.declared.order.NameOrder.TheVariants.{LongerFirst, ShorterFirst}
 use Rattle.lfs_tool.specs.Boards.{board_block_size, board_named, board_profile}
 use Rattle.lfs_tool.specs.Command.{mklittlefs}
-use Rattle.lfs_tool.specs.Extras.{AreExtrasOf, misused_option}
+use Rattle.lfs_tool.specs.RunOptions.{AreRunOptionsOf, first_option_misuse}
 use Rattle.lfs_tool.specs.Limits.{first_broken_limit}
 use Rattle.lfs_tool.specs.Values.{flag_in_rows, is_option_auto, number_errors, number_or}
 use Rattle.lfs_tool.specs.declared.board.Board.{Board}
@@ -49,8 +49,8 @@ abbrev pub asks_explanation : List Row → Bool
 asks_explanation rows = flag_in_rows (codes "explain") rows
 
 -- whether each of -c, -u, -l and --check is given
-abbrev pub folder_flags : List Row → List Bool
-folder_flags rows = is_some (first_of (codes "create") rows)
+abbrev pub folder_mode_flags : List Row → List Bool
+folder_mode_flags rows = is_some (first_of (codes "create") rows)
     ∷ is_some (first_of (codes "unpack") rows) ∷ asks_list rows ∷ asks_check rows ∷ []
 
 -- the two texts of a list of two
@@ -63,20 +63,20 @@ abbrev pub given_two_texts : Text → List Row → Option (Text × Text)
 given_two_texts id rows = exactly_two_texts (all_of id rows)
 
 -- whether each of --cat, --put, --remove and --mkdir is given
-abbrev pub path_flags : List Row → List Bool
-path_flags rows = is_some (first_of (codes "cat") rows)
+abbrev pub path_mode_flags : List Row → List Bool
+path_mode_flags rows = is_some (first_of (codes "cat") rows)
     ∷ is_some (given_two_texts (codes "put") rows) ∷ is_some (first_of (codes "remove") rows) ∷ is_some (first_of (codes "mkdir") rows) ∷ []
 
 -- how many of these are given
-abbrev pub given_count : List Bool → ℕ
-given_count flags = count_by (λ b. b) flags
+abbrev pub true_flag_count : List Bool → ℕ
+true_flag_count flags = count_by (λ b. b) flags
 
 -- how many modes are given
 abbrev pub mode_count : List Row → ℕ
-mode_count rows = given_count (folder_flags rows) + given_count (path_flags rows)
+mode_count rows = true_flag_count (folder_mode_flags rows) + true_flag_count (path_mode_flags rows)
 
-abbrev pub OneMode : List Row → Type 0
-OneMode rows = mode_count rows ≡ 1
+abbrev pub HasOneMode : List Row → Type 0
+HasOneMode rows = mode_count rows ≡ 1
 
 -- the mode is the one that is given
 abbrev pub IsModeOf : List Row → Mode → Type 0
@@ -91,9 +91,9 @@ IsModeOf rows (mode.Mkdir path) = first_of (codes "mkdir") rows ≡ Some path.no
 
 -- whether none, one or several of the modes with these flags are given
 abbrev pub AreGivenModes : List Bool → List Row → GivenModes → Type 0
-AreGivenModes flags rows given.None = given_count flags ≡ 0
-AreGivenModes flags rows (given.One mode) = (given_count flags ≡ 1) × IsModeOf rows mode
-AreGivenModes flags rows given.Several = 2 ≤ given_count flags
+AreGivenModes flags rows given.None = true_flag_count flags ≡ 0
+AreGivenModes flags rows (given.One mode) = (true_flag_count flags ≡ 1) × IsModeOf rows mode
+AreGivenModes flags rows given.Several = 2 ≤ true_flag_count flags
 
 -- the order of names with this name
 abbrev pub order_named : Text → Option NameOrder
@@ -119,15 +119,15 @@ abbrev pub board_in_rows : List Row → Option Board
 board_in_rows rows = board_if_present (first_of (codes "board") rows)
 
 -- the board that is given is one of the four
-abbrev pub KnownBoard : List Row → Type 0
-KnownBoard rows = is_some (board_in_rows rows) ≡ true
+abbrev pub HasKnownBoard : List Row → Type 0
+HasKnownBoard rows = is_some (board_in_rows rows) ≡ true
 
-abbrev pub board_or_none : List Row → Board
-board_or_none rows = unwrap_or (board_in_rows rows) Unnamed
+abbrev pub board_or_default : List Row → Board
+board_or_default rows = unwrap_or (board_in_rows rows) Unnamed
 
 -- the size of a block that is given, or the board's
 abbrev pub given_block_size : List Row → ℕ
-given_block_size rows = number_or (board_block_size (board_or_none rows)) (codes "block") rows
+given_block_size rows = number_or (board_block_size (board_or_default rows)) (codes "block") rows
 
 -- the accepted versions: 2.0 and 2.1 if `--also-2.1` is given
 abbrev pub versions_given_or : AcceptedVersions → List Row → AcceptedVersions
@@ -146,7 +146,7 @@ profile_given_or other rows = record other {
 
 -- the profile: the board's, with the limits and versions that are given
 abbrev pub given_profile : List Row → Profile
-given_profile rows = profile_given_or (board_profile (board_or_none rows)) rows
+given_profile rows = profile_given_or (board_profile (board_or_default rows)) rows
 
 -- the first limit that breaks its rule
 abbrev pub broken_limit : List Row → Option Limit
@@ -158,9 +158,9 @@ has_auto_blocks rows = is_option_auto (codes "block") rows || flag_in_rows (code
 
 -- each part of the line is the value in the words, or its default
 pub record IsLineOf (rows : List Row) (line : Line) : Type 0 where
-  pub one_mode : OneMode rows
+  pub one_mode : HasOneMode rows
   pub mode : IsModeOf rows line.mode
-  pub known_board : KnownBoard rows
+  pub known_board : HasKnownBoard rows
   pub block_size : given_block_size rows ≡ line.block_size
   pub is_auto : has_auto_blocks rows ≡ line.is_auto
   pub has_own_limits : flag_in_rows (codes "auto") rows ≡ line.has_own_limits
@@ -174,33 +174,33 @@ pub record IsLineOf (rows : List Row) (line : Line) : Type 0 where
   pub image : first_of (codes "image") rows ≡ Some line.image.now
 
 -- an option for a part of a file is given, so the rest of the file might not be kept
-abbrev pub gives_part : Line → Bool
-gives_part line = not (nat_eq line.offset 0) || (line.is_auto && not line.has_own_limits)
+abbrev pub has_image_range : Line → Bool
+has_image_range line = not (nat_eq line.offset 0) || (line.is_auto && not line.has_own_limits)
 
-abbrev pub makes_part_with : Mode → Bool → Bool
-makes_part_with (mode.Create dir) part = part
-makes_part_with (mode.Put file path) part = part
-makes_part_with (mode.Remove path) part = part
-makes_part_with (mode.Mkdir path) part = part
-makes_part_with other part = false
+abbrev pub is_range_misused : Mode → Bool → Bool
+is_range_misused (mode.Create dir) part = part
+is_range_misused (mode.Put file path) part = part
+is_range_misused (mode.Remove path) part = part
+is_range_misused (mode.Mkdir path) part = part
+is_range_misused other part = false
 
 -- the line's mode writes an image, and an option for a part of a file is given
-abbrev pub makes_part : Line → Bool
-makes_part line = makes_part_with line.mode (gives_part line)
+abbrev pub has_misused_range : Line → Bool
+has_misused_range line = is_range_misused line.mode (has_image_range line)
 
 -- the line, and its requests besides the image
 pub record IsRequestOf (rows : List Row) (request : Request) : Type 0 where
   pub line : IsLineOf rows request.line
-  pub extras : AreExtrasOf rows request.extras
-  pub whole : makes_part request.line ≡ false
+  pub extras : AreRunOptionsOf rows request.extras
+  pub whole : has_misused_range request.line ≡ false
 
 -- the image is given
 abbrev pub HasImage : Found → Type 0
 HasImage f = is_some (first_value f (codes "image")) ≡ true
 
 -- the parser accepts the words, which name one mode, and a known order and board
-abbrev pub NamesKnownModes : List Text → Type 0
-NamesKnownModes words = ParserAccepts words × OneMode (rows words) × HasValidOrder (rows words) × KnownBoard (rows words)
+abbrev pub HasValidModeChoices : List Text → Type 0
+HasValidModeChoices words = ParserAccepts words × HasOneMode (rows words) × HasValidOrder (rows words) × HasKnownBoard (rows words)
 
 -- The reason why there is no line: the parser refuses the words; or it accepts them, and not exactly one mode is given; or the
 -- order is neither of the two; or the board is none of the four; or a limit breaks its rule, and none before it does; or an
@@ -208,10 +208,10 @@ NamesKnownModes words = ParserAccepts words × OneMode (rows words) × HasValidO
 -- UTF-8.
 abbrev pub IsLineError : List Text → LineError → Type 0
 IsLineError words (Parser e) = HasKind (faults words) e
-IsLineError words Modes = ParserAccepts words × ¬ OneMode (rows words)
-IsLineError words Order = ParserAccepts words × OneMode (rows words) × ¬ HasValidOrder (rows words)
-IsLineError words error.Board = ParserAccepts words × OneMode (rows words) × HasValidOrder (rows words) × ¬ KnownBoard (rows words)
-IsLineError words (error.Limit limit) = NamesKnownModes words × (broken_limit (rows words) ≡ Some limit)
-IsLineError words (error.Misuse misuse) = NamesKnownModes words × (broken_limit (rows words) ≡ None) × (misused_option (rows words) ≡ Some misuse)
-IsLineError words error.Part = ParserAccepts words × ((line : Line) × (IsLineOf (rows words) line × (makes_part line ≡ true)))
+IsLineError words Modes = ParserAccepts words × ¬ HasOneMode (rows words)
+IsLineError words Order = ParserAccepts words × HasOneMode (rows words) × ¬ HasValidOrder (rows words)
+IsLineError words error.Board = ParserAccepts words × HasOneMode (rows words) × HasValidOrder (rows words) × ¬ HasKnownBoard (rows words)
+IsLineError words (error.Limit limit) = HasValidModeChoices words × (broken_limit (rows words) ≡ Some limit)
+IsLineError words (error.Misuse misuse) = HasValidModeChoices words × (broken_limit (rows words) ≡ None) × (first_option_misuse (rows words) ≡ Some misuse)
+IsLineError words error.Part = ParserAccepts words × ((line : Line) × (IsLineOf (rows words) line × (has_misused_range line ≡ true)))
 IsLineError words NotUtf8 = ⊥

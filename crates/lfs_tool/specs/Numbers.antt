@@ -3,19 +3,19 @@ use Rattle.std.specs.Prelude.{◌+◌, ◌-◌, ◌*◌, ◌/◌, ◌%◌, ◌^�
 use Rattle.std.specs.Char.{digit_value}
 
 -- the number, if it has 32 bits
-abbrev pub fitting_number : Option ℕ → Option ℕ
-fitting_number None = None
-fitting_number (Some n) = if nat_lt n (2 ^ 32) then Some n else None
+abbrev pub u32_or_none : Option ℕ → Option ℕ
+u32_or_none None = None
+u32_or_none (Some n) = if nat_lt n (2 ^ 32) then Some n else None
 
 -- the number of these digits, behind those of n
-abbrev pub number_after : ℕ → ℕ → List ℕ → Option ℕ
-number_after radix n [] = Some n
-number_after radix n (c ∷ cs) = if nat_lt (digit_value c) radix then number_after radix (n * radix + digit_value c) cs else None
+abbrev pub append_digits : ℕ → ℕ → List ℕ → Option ℕ
+append_digits radix n [] = Some n
+append_digits radix n (c ∷ cs) = if nat_lt (digit_value c) radix then append_digits radix (n * radix + digit_value c) cs else None
 
 -- the number of one or more digits
 abbrev pub number_of_digits : ℕ → List ℕ → Option ℕ
 number_of_digits radix [] = None
-number_of_digits radix (c ∷ cs) = number_after radix 0 (c ∷ cs)
+number_of_digits radix (c ∷ cs) = append_digits radix 0 (c ∷ cs)
 
 -- the number with a minus before it: only 0 may have one
 abbrev pub zero_or_none : Option ℕ → Option ℕ
@@ -36,15 +36,15 @@ bytes_of_unit letter =
     else (if letter == 109 || letter == 77 then Some 1048576 else None)
 
 -- the bytes of n parts, of which a unit has `parts`, if they are a whole number of bytes
-abbrev pub parts_bytes : ℕ → ℕ → Option ℕ → Option ℕ
-parts_bytes unit parts None = None
-parts_bytes unit parts (Some n) = if (n * unit) % parts == 0 then Some (n * unit / parts) else None
+abbrev pub unit_fraction_bytes : ℕ → ℕ → Option ℕ → Option ℕ
+unit_fraction_bytes unit parts None = None
+unit_fraction_bytes unit parts (Some n) = if (n * unit) % parts == 0 then Some (n * unit / parts) else None
 
 -- the number of the digits before and behind a point: 1.25 of a unit is 125 of its hundred parts
 abbrev pub fractional_number : ℕ → List ℕ → List ℕ → Option ℕ
 fractional_number unit [] fraction = None
 fractional_number unit (c ∷ cs) [] = None
-fractional_number unit (c ∷ cs) (d ∷ ds) = parts_bytes unit (10 ^ length (d ∷ ds)) (number_of_digits 10 ((c ∷ cs) ++ (d ∷ ds)))
+fractional_number unit (c ∷ cs) (d ∷ ds) = unit_fraction_bytes unit (10 ^ length (d ∷ ds)) (number_of_digits 10 ((c ∷ cs) ++ (d ∷ ds)))
 
 -- the number of the text before a unit's letter, whose first point is at this index
 abbrev pub number_by_point : ℕ → List ℕ → Option ℕ → Option ℕ

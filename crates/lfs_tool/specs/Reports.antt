@@ -7,8 +7,8 @@ use Rattle.lfs_tool.specs.declared.stream.Stream.{Stream}
 use Rattle.lfs_tool.specs.Streams.{has_failed, has_shown}
 
 -- This error comes exactly if a call failed, of one that hadn't failed before: it has failed then, and else as before.
-abbrev pub ReportsFault : {X E : Type 0} → E → Bool → Bool → Result X E → Type 0
-ReportsFault e old new r = (IsErrOf r e → new ≡ true) × (¬ IsErrOf r e → new ≡ old)
+abbrev pub ReportsNewFault : {X E : Type 0} → E → Bool → Bool → Result X E → Type 0
+ReportsNewFault e old new r = (IsErrOf r e → new ≡ true) × (¬ IsErrOf r e → new ≡ old)
 
 -- `Output` comes exactly if the writer failed. After any other error the writer is as it was.
 abbrev pub ReportsWriterFaults : {W X : Type 0} → Stream W → Stream W → Result X ToolError → Type 0
@@ -17,8 +17,8 @@ ReportsWriterFaults old new (Err Output) = has_failed new ≡ true
 ReportsWriterFaults old new (Err e) = new ≡ old
 
 -- unless it failed, it has shown a value
-abbrev pub HasShown : {W : Type 0} → Stream W → Type 0
-HasShown new = has_failed new ≡ false → has_shown new ≡ true
+abbrev pub HasShownUnlessFailed : {W : Type 0} → Stream W → Type 0
+HasShownUnlessFailed new = has_failed new ≡ false → has_shown new ≡ true
 
 -- known bytes were read to their end, or more of them than an image may have
 abbrev pub IsReadToEnd : Option (List ℕ) → Option (List ℕ) → Type 0

@@ -3,8 +3,8 @@ use Rattle.std.specs.Prelude.{ℕ, ◌≡◌, true, false, List, Option, None, I
 use Rattle.std.specs.Io.KnownBytes.{Appends}
 use Rattle.lfs_tool.specs.ExitStatus.{failure_line, is_help_request, failure_status}
 use Rattle.lfs_tool.specs.declared.errors.Fault.{Fault}
-use Rattle.lfs_tool.specs.KnownBytes.{AppendsBeginning}
-use Rattle.lfs_tool.specs.Reports.{HasShown}
+use Rattle.lfs_tool.specs.KnownBytes.{AppendsPrefix}
+use Rattle.lfs_tool.specs.Reports.{HasShownUnlessFailed}
 use Rattle.lfs_tool.specs.Streams.{has_failed, stream_inner}
 use Rattle.lfs_tool.specs.declared.stream.Stream.{Stream}
 
@@ -13,6 +13,6 @@ use Rattle.lfs_tool.specs.declared.stream.Stream.{Stream}
 pub record IsFailureReported {W : Type 0} (contents : W → Option (List ℕ)) (f : Fault) (code : ℕ) (old new : Stream W) : Type 0 where
   pub status : code ≡ failure_status f
   pub line : has_failed new ≡ false → IfSome (failure_line f) (Appends (contents (stream_inner old)) (contents (stream_inner new)))
-  pub beginning : IfSome (failure_line f) (AppendsBeginning (contents (stream_inner old)) (contents (stream_inner new)))
-  pub text : failure_line f ≡ None → is_help_request f ≡ false → HasShown new
+  pub beginning : IfSome (failure_line f) (AppendsPrefix (contents (stream_inner old)) (contents (stream_inner new)))
+  pub text : failure_line f ≡ None → is_help_request f ≡ false → HasShownUnlessFailed new
   pub help : is_help_request f ≡ true → new ≡ old

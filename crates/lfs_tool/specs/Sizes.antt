@@ -1,7 +1,7 @@
 -- The rules for the sizes of an image, and the lines of broken ones.
 use Rattle.std.specs.Prelude.{◌≡◌, ◌<◌, ◌≢◌, ◌⊎◌, ◌*◌, ◌/◌, ◌%◌, ◌++◌, ℕ, [], List, false, codes}
 use Rattle.std.specs.Fmt.{decimal}
-use Rattle.lfs_model.specs.format.Geometry.{IsValidGeometry, is_page}
+use Rattle.lfs_model.specs.format.Geometry.{IsValidGeometry, is_valid_page_size}
 use Rattle.lfs_model.specs.layers.Listing.{newline}
 use Rattle.lfs_tool.specs.declared.sizes.Sizes.{Sizes}
 use Rattle.lfs_tool.specs.declared.sizes.SizeRule.{SizeRule}
@@ -9,7 +9,7 @@ use Rattle.lfs_tool.specs.declared.sizes.SizeRule.TheVariants as rule
 
 -- the sizes break the rule
 abbrev pub BreaksSizeRule : Sizes → SizeRule → Type 0
-BreaksSizeRule s rule.PageSize = is_page s.page ≡ false
+BreaksSizeRule s rule.PageSize = is_valid_page_size s.page ≡ false
 BreaksSizeRule s rule.BlockSize = (s.block_size < 1024) ⊎ (65536 < s.block_size)
 BreaksSizeRule s rule.EightPages = s.block_size < 8 * s.page
 BreaksSizeRule s rule.WholePages = s.block_size % s.page ≢ 0
@@ -32,12 +32,12 @@ abbrev pub BreaksNoneBefore : Sizes → ℕ → Type 0
 BreaksNoneBefore s place = (rule : SizeRule) → rule_index rule < place → ¬ BreaksSizeRule s rule
 
 -- the sizes break the rule, and none before it
-abbrev pub IsFirstBroken : Sizes → SizeRule → Type 0
-IsFirstBroken s rule = BreaksSizeRule s rule × BreaksNoneBefore s (rule_index rule)
+abbrev pub IsFirstBrokenRule : Sizes → SizeRule → Type 0
+IsFirstBrokenRule s rule = BreaksSizeRule s rule × BreaksNoneBefore s (rule_index rule)
 
 -- there are images of these sizes
-abbrev pub AreImageSizes : Sizes → Type 0
-AreImageSizes s = (s.size % s.block_size ≡ 0) × IsValidGeometry s.block_size s.page (s.size / s.block_size)
+abbrev pub AreValidImageSizes : Sizes → Type 0
+AreValidImageSizes s = (s.size % s.block_size ≡ 0) × IsValidGeometry s.block_size s.page (s.size / s.block_size)
 
 abbrev pub number_text : List ℕ → ℕ → List ℕ
 number_text before n = before ++ decimal n

@@ -4,12 +4,12 @@ use Rattle.std.specs.List.Sorted.{IsPermutation}
 use Rattle.std.specs.declared.cmp.Ordering.TheVariants.{Less}
 use Rattle.lfs_model.specs.declared.order.NameOrder.TheVariants.{ShorterFirst}
 use Rattle.lfs_model.specs.format.Names.{Name, name_cmp, is_component, is_less}
-use Rattle.lfs_model.specs.layers.Source.{HaveBadOrRepeated, TreeSource, source_names, path_in_folder}
+use Rattle.lfs_model.specs.layers.Source.{HaveBadOrRepeatedNames, TreeSource, source_names, path_in_folder}
 use Rattle.lfs_tool.specs.SourceTrees.{is_folder}
 use Rattle.lfs_tool.specs.MemorySources.{optional_bytes_view}
 use Rattle.lfs_tool.specs.declared.source.ListedName.{ListedName}
 use Rattle.lfs_tool.specs.declared.entries.SourceEntry.{SourceEntry}
-use Rattle.lfs_tool.specs.declared.entries.WaitingEntry.{WaitingEntry}
+use Rattle.lfs_tool.specs.declared.entries.PendingEntry.{PendingEntry}
 
 -- ---- names
 
@@ -20,18 +20,18 @@ abbrev pub is_listed_before : ListedName → ListedName → Bool
 is_listed_before a b = is_less (name_cmp ShorterFirst a.name.items b.name.items)
 
 -- each is a component, and greater than the one before it
-abbrev pub rise_after : Name → List Name → Bool
-rise_after last [] = true
-rise_after last (n ∷ ns) = is_component n && is_less (name_cmp ShorterFirst last n) && rise_after n ns
+abbrev pub are_ascending_after : Name → List Name → Bool
+are_ascending_after last [] = true
+are_ascending_after last (n ∷ ns) = is_component n && is_less (name_cmp ShorterFirst last n) && are_ascending_after n ns
 
 -- components of paths, each greater than those before it
-pub record AreRising (names : List Name) : Type 0 where
+pub record AreAscendingComponents (names : List Name) : Type 0 where
   pub components : All (λ n. is_component n ≡ true) names
   pub rise : AllPairs (λ a b. name_cmp ShorterFirst a b ≡ Less) names
 
 -- These names, each with whether it is a folder's, are in order. They are all names in a folder of the source's known tree.
 pub record AreSortedFolderNames (known : Option TreeSource) (folder : List ℕ) (given : List (Name × Bool)) : Type 0 where
-  pub order : AreRising (source_names given)
+  pub order : AreAscendingComponents (source_names given)
   pub names : IfSome known (λ s. IsPermutation (s.names folder) given)
 
 -- ---- entries
@@ -40,8 +40,8 @@ pub record AreSortedFolderNames (known : Option TreeSource) (folder : List ℕ) 
 abbrev pub PathAndKind : Type 0
 PathAndKind = List ℕ × Bool
 
-abbrev pub waiting_view : WaitingEntry → PathAndKind
-waiting_view w = (w.path.items, is_folder w.kind)
+abbrev pub pending_entry_view : PendingEntry → PathAndKind
+pending_entry_view w = (w.path.items, is_folder w.kind)
 
 abbrev pub paths_in_folder : List ℕ → List (Name × Bool) → List PathAndKind
 paths_in_folder folder given = map (λ g. (path_in_folder folder g.0, g.1)) given
@@ -82,4 +82,4 @@ IsSourceFolder s folder = (names : List Name) × IsFolderReached s [] names fold
 
 -- a folder in the source has names that aren't allowed in one
 abbrev pub HasBadNames : TreeSource → Type 0
-HasBadNames s = (folder : List ℕ) × (IsSourceFolder s folder × HaveBadOrRepeated (source_names (s.names folder)))
+HasBadNames s = (folder : List ℕ) × (IsSourceFolder s folder × HaveBadOrRepeatedNames (source_names (s.names folder)))

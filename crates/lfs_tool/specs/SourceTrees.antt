@@ -6,10 +6,10 @@ use Rattle.lfs_tool.specs.declared.source.SourceKind.TheVariants.{File, Folder}
 use Rattle.lfs_tool.specs.declared.source.ListedName.{ListedName}
 
 -- a tree that is known is unchanged
-abbrev pub IsUnchanged : {X : Type 0} → Option X → Option X → Type 0
-IsUnchanged None new = Unit {0}
-IsUnchanged (Some x) None = ⊥
-IsUnchanged (Some x) (Some y) = y ≡ x
+abbrev pub IsUnchangedIfKnown : {X : Type 0} → Option X → Option X → Type 0
+IsUnchangedIfKnown None new = Unit {0}
+IsUnchangedIfKnown (Some x) None = ⊥
+IsUnchangedIfKnown (Some x) (Some y) = y ≡ x
 
 abbrev pub is_folder : SourceKind → Bool
 is_folder File = false

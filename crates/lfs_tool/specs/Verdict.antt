@@ -1,6 +1,6 @@
 -- The meaning of a verdict on a disk.
 use Rattle.std.specs.Prelude.{ℕ, ◌≡◌, false, List}
-use Rattle.lfs_model.specs.format.Disk.{ordered_disk, Disk}
+use Rattle.lfs_model.specs.format.Disk.{disk_with_order, Disk}
 use Rattle.lfs_model.specs.format.Thread.{Pair, count_before_root}
 use Rattle.lfs_model.specs.layers.BlockSets.{AreUsed}
 use Rattle.lfs_model.specs.tree.Shown.{used_blocks}
@@ -20,28 +20,28 @@ use Rattle.lfs_tool.specs.declared.verdict.ImageVerdict.TheVariants as verdict
 pub record IsSummarized (disk : Disk) (summary : ImageSummary) (orders : AcceptedOrders) : Type 0 where
   pub order : NameOrder
   pub pairs : List Pair
-  pub accepted : IsAccepted (ordered_disk order disk) pairs
-  pub has : HasSummary (ordered_disk order disk) pairs summary
+  pub accepted : IsAccepted (disk_with_order order disk) pairs
+  pub has : HasSummary (disk_with_order order disk) pairs summary
   pub fits : HasAcceptedOrders disk orders
 
 -- The thread of an image that is accepted in the orders of names `orders`, of which `order` is one. Its root begins at the pair
 -- of index `root`.
 pub record IsAcceptedThread (t : ThreadView) (root : ℕ) (order : NameOrder) (orders : AcceptedOrders) : Type 0 where
   pub works : t.failed ≡ false
-  pub accepted : IsAccepted (ordered_disk order t.kept.disk) t.kept.pairs
+  pub accepted : IsAccepted (disk_with_order order t.kept.disk) t.kept.pairs
   pub used : AreUsed t.kept.map (used_blocks t.kept.disk t.kept.pairs)
   pub root_is : root ≡ count_before_root t.kept.pairs
-  pub fits : HasAcceptedOrders (ordered_disk LongerFirst t.kept.disk) orders
+  pub fits : HasAcceptedOrders (disk_with_order LongerFirst t.kept.disk) orders
 
 -- it is accepted in neither order of names
-abbrev pub IsAcceptedInNeither : Disk → Type 0
-IsAcceptedInNeither disk = (order : NameOrder) (ps : List Pair) → ¬ IsAccepted (ordered_disk order disk) ps
+abbrev pub IsRejectedDisk : Disk → Type 0
+IsRejectedDisk disk = (order : NameOrder) (ps : List Pair) → ¬ IsAccepted (disk_with_order order disk) ps
 
 -- it breaks the rule in one of them
 abbrev pub BreaksInSomeOrder : Disk → Violation → Type 0
-BreaksInSomeOrder disk violation = (order : NameOrder) × Breaks (ordered_disk order disk) violation
+BreaksInSomeOrder disk violation = (order : NameOrder) × Breaks (disk_with_order order disk) violation
 
 -- accepted, with its summary; or refused, with a rule that it breaks
 abbrev pub IsDiskVerdict : Disk → ImageVerdict → Type 0
 IsDiskVerdict disk (verdict.Accepted summary orders) = IsSummarized disk summary orders
-IsDiskVerdict disk (verdict.Refused rule) = IsAcceptedInNeither disk × BreaksInSomeOrder disk rule.violation
+IsDiskVerdict disk (verdict.Refused rule) = IsRejectedDisk disk × BreaksInSomeOrder disk rule.violation

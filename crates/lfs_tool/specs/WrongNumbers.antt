@@ -3,7 +3,7 @@ use Rattle.std.specs.Prelude.{false, true, ℕ, ◌≡◌, ◌≢◌, ◌⊎◌,
 use Rattle.byteorder.specs.Endian.{big_bytes}
 use Rattle.lfs_model.specs.declared.limits.AcceptedVersions.{AcceptedVersions}
 use Rattle.lfs_model.specs.tree.View.{accepts_version, superblock_entry}
-use Rattle.lfs_model.specs.format.EntryTypes.{SuperblockFields, inline_type, superblock_fields}
+use Rattle.lfs_model.specs.format.EntryTypes.{SuperblockFields, inline_struct_type, superblock_fields}
 use Rattle.lfs_model.specs.format.Tag.{make_tag}
 use Rattle.lfs_tag.specs.FieldsView.{superblock_view}
 use Rattle.lfs_tag.specs.declared.fields.Superblock.{Superblock}
@@ -24,7 +24,7 @@ pub record AreFieldsRight (block_size count : ℕ) (versions : AcceptedVersions)
 
 -- the tag of a superblock's struct: an inline struct of 24 bytes, for slot 0
 abbrev pub superblock_struct_tag : ℕ
-superblock_struct_tag = make_tag inline_type 0 24
+superblock_struct_tag = make_tag inline_struct_type 0 24
 
 -- the stored bytes of the superblock's name, as the first entry of a log, and of the tag of its struct behind it
 abbrev pub superblock_name_entry : List ℕ
@@ -41,7 +41,7 @@ abbrev pub IsFirstSuperblock : List ℕ → Superblock → Type 0
 IsFirstSuperblock bytes s = (from : ℕ) × (((from ≡ 0) ⊎ (from ≡ s.block_size)) × IsSuperblockAt bytes from (superblock_view s))
 
 -- a number in the superblock of block 0 or 1 is wrong for these bytes, with blocks of that size
-pub record IsSuperblockWrong (bytes : List ℕ) (block_size : ℕ) (versions : AcceptedVersions) (stated : WrongNumber) : Type 0 where
+pub record HasWrongSuperblockField (bytes : List ℕ) (block_size : ℕ) (versions : AcceptedVersions) (stated : WrongNumber) : Type 0 where
   pub sized : 0 < block_size
   pub from : ℕ
   pub block : (from ≡ 0) ⊎ (from ≡ block_size)
@@ -51,4 +51,4 @@ pub record IsSuperblockWrong (bytes : List ℕ) (block_size : ℕ) (versions : A
 
 -- no number in the superblock of block 0 or 1 is wrong
 abbrev pub SuperblocksAreRight : List ℕ → ℕ → AcceptedVersions → Type 0
-SuperblocksAreRight bytes block_size versions = (stated : WrongNumber) → ¬ IsSuperblockWrong bytes block_size versions stated
+SuperblocksAreRight bytes block_size versions = (stated : WrongNumber) → ¬ HasWrongSuperblockField bytes block_size versions stated

@@ -3,8 +3,8 @@
 ghost use Rattle.std.specs.Prelude.{◌≡◌, ◌++◌, IfOk, OnOk};
 ghost use Rattle.lfs_tool.specs.CheckedLines.{blocks_text, result_text, counts_text, limit_line, order_line, other_limit_text, breach_text, recover_line, reason_text, summary_text, superblock_lines, version_line, writable_line, writable_text, yes_no_text};
 
-use crate::number_text::{NoImageText, PairText, WrongNumberText};
-use crate::verdict::{AcceptedOrders, CheckResult, GivenSizes, ImageSummary, RefusalReason};
+use crate::number_text::{NoImageText, PairText, WrongFieldText};
+use crate::verdict::{AcceptedOrders, CheckResult, CheckedSizes, ImageSummary, RefusalReason};
 use lfs_device::Profile;
 use lfs_model::{OtherLimit, ProfileBreach};
 use lfs_tag::Superblock;
@@ -183,7 +183,7 @@ fn push_summary(
 
 fn push_refusal_reason(
     text: &mut Vec<u8>,
-    given: &GivenSizes,
+    given: &CheckedSizes,
     reason: &RefusalReason,
 ) -> io::Result<()>
     ensures { OnOk result (text.new.items ≡ text.old.items ++ reason_text given.now reason.now) }
@@ -191,7 +191,7 @@ fn push_refusal_reason(
     match reason {
         RefusalReason::WrongNumber(stated) => {
             let (given, stated) = (*given, *stated);
-            write!(text, "{}", WrongNumberText { given, stated })
+            write!(text, "{}", WrongFieldText { given, stated })
         }
         RefusalReason::NoImage => write!(text, "{}", NoImageText(*given)),
         RefusalReason::Broken(rule) => text.write_all(&rule.line),
@@ -215,7 +215,7 @@ fn push_check_result(text: &mut Vec<u8>, checked: &CheckResult) -> io::Result<()
 /// writing profile that the image breaks, and the location.
 ///
 /// Errors: `AllocError` if memory can't be allocated.
-pub fn breach_line(
+pub fn profile_breach_text(
     alloc: Global,
     inline_max: Option<u32>,
     breach: ProfileBreach,
@@ -233,9 +233,9 @@ pub fn breach_line(
 /// the image isn't accepted.
 ///
 /// Errors: `AllocError` if memory can't be allocated.
-pub fn reason_line(
+pub fn refusal_reason_text(
     alloc: Global,
-    given: &GivenSizes,
+    given: &CheckedSizes,
     reason: &RefusalReason,
 ) -> Result<Vec<u8>, AllocError>
     ensures { IfOk result (λ text. text.items ≡ reason_text given.now reason.now) }

@@ -1,10 +1,10 @@
 ghost use Rattle.std.specs.Prelude.{◌≡◌, ◌++◌, ◌∷◌, [], IfOk, IfSome, IsErrOf, OnOk, false, map, reverse, true};
-ghost use Rattle.lfs_model.specs.layers.Source.{HaveBadOrRepeated, source_names, path_in_folder};
-ghost use Rattle.lfs_tool.specs.SourceTrees.{IsUnchanged, is_folder, listed_view};
+ghost use Rattle.lfs_model.specs.layers.Source.{HaveBadOrRepeatedNames, source_names, path_in_folder};
+ghost use Rattle.lfs_tool.specs.SourceTrees.{IsUnchangedIfKnown, is_folder, listed_view};
 ghost use Rattle.lfs_tool.specs.MemorySources.{optional_bytes_view};
-ghost use Rattle.lfs_tool.specs.SourceEntries.{AreSourceEntries, AreSortedFolderNames, HasFaultOr, HasBadNames, HasSourceContents, waiting_view, paths_in_folder};
+ghost use Rattle.lfs_tool.specs.SourceEntries.{AreSourceEntries, AreSortedFolderNames, HasFaultOr, HasBadNames, HasSourceContents, pending_entry_view, paths_in_folder};
 
-use crate::names::{are_names_allowed, sort_names};
+use crate::names::{are_valid_names, sort_names};
 use crate::{FileError, ListedName, Source, SourceKind};
 use std::alloc::Global;
 
@@ -22,7 +22,7 @@ pub struct SourceEntry {
 
 // A file or a folder that has been listed but not read yet.
 #[derive(Debug, Drop)]
-struct WaitingEntry {
+struct PendingEntry {
     path: Vec<u8>,
     kind: SourceKind,
     len: u64,
@@ -51,45 +51,45 @@ fn sorted_names<S: Source>(
     folder: &[u8],
 ) -> Result<Vec<ListedName>, FileError>
     ensures names { IfOk result (λ v. AreSortedFolderNames (S.shown source.old) folder.now (map listed_view v.items)) }
-    ensures shown { IsUnchanged (S.shown source.old) (S.shown source.new) }
+    ensures shown { IsUnchangedIfKnown (S.shown source.old) (S.shown source.new) }
     ensures kept { OnOk result (S.has_failed source.new ≡ false) }
     ensures fault { IsErrOf result FileError.Fault
-        → HasFaultOr (S.has_failed source.new) (IfSome (S.shown source.old) (λ s. HaveBadOrRepeated (source_names (s.names folder.now)))) }
+        → HasFaultOr (S.has_failed source.new) (IfSome (S.shown source.old) (λ s. HaveBadOrRepeatedNames (source_names (s.names folder.now)))) }
     ensures no_memory { IsErrOf result FileError.NoMemory → S.has_failed source.new ≡ false }
 {
     let mut names = source.list(alloc, folder)?;
     sort_names(&mut names);
-    if !are_names_allowed(names.as_slice()) {
+    if !are_valid_names(names.as_slice()) {
         return Err(FileError::Fault);
     }
     Ok(names)
 }
 
-fn push_waiting_entry(waiting: &mut Vec<WaitingEntry>, one: WaitingEntry) -> Result<(), FileError>
+fn push_pending_entry(waiting: &mut Vec<PendingEntry>, one: PendingEntry) -> Result<(), FileError>
     ensures waiting { OnOk result (waiting.new.items ≡ waiting.old.items ++ one ∷ []) }
     ensures memory { (e : _) → result ≡ Err e → e ≡ FileError.NoMemory }
 {
     waiting.push(one).map_err(|_| FileError::NoMemory)
 }
 
-fn push_names_waiting(
+fn push_pending_names(
     alloc: Global,
     folder: &[u8],
     names: &[ListedName],
-    waiting: &mut Vec<WaitingEntry>,
+    waiting: &mut Vec<PendingEntry>,
 ) -> Result<(), FileError>
-    ensures places { OnOk result (map waiting_view waiting.new.items ≡ map waiting_view waiting.old.items ++ paths_in_folder folder.now (map listed_view names.now)) }
+    ensures places { OnOk result (map pending_entry_view waiting.new.items ≡ map pending_entry_view waiting.old.items ++ paths_in_folder folder.now (map listed_view names.now)) }
     ensures memory { (e : _) → result ≡ Err e → e ≡ FileError.NoMemory }
 {
     for one in names {
         let path = join_path(alloc, folder, one.name.as_slice())?;
-        let entry = WaitingEntry {
+        let entry = PendingEntry {
             path,
             kind: one.kind,
             len: one.len,
             modified: one.modified,
         };
-        push_waiting_entry(waiting, entry)?;
+        push_pending_entry(waiting, entry)?;
     }
     Ok(())
 }
@@ -100,37 +100,37 @@ fn push_folder_names<S: Source>(
     alloc: Global,
     source: &mut S,
     folder: &[u8],
-    waiting: &mut Vec<WaitingEntry>,
+    waiting: &mut Vec<PendingEntry>,
 ) -> Result<(), FileError>
     ensures within { OnOk result ((within : _) × (AreSortedFolderNames (S.shown source.old) folder.now within
-        × (map waiting_view waiting.new.items ≡ map waiting_view waiting.old.items ++ reverse (paths_in_folder folder.now within)))) }
-    ensures shown { IsUnchanged (S.shown source.old) (S.shown source.new) }
+        × (map pending_entry_view waiting.new.items ≡ map pending_entry_view waiting.old.items ++ reverse (paths_in_folder folder.now within)))) }
+    ensures shown { IsUnchangedIfKnown (S.shown source.old) (S.shown source.new) }
     ensures kept { OnOk result (S.has_failed source.new ≡ false) }
     ensures fault { IsErrOf result FileError.Fault
-        → HasFaultOr (S.has_failed source.new) (IfSome (S.shown source.old) (λ s. HaveBadOrRepeated (source_names (s.names folder.now)))) }
+        → HasFaultOr (S.has_failed source.new) (IfSome (S.shown source.old) (λ s. HaveBadOrRepeatedNames (source_names (s.names folder.now)))) }
     ensures no_memory { IsErrOf result FileError.NoMemory → S.has_failed source.new ≡ false }
 {
     let mut names = sorted_names(alloc, source, folder)?;
     names.reverse();
-    push_names_waiting(alloc, folder, names.as_slice(), waiting)?;
+    push_pending_names(alloc, folder, names.as_slice(), waiting)?;
     Ok(())
 }
 
 // Returns the bytes of a file. For a folder, returns None and appends its names to the pending
 // ones.
-fn read_waiting_entry<S: Source>(
+fn read_pending_entry<S: Source>(
     alloc: Global,
     source: &mut S,
-    one: &WaitingEntry,
-    waiting: &mut Vec<WaitingEntry>,
+    one: &PendingEntry,
+    waiting: &mut Vec<PendingEntry>,
 ) -> Result<Option<Vec<u8>>, FileError>
     ensures holds { IfOk result (λ bytes. (within : _) × (HasSourceContents (S.shown source.old) one.now.path.items (is_folder one.now.kind) (optional_bytes_view bytes) within
-        × (map waiting_view waiting.new.items ≡ map waiting_view waiting.old.items ++ reverse (paths_in_folder one.now.path.items within)))) }
-    ensures shown { IsUnchanged (S.shown source.old) (S.shown source.new) }
+        × (map pending_entry_view waiting.new.items ≡ map pending_entry_view waiting.old.items ++ reverse (paths_in_folder one.now.path.items within)))) }
+    ensures shown { IsUnchangedIfKnown (S.shown source.old) (S.shown source.new) }
     ensures kept { OnOk result (S.has_failed source.new ≡ false) }
     ensures fault { IsErrOf result FileError.Fault
         → HasFaultOr (S.has_failed source.new)
-        ((is_folder one.now.kind ≡ true) × IfSome (S.shown source.old) (λ s. HaveBadOrRepeated (source_names (s.names one.now.path.items)))) }
+        ((is_folder one.now.kind ≡ true) × IfSome (S.shown source.old) (λ s. HaveBadOrRepeatedNames (source_names (s.names one.now.path.items)))) }
     ensures no_memory { IsErrOf result FileError.NoMemory → S.has_failed source.new ≡ false }
 {
     match one.kind {
@@ -161,7 +161,7 @@ fn push_source_entry(entries: &mut Vec<SourceEntry>, entry: SourceEntry) -> Resu
 /// - `NoMemory` if memory can't be allocated.
 pub fn read_tree<S: Source>(alloc: Global, source: &mut S) -> Result<Vec<SourceEntry>, FileError>
     ensures entries { IfOk result (λ v. AreSourceEntries (S.shown source.old) v.items) }
-    ensures shown { IsUnchanged (S.shown source.old) (S.shown source.new) }
+    ensures shown { IsUnchangedIfKnown (S.shown source.old) (S.shown source.new) }
     ensures kept { OnOk result (S.has_failed source.new ≡ false) }
     ensures fault { IsErrOf result FileError.Fault → HasFaultOr (S.has_failed source.new) (IfSome (S.shown source.old) HasBadNames) }
     ensures no_memory { IsErrOf result FileError.NoMemory → S.has_failed source.new ≡ false }
@@ -174,7 +174,7 @@ pub fn read_tree<S: Source>(alloc: Global, source: &mut S) -> Result<Vec<SourceE
         let Some(one) = waiting.pop() else {
             return Ok(entries);
         };
-        let bytes = read_waiting_entry(alloc, source, &one, &mut waiting)?;
+        let bytes = read_pending_entry(alloc, source, &one, &mut waiting)?;
         let entry = SourceEntry {
             path: one.path,
             bytes,

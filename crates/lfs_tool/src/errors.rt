@@ -5,8 +5,8 @@ ghost use Rattle.std.specs.Io.KnownBytes.{Appends};
 ghost use Rattle.lfs_model.specs.layers.Listing.{newline};
 ghost use Rattle.lfs_tool.specs.Errors.{error_line, error_line_of, error_status};
 ghost use Rattle.lfs_tool.specs.ExitStatus.{is_help_request};
-ghost use Rattle.lfs_tool.specs.KnownBytes.{AppendsBeginning};
-ghost use Rattle.lfs_tool.specs.Reports.{HasShown};
+ghost use Rattle.lfs_tool.specs.KnownBytes.{AppendsPrefix};
+ghost use Rattle.lfs_tool.specs.Reports.{HasShownUnlessFailed};
 ghost use Rattle.lfs_tool.specs.RunEnds.{IsFailureReported};
 ghost use Rattle.lfs_tool.specs.Streams.{has_failed, stream_inner};
 
@@ -117,10 +117,10 @@ fn text_of_error(error: Error) -> LineText
 
 // Writes the error line for a wrong command line, and returns the exit status. A failed write is
 // ignored.
-fn write_mistake<E: Write>(err: &mut Stream<E>, rule: &str) -> u8
+fn write_usage_error<E: Write>(err: &mut Stream<E>, rule: &str) -> u8
     requires { length rule.now ≤ 80 }
     ensures status { result ≡ 2 }
-    ensures beginning { AppendsBeginning (E.contents (stream_inner err.old)) (E.contents (stream_inner err.new)) (codes "error: " ++ rule.now ++ newline) }
+    ensures beginning { AppendsPrefix (E.contents (stream_inner err.old)) (E.contents (stream_inner err.new)) (codes "error: " ++ rule.now ++ newline) }
     ensures line { has_failed err.new ≡ false → Appends (E.contents (stream_inner err.old)) (E.contents (stream_inner err.new)) (codes "error: " ++ rule.now ++ newline) }
 {
     let text = line_of_words(rule);
@@ -131,7 +131,7 @@ fn write_mistake<E: Write>(err: &mut Stream<E>, rule: &str) -> u8
 // Writes the line of an error, and returns the exit status. A failed write is ignored.
 fn write_error_line<E: Write>(err: &mut Stream<E>, error: ToolError) -> u8
     ensures status { result ≡ error_status error }
-    ensures beginning { AppendsBeginning (E.contents (stream_inner err.old)) (E.contents (stream_inner err.new)) (error_line_of error) }
+    ensures beginning { AppendsPrefix (E.contents (stream_inner err.old)) (E.contents (stream_inner err.new)) (error_line_of error) }
     ensures line { has_failed err.new ≡ false → Appends (E.contents (stream_inner err.old)) (E.contents (stream_inner err.new)) (error_line_of error) }
 {
     let line = error.error_line_text();
@@ -153,25 +153,25 @@ fn write_error_line<E: Write>(err: &mut Stream<E>, error: ToolError) -> u8
 pub fn report<O: Write, E: Write>(fault: &Fault, out: &mut Stream<O>, err: &mut Stream<E>) -> u8
     ensures shown { IsFailureReported E.contents fault.now result err.old err.new }
     ensures out { is_help_request fault.now ≡ false → out.new ≡ out.old }
-    ensures help { is_help_request fault.now ≡ true → HasShown out.new }
+    ensures help { is_help_request fault.now ≡ true → HasShownUnlessFailed out.new }
 {
     match fault {
-        Fault::Line(LineError::Modes) => write_mistake(err, "give exactly one of -c, -u, -l"),
+        Fault::Line(LineError::Modes) => write_usage_error(err, "give exactly one of -c, -u, -l"),
         Fault::Line(LineError::Order) => {
-            write_mistake(err, "--order is longer-first or shorter-first")
+            write_usage_error(err, "--order is longer-first or shorter-first")
         }
         Fault::Line(LineError::Board) => {
-            write_mistake(err, "--board is esp8266, esp32, rp2040 or micropython")
+            write_usage_error(err, "--board is esp8266, esp32, rp2040 or micropython")
         }
-        Fault::Line(LineError::Limit(limit)) => write_mistake(err, limit.rule()),
-        Fault::Line(LineError::Misuse(misuse)) => write_mistake(err, misuse.rule()),
+        Fault::Line(LineError::Limit(limit)) => write_usage_error(err, limit.rule()),
+        Fault::Line(LineError::Misuse(misuse)) => write_usage_error(err, misuse.rule()),
         Fault::Line(LineError::Part) => {
-            write_mistake(
+            write_usage_error(
                 err,
                 "-b auto and --offset are for -l, -u, --check and --cat",
             )
         }
-        Fault::Line(LineError::NotUtf8) => write_mistake(err, "the command line is not UTF-8"),
+        Fault::Line(LineError::NotUtf8) => write_usage_error(err, "the command line is not UTF-8"),
         Fault::Line(LineError::Parser(error)) => match error.kind() {
             ErrorKind::OutOfMemory => write_error_line(err, ToolError::Fs(Error::NoMemory)),
             ErrorKind::DisplayHelp | ErrorKind::DisplayVersion => {

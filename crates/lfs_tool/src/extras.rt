@@ -2,7 +2,7 @@
 
 ghost use Rattle.std.specs.Prelude.{◌≡◌, IfOk};
 ghost use Rattle.clap.specs.Words.{found_of, rows_of};
-ghost use Rattle.lfs_tool.specs.Extras.{AreExtrasOf, ArePatternsOf, changes_image, gives_decided, is_given, is_standard_stream, misused_auto, misused_option, misused_extra, misuse_rule};
+ghost use Rattle.lfs_tool.specs.RunOptions.{AreRunOptionsOf, AreExcludePatternsOf, changes_image, has_auto_conflict, is_given, is_standard_stream, auto_misuse, first_option_misuse, run_option_misuse, misuse_rule};
 
 use crate::values::{argument_text, flag_value, is_auto, number_given_or};
 use clap::ArgMatches;
@@ -10,7 +10,7 @@ use std::alloc::{AllocError, Global};
 
 /// The options of a command line that aren't part of `Line`.
 #[derive(Debug, Drop)]
-pub struct Extras<'a> {
+pub struct RunOptions<'a> {
     /// Whether `Mode::Create` makes the smallest image that the folder fits in.
     pub is_size_auto: bool,
     /// The number of spare blocks to add to the smallest image.
@@ -101,8 +101,8 @@ fn changes_image(matches: &ArgMatches<'_>) -> bool
 }
 
 // Returns the first misuse of the options for sizes, times, pair cycles and files.
-fn misused_extra(matches: &ArgMatches<'_>) -> Option<Misuse>
-    ensures { result ≡ misused_extra (rows_of (found_of matches.now)) }
+fn run_option_misuse(matches: &ArgMatches<'_>) -> Option<Misuse>
+    ensures { result ≡ run_option_misuse (rows_of (found_of matches.now)) }
 {
     let creates = is_given(matches, "create");
     let is_size_auto = is_auto(matches, "size");
@@ -121,12 +121,12 @@ fn misused_extra(matches: &ArgMatches<'_>) -> Option<Misuse>
     if is_standard_stream(matches, "put") && is_standard_stream(matches, "image") {
         return Some(Misuse::Streams);
     }
-    misused_auto(matches)
+    auto_misuse(matches)
 }
 
 // Returns whether an option is given whose value `--auto` reads from the superblock.
-fn gives_decided(matches: &ArgMatches<'_>) -> bool
-    ensures { result ≡ gives_decided (rows_of (found_of matches.now)) }
+fn has_auto_conflict(matches: &ArgMatches<'_>) -> bool
+    ensures { result ≡ has_auto_conflict (rows_of (found_of matches.now)) }
 {
     let gives_sizes = is_given(matches, "block") || is_given(matches, "board");
     let gives_names = is_given(matches, "name-max") || is_given(matches, "file-max");
@@ -135,8 +135,8 @@ fn gives_decided(matches: &ArgMatches<'_>) -> bool
 }
 
 // Returns the misuse of `--auto`, or None if there is none.
-fn misused_auto(matches: &ArgMatches<'_>) -> Option<Misuse>
-    ensures { result ≡ misused_auto (rows_of (found_of matches.now)) }
+fn auto_misuse(matches: &ArgMatches<'_>) -> Option<Misuse>
+    ensures { result ≡ auto_misuse (rows_of (found_of matches.now)) }
 {
     if !flag_value(matches, "auto") {
         return None;
@@ -144,15 +144,15 @@ fn misused_auto(matches: &ArgMatches<'_>) -> Option<Misuse>
     if is_given(matches, "create") {
         return Some(Misuse::Auto);
     }
-    if gives_decided(matches) {
+    if has_auto_conflict(matches) {
         return Some(Misuse::Decided);
     }
     None
 }
 
 /// Returns the first misuse of an option, or None if there is none.
-pub(crate) fn misused_option(matches: &ArgMatches<'_>) -> Option<Misuse>
-    ensures { result ≡ misused_option (rows_of (found_of matches.now)) }
+pub(crate) fn first_option_misuse(matches: &ArgMatches<'_>) -> Option<Misuse>
+    ensures { result ≡ first_option_misuse (rows_of (found_of matches.now)) }
 {
     let follow = flag_value(matches, "follow-links");
     let skip = flag_value(matches, "skip-links");
@@ -167,7 +167,7 @@ pub(crate) fn misused_option(matches: &ArgMatches<'_>) -> Option<Misuse>
     if flag_value(matches, "json") && !shows {
         return Some(Misuse::Json);
     }
-    misused_extra(matches)
+    run_option_misuse(matches)
 }
 
 // Returns the patterns of the names to leave out.
@@ -175,7 +175,7 @@ fn patterns_of_matches<'a>(
     alloc: Global,
     matches: &ArgMatches<'a>,
 ) -> Result<Vec<&'a str>, AllocError>
-    ensures { IfOk result (ArePatternsOf (rows_of (found_of matches.now))) }
+    ensures { IfOk result (AreExcludePatternsOf (rows_of (found_of matches.now))) }
 {
     match matches.get_strs("exclude") {
         Some(patterns) => Ok(Vec::from_slice(alloc, patterns)?),
@@ -186,14 +186,14 @@ fn patterns_of_matches<'a>(
 /// Returns the options of a command line that aren't part of `Line`.
 ///
 /// Errors: `AllocError` if memory can't be allocated.
-pub(crate) fn extras_of_matches<'a>(
+pub(crate) fn parse_run_options<'a>(
     alloc: Global,
     matches: &ArgMatches<'a>,
-) -> Result<Extras<'a>, AllocError>
-    ensures { IfOk result (AreExtrasOf (rows_of (found_of matches.now))) }
+) -> Result<RunOptions<'a>, AllocError>
+    ensures { IfOk result (AreRunOptionsOf (rows_of (found_of matches.now))) }
 {
     let exclude = patterns_of_matches(alloc, matches)?;
-    Ok(Extras {
+    Ok(RunOptions {
         is_size_auto: is_auto(matches, "size"),
         spare: number_given_or(matches, "spare", 0),
         exclude,

@@ -43,15 +43,15 @@ impl FaultLog {
     /// Logs a fault at a path, unless the log already has an entry. If memory can't be allocated,
     /// logs that fact instead.
     pub fn note(&self, alloc: Global, path: &[u8], error: &io::Error) {
-        self.note_first(path_fault_of(alloc, path, error).map(|fault| Some(fault)));
+        self.log_first_fault(path_fault_of(alloc, path, error).map(|fault| Some(fault)));
     }
 
     /// Logs that memory for a fault couldn't be allocated, unless the log already has an entry.
-    pub fn note_lost_fault(&self) {
-        self.note_first(Err(AllocError));
+    pub fn log_allocation_failure(&self) {
+        self.log_first_fault(Err(AllocError));
     }
 
-    fn note_first(&self, fault: Result<Option<PathFault>, AllocError>) {
+    fn log_first_fault(&self, fault: Result<Option<PathFault>, AllocError>) {
         if let Ok(mut first) = self.first.try_borrow_mut() {
             if matches!(&*first, Ok(None)) {
                 *first = fault;

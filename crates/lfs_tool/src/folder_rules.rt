@@ -68,7 +68,7 @@ fn fits(pattern: &[u8], name: &[u8]) -> bool {
 }
 
 // Returns a path or a pattern without its leading `/`, if it has one.
-fn below_folder<'a>(path: &'a [u8]) -> &'a [u8] {
+fn without_leading_slash<'a>(path: &'a [u8]) -> &'a [u8] {
     match path {
         [b'/', rest @ ..] => rest,
         _ => path,
@@ -85,11 +85,11 @@ impl<'a> FolderRules<'a> {
     }
 
     // Returns whether a name is left out. `path` is the path of the name below the folder.
-    pub(crate) fn is_left_out(self, path: &[u8], name: &[u8]) -> bool {
+    pub(crate) fn is_excluded(self, path: &[u8], name: &[u8]) -> bool {
         for pattern in self.exclude {
             let pattern = pattern.as_bytes();
             let with = if pattern.contains(&b'/') { path } else { name };
-            if fits(below_folder(pattern), below_folder(with)) {
+            if fits(without_leading_slash(pattern), without_leading_slash(with)) {
                 return true;
             }
         }

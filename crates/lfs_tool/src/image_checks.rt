@@ -2,14 +2,14 @@
 
 ghost use Rattle.std.specs.Prelude.{◌≡◌, IfOk, IsErrOf};
 ghost use Rattle.std.specs.Io.KnownBytes.{Appends};
-ghost use Rattle.lfs_tool.specs.KnownBytes.{AppendsBeginning};
+ghost use Rattle.lfs_tool.specs.KnownBytes.{AppendsPrefix};
 ghost use Rattle.lfs_tool.specs.Reports.{ReportsWriterFaults};
 ghost use Rattle.lfs_tool.specs.Streams.{stream_inner};
 ghost use Rattle.lfs_tool.specs.CheckResults.{IsCheckResult, is_accepted_result};
 ghost use Rattle.lfs_tool.specs.CheckedLines.{result_text};
 
+use crate::check_results::check_result_of_image;
 use crate::checked_lines::check_result_lines;
-use crate::examination::result_of_image;
 use crate::stream::{Stream, write_and_flush};
 use crate::verdict::CheckResult;
 use crate::{ImageLayout, ToolError};
@@ -26,7 +26,7 @@ fn is_result_accepted(checked: &CheckResult) -> bool
     }
 }
 
-/// Checks an image as `result_of_image` does, writes the result, and returns whether the image is
+/// Checks an image as `check_result_of_image` does, writes the result, and returns whether the image is
 /// accepted. Nothing is written before the result is known, and the writer is flushed at the end.
 ///
 /// For an accepted image, the lines are `ok`, `files <n>`, `directories <n>`, `used <n> of <m>
@@ -50,13 +50,13 @@ pub fn check<W: Write>(
     // If the writer fails, it has received only a prefix of the lines.
     ensures writer { ReportsWriterFaults out.old out.new result }
     ensures beginning { IsErrOf result ToolError.Output →
-        (checked : _) × (IsCheckResult layout image.items checked × AppendsBeginning (W.contents (stream_inner out.old)) (W.contents (stream_inner out.new)) (result_text checked)) }
+        (checked : _) × (IsCheckResult layout image.items checked × AppendsPrefix (W.contents (stream_inner out.old)) (W.contents (stream_inner out.new)) (result_text checked)) }
 
     // The only other error is that memory can't be allocated.
     ensures refused { (e : _) → IsErrOf result (ToolError.Fs e) → e ≡ Error.NoMemory }
     ensures never { ¬ IsErrOf result ToolError.Input }
 {
-    let checked = result_of_image(alloc, image, layout)?;
+    let checked = check_result_of_image(alloc, image, layout)?;
     let text = check_result_lines(alloc, &checked)?;
     write_and_flush(out, text.as_slice())?;
     Ok(is_result_accepted(&checked))

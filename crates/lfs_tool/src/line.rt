@@ -1,10 +1,10 @@
 ghost use Rattle.std.specs.Prelude.{◌≡◌, List, IfErr, IfOk, Some, false, map};
 ghost use Rattle.clap.specs.Words.{Text, found_of, rows_of};
 ghost use Rattle.lfs_tool.specs.Choices.{AreChoicesOf};
-ghost use Rattle.lfs_tool.specs.Matches.{HasImage, IsLineError, IsLineOf, IsRequestOf, ParserAccepts, has_auto_blocks, makes_part, broken_limit, board_in_rows, order_in_rows, order_named, rows};
+ghost use Rattle.lfs_tool.specs.Matches.{HasImage, IsLineError, IsLineOf, IsRequestOf, ParserAccepts, has_auto_blocks, has_misused_range, broken_limit, board_in_rows, order_in_rows, order_named, rows};
 
 use crate::board::Board;
-use crate::extras::{Extras, Misuse, extras_of_matches, misused_option};
+use crate::extras::{Misuse, RunOptions, first_option_misuse, parse_run_options};
 use crate::limits::{Limit, first_broken_limit, profile_given_or};
 use crate::modes::mode_of_matches;
 use crate::options::parse_words;
@@ -67,7 +67,7 @@ pub struct Line<'a> {
 #[derive(Debug, Drop)]
 pub struct Request<'a> {
     pub line: Line<'a>,
-    pub extras: Extras<'a>,
+    pub extras: RunOptions<'a>,
 }
 
 // The mode, and the options whose value is one of several names.
@@ -161,8 +161,8 @@ fn choices_of_matches<'a>(matches: &ArgMatches<'a>) -> Result<Choices<'a>, LineE
 }
 
 // Returns whether `-b auto` or a nonzero `--offset` is given in a mode that writes an image.
-fn makes_part(line: &Line<'_>) -> bool
-    ensures { result ≡ makes_part line.now }
+fn has_misused_range(line: &Line<'_>) -> bool
+    ensures { result ≡ has_misused_range line.now }
 {
     match line.mode {
         Mode::Create(_) | Mode::Put(..) | Mode::Remove(_) | Mode::Mkdir(_) => {
@@ -241,13 +241,13 @@ pub fn read_request<'a, S: AsStr>(alloc: Global, words: &'a [S]) -> Result<Reque
         Ok(line) => line,
         Err(limit) => return Err(LineError::Limit(limit)),
     };
-    if makes_part(&line) {
+    if has_misused_range(&line) {
         return Err(LineError::Part);
     }
-    if let Some(misuse) = misused_option(&matches) {
+    if let Some(misuse) = first_option_misuse(&matches) {
         return Err(LineError::Misuse(misuse));
     }
-    match extras_of_matches(alloc, &matches) {
+    match parse_run_options(alloc, &matches) {
         Ok(extras) => Ok(Request { line, extras }),
         Err(error) => Err(LineError::Parser(clap::Error::from(error))),
     }
@@ -259,7 +259,7 @@ pub fn read_request<'a, S: AsStr>(alloc: Global, words: &'a [S]) -> Result<Reque
 /// Those of `read_request`.
 pub fn read_line<'a, S: AsStr>(alloc: Global, words: &'a [S]) -> Result<Line<'a>, LineError>
     ensures ok { IfOk result (λ line. ParserAccepts (map S.text words.entry.now)
-        × IsLineOf (rows (map S.text words.entry.now)) line × (makes_part line ≡ false)) }
+        × IsLineOf (rows (map S.text words.entry.now)) line × (has_misused_range line ≡ false)) }
     ensures err { IfErr result (IsLineError (map S.text words.entry.now)) }
 {
     match read_request(alloc, words) {

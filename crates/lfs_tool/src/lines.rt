@@ -1,7 +1,7 @@
 // The lines of a listing.
 
 ghost use Rattle.std.specs.Prelude.{◌≡◌, ◌++◌, IfOk, None, OnOk, Some};
-ghost use Rattle.lfs_tool.specs.Listings.{place_line, path_line, place_lines};
+ghost use Rattle.lfs_tool.specs.Listings.{path_struct_line, path_line, path_struct_lines};
 ghost use Rattle.lfs_lookup.specs.TreeWalk.{tree_item_view, tree_items_view};
 
 use lfs_lookup::{OwnedStruct, TreeItem, push_escaped_path};
@@ -29,7 +29,7 @@ fn push_directory_line(text: &mut Vec<u8>, path: &[u8]) -> Result<(), AllocError
 }
 
 fn push_item_text(text: &mut Vec<u8>, found: &TreeItem) -> Result<(), AllocError>
-    ensures { OnOk result (text.new.items ≡ text.old.items ++ place_line (tree_item_view found.now)) }
+    ensures { OnOk result (text.new.items ≡ text.old.items ++ path_struct_line (tree_item_view found.now)) }
 {
     match &found.structure {
         OwnedStruct::Inline(bytes) => push_file_line(text, bytes.len(), &found.path),
@@ -39,7 +39,7 @@ fn push_item_text(text: &mut Vec<u8>, found: &TreeItem) -> Result<(), AllocError
 }
 
 pub(crate) fn tree_item_lines(alloc: Global, found: &[TreeItem]) -> Result<Vec<u8>, AllocError>
-    ensures { IfOk result (λ text. text.items ≡ place_lines (tree_items_view found.now)) }
+    ensures { IfOk result (λ text. text.items ≡ path_struct_lines (tree_items_view found.now)) }
 {
     let mut text = Vec::new(alloc);
     for one in found {

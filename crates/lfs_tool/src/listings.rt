@@ -4,7 +4,7 @@ ghost use Rattle.lfs_device.specs.DeviceDisk.{disk_of_blocks as shown};
 ghost use Rattle.lfs_device.specs.RamDevice.{ram_blocks, ram_geometry};
 ghost use Rattle.lfs_lookup.specs.TreeWalk.{tree_items_view};
 ghost use Rattle.lfs_thread.specs.Kept.{ThreadView};
-ghost use Rattle.lfs_tool.specs.KnownBytes.{AppendsBeginning};
+ghost use Rattle.lfs_tool.specs.KnownBytes.{AppendsPrefix};
 ghost use Rattle.lfs_tool.specs.Reports.{ReportsWriterFaults};
 ghost use Rattle.lfs_tool.specs.Streams.{stream_inner};
 ghost use Rattle.lfs_tool.specs.Listings.{IsImageListing, IsImageWalk, IsMountError, IsWalkedThread, RefusesToList};
@@ -70,7 +70,7 @@ pub fn list<W: Write>(
 
     // If the writer fails, it has received only a prefix of the lines.
     ensures writer { ReportsWriterFaults out.old out.new result }
-    ensures beginning { IsErrOf result ToolError.Output → (text : _) × (IsImageListing layout image.items text × AppendsBeginning (W.contents (stream_inner out.old)) (W.contents (stream_inner out.new)) text) }
+    ensures beginning { IsErrOf result ToolError.Output → (text : _) × (IsImageListing layout image.items text × AppendsPrefix (W.contents (stream_inner out.old)) (W.contents (stream_inner out.new)) text) }
 
     // The causes of the other errors.
     ensures refused { (e : _) → IsErrOf result (ToolError.Fs e) → RefusesToList layout image.items e }

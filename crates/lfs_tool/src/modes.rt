@@ -2,7 +2,7 @@
 
 ghost use Rattle.std.specs.Prelude.{◌≡◌, MatchOption, Some, map, option_map};
 ghost use Rattle.clap.specs.Words.{found_of, rows_of};
-ghost use Rattle.lfs_tool.specs.Matches.{AreGivenModes, OneMode, IsModeOf, folder_flags, given_two_texts, exactly_two_texts, path_flags};
+ghost use Rattle.lfs_tool.specs.Matches.{AreGivenModes, HasOneMode, IsModeOf, folder_mode_flags, given_two_texts, exactly_two_texts, path_mode_flags};
 
 use crate::line::Mode;
 use crate::values::{argument_text, flag_value};
@@ -18,7 +18,7 @@ enum GivenModes<'a> {
 
 // Returns which of the modes for a whole image are given.
 fn given_folder_modes<'a>(matches: &ArgMatches<'a>) -> GivenModes<'a>
-    ensures { AreGivenModes (folder_flags (rows_of (found_of matches.now))) (rows_of (found_of matches.now)) result }
+    ensures { AreGivenModes (folder_mode_flags (rows_of (found_of matches.now))) (rows_of (found_of matches.now)) result }
 {
     let create = argument_text(matches, "create");
     let unpack = argument_text(matches, "unpack");
@@ -57,7 +57,7 @@ fn pair_of_texts<'a>(matches: &ArgMatches<'a>, id: &str) -> Option<(&'a str, &'a
 
 // Returns which of the modes for a path in an image are given.
 fn given_path_modes<'a>(matches: &ArgMatches<'a>) -> GivenModes<'a>
-    ensures { AreGivenModes (path_flags (rows_of (found_of matches.now))) (rows_of (found_of matches.now)) result }
+    ensures { AreGivenModes (path_mode_flags (rows_of (found_of matches.now))) (rows_of (found_of matches.now)) result }
 {
     let cat = argument_text(matches, "cat");
     let put = pair_of_texts(matches, "put");
@@ -75,8 +75,8 @@ fn given_path_modes<'a>(matches: &ArgMatches<'a>) -> GivenModes<'a>
 
 // Returns the mode, or None if not exactly one mode is given.
 pub(crate) fn mode_of_matches<'a>(matches: &ArgMatches<'a>) -> Option<Mode<'a>>
-    ensures { MatchOption result (¬ OneMode (rows_of (found_of matches.now)))
-        (λ mode. OneMode (rows_of (found_of matches.now)) × IsModeOf (rows_of (found_of matches.now)) mode) }
+    ensures { MatchOption result (¬ HasOneMode (rows_of (found_of matches.now)))
+        (λ mode. HasOneMode (rows_of (found_of matches.now)) × IsModeOf (rows_of (found_of matches.now)) mode) }
 {
     let (folder, path) = (given_folder_modes(matches), given_path_modes(matches));
     match (folder, path) {

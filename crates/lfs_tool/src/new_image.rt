@@ -73,7 +73,7 @@ impl<'a, R: Files> NewImage<'a, R> {
     }
 
     // Creates the file.
-    fn create_own_file(&mut self) -> io::Result<()>
+    fn create_output_file(&mut self) -> io::Result<()>
         ensures path { self.new.paths.path ≡ self.old.paths.path }
         ensures beside { OnOk result (self.new.is_beside ≡ true → IsNumberedPath (string_bytes self.old.paths.path) (string_bytes self.new.paths.beside)) }
         ensures err { IfErr result (λ _. (self.new.file ≡ self.old.file) × (self.new.is_beside ≡ self.old.is_beside)) }
@@ -108,7 +108,7 @@ impl<'a, R: Files> Write for NewImage<'a, R> {
         ensures path { self.new.paths.path ≡ self.old.paths.path }
     {
         if self.file.is_none() {
-            self.create_own_file()?;
+            self.create_output_file()?;
         }
         match &mut self.file {
             Some(file) => file.write(buf),

@@ -1,6 +1,6 @@
 // The printed forms of pair addresses and wrong numbers.
 
-use crate::verdict::{GivenSizes, WrongNumber};
+use crate::verdict::{CheckedSizes, WrongNumber};
 use std::fmt;
 
 // The address of a pair, printed as its two blocks.
@@ -9,10 +9,10 @@ pub(crate) struct PairText(pub [u32; 2]);
 
 impl fmt::Display for PairText {
     ghost use Rattle.std.specs.Prelude.{Some};
-    ghost use Rattle.lfs_model.specs.format.Slots.{address_view};
+    ghost use Rattle.lfs_model.specs.format.Slots.{address_of_array};
     ghost use Rattle.lfs_tool.specs.NumberTexts.{pair_text};
 
-    ghost output = { λ pair. Some (pair_text (address_view pair.0)) };
+    ghost output = { λ pair. Some (pair_text (address_of_array pair.0)) };
 
     fn fmt<W: fmt::Write>(&self, f: &mut fmt::Formatter<W>) -> fmt::Result {
         write!(f, "pair {} {}", self.0[0], self.0[1])
@@ -21,16 +21,16 @@ impl fmt::Display for PairText {
 
 // A wrong number in a superblock, printed with the given size that it contradicts.
 #[derive(Clone, Copy, Drop)]
-pub(crate) struct WrongNumberText {
-    pub given: GivenSizes,
+pub(crate) struct WrongFieldText {
+    pub given: CheckedSizes,
     pub stated: WrongNumber,
 }
 
-impl fmt::Display for WrongNumberText {
+impl fmt::Display for WrongFieldText {
     ghost use Rattle.std.specs.Prelude.{Some};
-    ghost use Rattle.lfs_tool.specs.NumberTexts.{wrong_number_text};
+    ghost use Rattle.lfs_tool.specs.NumberTexts.{wrong_field_text};
 
-    ghost output = { λ number. Some (wrong_number_text number.given number.stated) };
+    ghost output = { λ number. Some (wrong_field_text number.given number.stated) };
 
     fn fmt<W: fmt::Write>(&self, f: &mut fmt::Formatter<W>) -> fmt::Result {
         let (block_size, blocks) = (self.given.block_size, self.given.blocks);
@@ -51,7 +51,7 @@ impl fmt::Display for WrongNumberText {
 
 // Sizes that no image can have, printed as the reason for a refusal.
 #[derive(Clone, Copy, Drop)]
-pub(crate) struct NoImageText(pub GivenSizes);
+pub(crate) struct NoImageText(pub CheckedSizes);
 
 impl fmt::Display for NoImageText {
     ghost use Rattle.std.specs.Prelude.{Some};

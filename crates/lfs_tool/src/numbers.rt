@@ -1,13 +1,13 @@
 // Parsing the numbers of a command line.
 
 ghost use Rattle.std.specs.Prelude.{◌≡◌, ◌≤◌, ◌<◌, ◌^◌, ◌*◌, ◌+◌, ◌==◌, IfSome, Some, length, position};
-ghost use Rattle.lfs_tool.specs.Numbers.{parts_bytes, bytes_of_unit, decimal_number, number_after, number_by_point, number_in_text, number_of_digits, fractional_number, fitting_number};
+ghost use Rattle.lfs_tool.specs.Numbers.{unit_fraction_bytes, bytes_of_unit, decimal_number, append_digits, number_by_point, number_in_text, number_of_digits, fractional_number, u32_or_none};
 
 // Returns the value of one or more digits, or None if it exceeds 32 bits or a byte isn't a digit.
 fn number_of_digits(digits: &[u8], radix: u32) -> Option<u32>
     requires two { 2 ≤ radix }
     requires sixteen { radix ≤ 16 }
-    ensures { result ≡ fitting_number (number_of_digits radix digits.now) }
+    ensures { result ≡ u32_or_none (number_of_digits radix digits.now) }
 {
     if digits.is_empty() {
         return None;
@@ -27,7 +27,7 @@ fn number_of_digits(digits: &[u8], radix: u32) -> Option<u32>
 
 // Returns the value of a decimal number. A `+` may precede any number, and a `-` may precede 0.
 fn decimal_number(text: &[u8]) -> Option<u32>
-    ensures { result ≡ fitting_number (decimal_number text.now) }
+    ensures { result ≡ u32_or_none (decimal_number text.now) }
 {
     if text.is_empty() {
         return None;
@@ -59,7 +59,7 @@ fn bytes_of_unit(letter: u8) -> Option<u32>
 // the last to the first.
 fn bytes_of_fraction(digits: &[u8], unit: u32) -> Option<u32>
     requires { unit ≤ 1048576 }
-    ensures { result ≡ parts_bytes unit (10 ^ length digits.now) (number_after 10 0 digits.now) }
+    ensures { result ≡ unit_fraction_bytes unit (10 ^ length digits.now) (append_digits 10 0 digits.now) }
 {
     let mut bytes: u32 = 0;
     let mut at = digits.len();
@@ -79,7 +79,7 @@ fn bytes_of_fraction(digits: &[u8], unit: u32) -> Option<u32>
 
 // Returns the number of bytes in `count` units and `more` bytes, or None if it exceeds 32 bits.
 fn bytes_of_units(count: u32, unit: u32, more: u32) -> Option<u32>
-    ensures { result ≡ fitting_number (Some (count * unit + more)) }
+    ensures { result ≡ u32_or_none (Some (count * unit + more)) }
 {
     let bytes = count as u64 * unit as u64 + more as u64;
     if bytes <= 0xFFFF_FFFF {
@@ -94,7 +94,7 @@ fn bytes_of_units(count: u32, unit: u32, more: u32) -> Option<u32>
 fn fractional_number(whole: &[u8], fraction: &[u8], unit: u32) -> Option<u32>
     requires some { 0 < unit }
     requires most { unit ≤ 1048576 }
-    ensures { result ≡ fitting_number (fractional_number unit whole.now fraction.now) }
+    ensures { result ≡ u32_or_none (fractional_number unit whole.now fraction.now) }
 {
     if fraction.is_empty() {
         return None;
@@ -120,7 +120,7 @@ fn first_point(text: &[u8]) -> Option<usize>
 fn number_of_units(text: &[u8], unit: u32) -> Option<u32>
     requires some { 0 < unit }
     requires most { unit ≤ 1048576 }
-    ensures { result ≡ fitting_number (number_by_point unit text.now (position (λ c. c == 46) text.now)) }
+    ensures { result ≡ u32_or_none (number_by_point unit text.now (position (λ c. c == 46) text.now)) }
 {
     match first_point(text) {
         Some(point) => fractional_number(&text[..point], &text[point + 1..], unit),
@@ -135,7 +135,7 @@ fn number_of_units(text: &[u8], unit: u32) -> Option<u32>
 // exceeds 32 bits.
 #[tactic(auto, unfolding(crate::specs::Numbers::number_in_text))]
 pub(crate) fn number_in_text(text: &str) -> Option<u32>
-    ensures { result ≡ fitting_number (number_in_text text.now) }
+    ensures { result ≡ u32_or_none (number_in_text text.now) }
 {
     let bytes = text.as_bytes();
     if bytes.len() >= 2 && bytes[0] == b'0' && (bytes[1] == b'x' || bytes[1] == b'X') {

@@ -2,7 +2,7 @@
 
 ghost use Rattle.std.specs.Prelude.{◌≡◌, IfOk, false, map};
 ghost use Rattle.clap.specs.Words.{FailsBy, app_of, fault_of, found_of, kind_of, rows_of, rule_of};
-ghost use Rattle.lfs_tool.specs.Command.{bare_command, mklittlefs, rule_of_row, with_rules};
+ghost use Rattle.lfs_tool.specs.Command.{command_without_options, mklittlefs, rule_of_row, with_rules};
 ghost use Rattle.lfs_tool.specs.Matches.{HasImage, faults, rows};
 
 use crate::help::{ABOUT, EXAMPLES, RULES, USAGE, VERSION};
@@ -124,8 +124,8 @@ fn with_options<'a>(
 }
 
 // Returns the command with its help texts but without its arguments.
-fn bare_command<'a>(alloc: Global) -> Command<'a>
-    ensures { app_of result ≡ bare_command }
+fn command_without_options<'a>(alloc: Global) -> Command<'a>
+    ensures { app_of result ≡ command_without_options }
 {
     Command::new(alloc, "mklittlefs")
         .version(VERSION)
@@ -140,7 +140,7 @@ fn bare_command<'a>(alloc: Global) -> Command<'a>
 fn mklittlefs_command<'a>(alloc: Global) -> Result<Command<'a>, AllocError>
     ensures { IfOk result (λ c. app_of c ≡ mklittlefs) }
 {
-    let command = with_options(alloc, bare_command(alloc), &COMMON, true)?;
+    let command = with_options(alloc, command_without_options(alloc), &COMMON, true)?;
     let command = with_options(alloc, command, &FURTHER, false)?;
     Ok(command)
 }
@@ -153,7 +153,7 @@ fn number_error(alloc: Global, option: &str, text: &str) -> Result<Error, AllocE
     let message = format!(in alloc;
         "invalid value '{text}' for '--{option} <N>': a number is 4096, 0x1000, 4k or 1.5M, and at most 4294967295"
     )?;
-    let mut command = bare_command(alloc);
+    let mut command = command_without_options(alloc);
     command.error(ErrorKind::ValueValidation, message.as_str())
 }
 

@@ -61,7 +61,7 @@ impl<'a, R: AllocGlobal> Root<'a, R> {
         let alloc = self.rt.alloc();
         match joined_path(alloc, self.path.as_str(), path, name) {
             Ok(full) => self.log.note(alloc, full.as_slice(), error),
-            Err(AllocError) => self.log.note_lost_fault(),
+            Err(AllocError) => self.log.log_allocation_failure(),
         }
     }
 

@@ -1,8 +1,8 @@
 // The rules for the sizes of an image.
 
 ghost use Rattle.std.specs.Prelude.{◌≡◌, ◌≤◌, ◌*◌, ◌++◌, ◌/◌, ◌%◌, IfSome, None, OnOk};
-ghost use Rattle.lfs_model.specs.format.Geometry.{is_page};
-ghost use Rattle.lfs_tool.specs.Sizes.{AreImageSizes, IsFirstBroken, BreaksNoneBefore, number_text, rule_index, rule_words, broken_rule_line, sizes_text};
+ghost use Rattle.lfs_model.specs.format.Geometry.{is_valid_page_size};
+ghost use Rattle.lfs_tool.specs.Sizes.{AreValidImageSizes, IsFirstBrokenRule, BreaksNoneBefore, number_text, rule_index, rule_words, broken_rule_line, sizes_text};
 
 use std::alloc::AllocError;
 use std::io::Write;
@@ -36,7 +36,7 @@ pub enum SizeRule {
 }
 
 fn is_page_size(page: u32) -> bool
-    ensures { result ≡ is_page page }
+    ensures { result ≡ is_valid_page_size page }
 {
     page == 8 || page == 16 || page == 32 || page == 64 || page == 128 || page == 256 || page == 512
 }
@@ -103,8 +103,8 @@ impl Sizes {
     // sizes of blocks and pages must break no rule.
     fn first_broken_rule(self) -> Option<SizeRule>
         requires { BreaksNoneBefore self (rule_index SizeRule.ImageSize) }
-        ensures broken { IfSome result (IsFirstBroken self) }
-        ensures fits { result ≡ None → AreImageSizes self }
+        ensures broken { IfSome result (IsFirstBrokenRule self) }
+        ensures fits { result ≡ None → AreValidImageSizes self }
     {
         let block_size = self.block_size as usize;
         if self.size > 268_435_456 {
@@ -123,8 +123,8 @@ impl Sizes {
     /// Returns the first rule that the sizes break, in the order of `SizeRule`. Returns None if and
     /// only if an image can have these sizes.
     pub fn broken_rule(self) -> Option<SizeRule>
-        ensures broken { IfSome result (IsFirstBroken self) }
-        ensures fits { result ≡ None → AreImageSizes self }
+        ensures broken { IfSome result (IsFirstBrokenRule self) }
+        ensures fits { result ≡ None → AreValidImageSizes self }
     {
         let (block_size, page) = (self.block_size as usize, self.page as usize);
         if !is_page_size(self.page) {

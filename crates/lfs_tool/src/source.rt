@@ -1,6 +1,6 @@
 ghost use Rattle.std.specs.Prelude.{◌≡◌, Bool, IfOk, IfSome, IsErrOf, None, OnOk, Option, false, map, true};
 ghost use Rattle.lfs_model.specs.layers.Source as model;
-ghost use Rattle.lfs_tool.specs.SourceTrees.{IsUnchanged, listed_view};
+ghost use Rattle.lfs_tool.specs.SourceTrees.{IsUnchangedIfKnown, listed_view};
 
 use crate::FileError;
 use std::alloc::Global;
@@ -45,7 +45,7 @@ pub trait Source {
     /// - `NoMemory` if memory can't be allocated.
     fn list(&mut self, alloc: Global, folder: &[u8]) -> Result<Vec<ListedName>, FileError>
         ensures names { IfOk result (λ v. IfSome (shown self.old) (λ s. map listed_view v.items ≡ s.names folder.now)) }
-        ensures shown { IsUnchanged (shown self.old) (shown self.new) }
+        ensures shown { IsUnchangedIfKnown (shown self.old) (shown self.new) }
         ensures kept { OnOk result (has_failed self.new ≡ false) }
         ensures fault { IsErrOf result FileError.Fault → has_failed self.new ≡ true }
         ensures no_memory { IsErrOf result FileError.NoMemory → has_failed self.new ≡ false };
@@ -58,7 +58,7 @@ pub trait Source {
     /// - `NoMemory` if memory can't be allocated.
     fn read(&mut self, alloc: Global, file: &[u8], listed_len: u64) -> Result<Vec<u8>, FileError>
         ensures bytes { IfOk result (λ v. IfSome (shown self.old) (λ s. v.items ≡ s.bytes file.now)) }
-        ensures shown { IsUnchanged (shown self.old) (shown self.new) }
+        ensures shown { IsUnchangedIfKnown (shown self.old) (shown self.new) }
         ensures kept { OnOk result (has_failed self.new ≡ false) }
         ensures fault { IsErrOf result FileError.Fault → has_failed self.new ≡ true }
         ensures no_memory { IsErrOf result FileError.NoMemory → has_failed self.new ≡ false };

@@ -14,7 +14,7 @@ use std::{fs, io};
 
 /// A file that is longer than the image that is made of its folder.
 #[derive(Debug, Drop)]
-pub struct LongFile {
+pub struct OversizedFile {
     /// The path of the file below the folder, with a `/` before each name.
     pub path: Vec<u8>,
     /// The length of the file in bytes.
@@ -27,7 +27,7 @@ pub struct LongFile {
 /// to a `Fault`. A log keeps the first fault with its path.
 ///
 /// The folder is read for an image of a given size. A file that is longer than the image isn't
-/// read, since it can't fit. A file that is too long counts as empty, and `first_long_file` returns
+/// read, since it can't fit. A file that is too long counts as empty, and `first_oversized_file` returns
 /// the first such file.
 #[derive(Drop)]
 pub struct Folder<'a, R> {
@@ -35,7 +35,7 @@ pub struct Folder<'a, R> {
     // The size of the image in bytes.
     image: u64,
     // The first file that was longer than the image.
-    too_long: Option<LongFile>,
+    too_long: Option<OversizedFile>,
     rules: FolderRules<'a>,
 }
 
@@ -97,7 +97,7 @@ impl<'a, R: Files + AllocGlobal + Clone + Drop> Folder<'a, R> {
     }
 
     // Returns the entry of a name, or None if the rules leave it out.
-    fn name_by_rules(
+    fn filter_entry(
         &self,
         folder: &[u8],
         name: &[u8],
@@ -105,7 +105,7 @@ impl<'a, R: Files + AllocGlobal + Clone + Drop> Folder<'a, R> {
     ) -> io::Result<Option<ListedName>> {
         let alloc = self.root.rt.alloc();
         let path = joined_path(alloc, "", folder, name)?;
-        if self.rules.is_left_out(path.as_slice(), name) {
+        if self.rules.is_excluded(path.as_slice(), name) {
             return Ok(None);
         }
         let metadata = match own {
@@ -120,7 +120,7 @@ impl<'a, R: Files + AllocGlobal + Clone + Drop> Folder<'a, R> {
             own => own,
         };
         if let Ok(found) = &metadata {
-            if self.rules.links == Links::Follow && self.is_above(folder, found)? {
+            if self.rules.links == Links::Follow && self.is_same_or_ancestor(folder, found)? {
                 return Err(io::Error::new(ErrorKind::InvalidInput, "the folder is in itself"));
             }
         }
@@ -129,7 +129,7 @@ impl<'a, R: Files + AllocGlobal + Clone + Drop> Folder<'a, R> {
     }
 
     // Returns whether `found` is the folder at a path or one of the folders above it.
-    fn is_above(&self, path: &[u8], found: &Metadata) -> io::Result<bool> {
+    fn is_same_or_ancestor(&self, path: &[u8], found: &Metadata) -> io::Result<bool> {
         if !found.is_dir() {
             return Ok(false);
         }
@@ -147,7 +147,7 @@ impl<'a, R: Files + AllocGlobal + Clone + Drop> Folder<'a, R> {
     }
 
     /// Returns the first file that `read` found to be longer than the image.
-    pub fn first_long_file(&self) -> Option<&LongFile> {
+    pub fn first_oversized_file(&self) -> Option<&OversizedFile> {
         self.too_long.as_ref()
     }
 
@@ -156,11 +156,11 @@ impl<'a, R: Files + AllocGlobal + Clone + Drop> Folder<'a, R> {
         let mut names = Vec::new(alloc);
         for entry in fs::read_dir(self.root.rt, full.as_str())? {
             if entry.is_err() {
-                self.note_bad_name(path)?;
+                self.log_invalid_names(path)?;
             }
             let entry = entry?;
             let name = entry.file_name();
-            let listed = self.name_by_rules(path, name.as_bytes(), entry.metadata());
+            let listed = self.filter_entry(path, name.as_bytes(), entry.metadata());
             if let Err(error) = &listed {
                 self.root.note(path, name.as_bytes(), error);
             }
@@ -172,7 +172,7 @@ impl<'a, R: Files + AllocGlobal + Clone + Drop> Folder<'a, R> {
     }
 
     // Logs the names in a folder that aren't UTF-8. The log keeps the first one.
-    fn note_bad_name(&self, path: &[u8]) -> io::Result<()> {
+    fn log_invalid_names(&self, path: &[u8]) -> io::Result<()> {
         let mut full = self.root.full_path(path)?;
         // The path that `fs::read_dir` opens also ends in `/`.
         full.push('/')?;
@@ -205,7 +205,7 @@ impl<'a, R: Files + AllocGlobal + Clone + Drop> Folder<'a, R> {
         if len > self.image {
             if self.too_long.is_none() {
                 let path = path.to_vec(self.root.rt.alloc())?;
-                self.too_long = Some(LongFile { path, len });
+                self.too_long = Some(OversizedFile { path, len });
             }
             return Ok(Vec::new(self.root.rt.alloc()));
         }

@@ -42,7 +42,7 @@ fn has_slash(name: &[u8]) -> bool
 }
 
 // Returns the last name of a path, if the path is directly in the folder.
-fn direct_name<'a>(folder: &[u8], path: &'a [u8]) -> Option<&'a [u8]>
+fn child_name<'a>(folder: &[u8], path: &'a [u8]) -> Option<&'a [u8]>
     ensures { MatchOption result (is_directly_in folder.now path.now ≡ false)
         (λ name. (is_directly_in folder.now path.now ≡ true) × (name.now ≡ drop (length folder.now + 1) path.now)) }
 {
@@ -64,7 +64,7 @@ fn memory_entry_kind(held: &SourceEntry) -> SourceKind
 }
 
 // Appends the name of an entry, if the entry is directly in the folder.
-fn push_direct_name(
+fn push_child_name(
     alloc: Global,
     names: &mut Vec<ListedName>,
     folder: &[u8],
@@ -73,7 +73,7 @@ fn push_direct_name(
     ensures names { OnOk result (map listed_view names.new.items ≡ map listed_view names.old.items ++ name_in_folder folder.now (memory_view held.now)) }
     ensures memory { (e : _) → result ≡ Err e → e ≡ FileError.NoMemory }
 {
-    let Some(name) = direct_name(folder, held.path.as_slice()) else {
+    let Some(name) = child_name(folder, held.path.as_slice()) else {
         return Ok(());
     };
     let name = copy_bytes(alloc, name)?;
@@ -87,7 +87,7 @@ fn push_direct_name(
 }
 
 // Returns the names of the entries that are directly in the folder.
-fn direct_names(
+fn child_names(
     alloc: Global,
     held: &[SourceEntry],
     folder: &[u8],
@@ -97,7 +97,7 @@ fn direct_names(
 {
     let mut names = Vec::new(alloc);
     for one in held {
-        push_direct_name(alloc, &mut names, folder, one)?;
+        push_child_name(alloc, &mut names, folder, one)?;
     }
     Ok(names)
 }
@@ -114,7 +114,7 @@ impl Source for MemorySource {
         ensures never { ¬ IsErrOf result FileError.Fault }
     {
         self.has_failed = false;
-        direct_names(alloc, self.held.as_slice(), folder)
+        child_names(alloc, self.held.as_slice(), folder)
     }
 
     fn read(&mut self, alloc: Global, file: &[u8], _listed_len: u64) -> Result<Vec<u8>, FileError>

@@ -3,7 +3,7 @@
 ghost use Rattle.std.specs.Prelude.{◌≡◌, ◌+◌, ◌≤◌, IfErr, IfOk, IfSome, OnErr, OnOk, false, is_some, length, take, true};
 ghost use Rattle.std.specs.Io.{ReadsAtMost};
 ghost use Rattle.std.specs.Io.KnownBytes.{Appends, Keeps, ReadConsumes};
-ghost use Rattle.lfs_tool.specs.KnownBytes.{AppendsBeginning, IsReaderError};
+ghost use Rattle.lfs_tool.specs.KnownBytes.{AppendsPrefix, IsReadError};
 ghost use Rattle.lfs_tool.specs.Reports.{IsReadToEnd};
 ghost use Rattle.lfs_tool.specs.Streams.{has_failed, has_shown, stream_inner};
 
@@ -93,7 +93,7 @@ pub fn read_image<R: Read>(
     ensures bound { IfOk result (λ v. length v.items ≤ IMAGE_MAX + 1) }
     ensures read { OnOk result (IsReadToEnd (R.remaining (stream_inner image.old)) (R.remaining (stream_inner image.new))) }
     ensures kept { OnOk result (has_failed image.new ≡ false) }
-    ensures err { IfErr result (λ e. IsReaderError e (has_failed image.new)) }
+    ensures err { IfErr result (λ e. IsReadError e (has_failed image.new)) }
 {
     image.fault = None;
     let mut bytes = Vec::with_capacity(alloc, expected.min(IMAGE_MAX + 1))?;
@@ -139,7 +139,7 @@ fn read_part<R: Read>(image: &mut Stream<R>, buf: &mut [u8]) -> Result<usize, To
 /// `Output` if the writer fails.
 pub fn write_and_flush<W: Write>(out: &mut Stream<W>, bytes: &[u8]) -> Result<(), ToolError>
     ensures ok { OnOk result (Appends (W.contents (stream_inner out.old)) (W.contents (stream_inner out.new)) bytes.now) }
-    ensures beginning { AppendsBeginning (W.contents (stream_inner out.old)) (W.contents (stream_inner out.new)) bytes.now }
+    ensures beginning { AppendsPrefix (W.contents (stream_inner out.old)) (W.contents (stream_inner out.new)) bytes.now }
     ensures kept { OnOk result (has_failed out.new ≡ false) }
     ensures failed { OnErr result ((result ≡ Err ToolError.Output) × (has_failed out.new ≡ true)) }
 {
@@ -153,7 +153,7 @@ pub fn write_and_flush<W: Write>(out: &mut Stream<W>, bytes: &[u8]) -> Result<()
 #[tactic(auto, using(crate::proofs::KnownBytes::appends_more, crate::proofs::KnownBytes::appends_kept))]
 fn write_bytes<W: Write>(out: &mut Stream<W>, bytes: &[u8]) -> Result<(), ToolError>
     ensures ok { OnOk result (Appends (W.contents (stream_inner out.old)) (W.contents (stream_inner out.new)) bytes.now) }
-    ensures beginning { AppendsBeginning (W.contents (stream_inner out.old)) (W.contents (stream_inner out.new)) bytes.now }
+    ensures beginning { AppendsPrefix (W.contents (stream_inner out.old)) (W.contents (stream_inner out.new)) bytes.now }
     ensures kept { OnOk result (has_failed out.new ≡ has_failed out.old) }
     ensures failed { OnErr result ((result ≡ Err ToolError.Output) × (has_failed out.new ≡ true)) }
 {

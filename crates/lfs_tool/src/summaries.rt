@@ -10,7 +10,7 @@ ghost use Rattle.lfs_model.specs.tree.View.{IsAccepted};
 ghost use Rattle.lfs_tag.specs.FieldsView.{move_view};
 ghost use Rattle.lfs_thread.specs.ThreadSteps.{OnlyReadsThread};
 ghost use Rattle.lfs_lookup.specs.Items.{owned_view};
-ghost use Rattle.lfs_tool.specs.ImageSummaries.{HasSummary, IsSuperblockTold, lesser_inline_max, is_file_item, is_file_struct, gstate_needs_recovery};
+ghost use Rattle.lfs_tool.specs.ImageSummaries.{HasSummary, IsReportedSuperblock, lowered_inline_max, is_file_item, is_file_struct, gstate_needs_recovery};
 
 use crate::verdict::ImageSummary;
 use lfs_device::{BlockDevice, Error, Geometry, Profile};
@@ -50,8 +50,8 @@ fn has_unfinished_operation(state: &MoveState) -> bool
 
 // Returns the profile's limit for inline files in bytes, or None unless it is less than what the
 // block size allows.
-fn lesser_inline_max(geometry: &Geometry) -> Option<u32>
-    ensures { result ≡ lesser_inline_max geometry.now.profile geometry.now.block_size }
+fn lowered_inline_max(geometry: &Geometry) -> Option<u32>
+    ensures { result ≡ lowered_inline_max geometry.now.profile geometry.now.block_size }
 {
     let most = (geometry.block_size / 8).min(1022);
     let inline_max = geometry.profile.inline_max;
@@ -65,7 +65,7 @@ fn is_default_profile(profile: &Profile) -> bool
 }
 
 // Returns the superblock of the image, or None if the profile is the default one.
-fn superblock_to_tell<D: BlockDevice>(
+fn superblock_to_report<D: BlockDevice>(
     alloc: Global,
     thread: &mut Thread<D>,
     root: usize,
@@ -73,7 +73,7 @@ fn superblock_to_tell<D: BlockDevice>(
     requires works { thread.old.failed ≡ false }
     requires accepted { IsAccepted thread.old.kept.disk thread.old.kept.pairs }
     requires root { root ≡ count_before_root thread.old.kept.pairs }
-    ensures told { IfOk result (IsSuperblockTold thread.old.kept.disk.profile thread.old.kept.pairs) }
+    ensures told { IfOk result (IsReportedSuperblock thread.old.kept.disk.profile thread.old.kept.pairs) }
     ensures only { (OnlyReadsThread thread.old.kept thread.new.kept) × (thread.new.failed ≡ false) }
 {
     let geometry = thread.geometry();
@@ -97,7 +97,7 @@ pub(crate) fn summary_of_thread<D: BlockDevice>(
     ensures only { OnOk result (OnlyReadsThread thread.old.kept thread.new.kept) }
 {
     let items = walk_tree(alloc, thread)?;
-    let superblock = superblock_to_tell(alloc, thread, root)?;
+    let superblock = superblock_to_report(alloc, thread, root)?;
     let breach = find_profile_breach(alloc, thread, root)?;
     let files = count_files(&items);
     let state = thread.state();
@@ -109,7 +109,7 @@ pub(crate) fn summary_of_thread<D: BlockDevice>(
         blocks: geometry.block_count,
         recover: has_unfinished_operation(&state),
         superblock,
-        inline_max: lesser_inline_max(&geometry),
+        inline_max: lowered_inline_max(&geometry),
         breach,
     })
 }

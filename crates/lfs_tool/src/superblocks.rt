@@ -3,7 +3,7 @@
 ghost use Rattle.std.specs.Prelude.{◌≡◌, ◌⊎◌, ◌<◌, ◌/◌, ◌^◌, IfSome, None, length};
 ghost use Rattle.lfs_model.specs.format.EntryTypes.{SuperblockFields};
 ghost use Rattle.lfs_tag.specs.FieldsView.{superblock_view};
-ghost use Rattle.lfs_tool.specs.WrongNumbers.{AreFieldsRight, SuperblocksAreRight, IsSuperblockWrong, IsWrongField, IsSuperblockAt, IsFirstSuperblock};
+ghost use Rattle.lfs_tool.specs.WrongNumbers.{AreFieldsRight, SuperblocksAreRight, HasWrongSuperblockField, IsWrongField, IsSuperblockAt, IsFirstSuperblock};
 
 use crate::verdict::WrongNumber;
 use lfs_device::AcceptedVersions;
@@ -15,7 +15,7 @@ const FIRST_ENTRIES: &[u8] = b"\xf0\x0f\xff\xf7littlefs\x2f\xe0\x00\x10";
 
 // Returns the first of these fields that is wrong, or None if all are right. A right superblock
 // states `block_size`, `count` blocks and an accepted version.
-pub(crate) fn wrong_number_in(
+pub(crate) fn wrong_field_of(
     block_size: u32,
     count: usize,
     versions: AcceptedVersions,
@@ -72,7 +72,7 @@ pub fn image_superblock_at(bytes: &[u8]) -> Option<Superblock>
 
 // Returns the first field of the superblock at an offset that is wrong for these bytes, or None if
 // there is none.
-fn wrong_number_at(
+fn wrong_field_at(
     bytes: &[u8],
     block_size: u32,
     versions: AcceptedVersions,
@@ -80,12 +80,12 @@ fn wrong_number_at(
 ) -> Option<WrongNumber>
     requires size { 0 < block_size }
     requires from { (from ≡ 0) ⊎ (from ≡ block_size) }
-    ensures found { IfSome result (IsSuperblockWrong bytes.now block_size versions) }
+    ensures found { IfSome result (HasWrongSuperblockField bytes.now block_size versions) }
     ensures none { result ≡ None → (fields : SuperblockFields) → IsSuperblockAt bytes.now from fields → AreFieldsRight block_size (length bytes.now / block_size) versions fields }
 {
     let count = bytes.len() / block_size as usize;
     match fields_at_offset(bytes, from) {
-        Some(fields) => wrong_number_in(block_size, count, versions, &fields),
+        Some(fields) => wrong_field_of(block_size, count, versions, &fields),
         None => None,
     }
 }
@@ -97,19 +97,19 @@ fn wrong_number_at(
 ///
 /// Returns None if and only if neither superblock has a wrong number. A block that doesn't begin
 /// with a superblock has no wrong number. If `block_size` is 0, the result is None.
-pub fn image_wrong_number(
+pub fn wrong_superblock_field(
     bytes: &[u8],
     block_size: u32,
     versions: AcceptedVersions,
 ) -> Option<WrongNumber>
-    ensures found { IfSome result (IsSuperblockWrong bytes.now block_size versions) }
+    ensures found { IfSome result (HasWrongSuperblockField bytes.now block_size versions) }
     ensures none { result ≡ None → SuperblocksAreRight bytes.now block_size versions }
 {
     if block_size == 0 {
         return None;
     }
-    match wrong_number_at(bytes, block_size, versions, 0) {
+    match wrong_field_at(bytes, block_size, versions, 0) {
         Some(stated) => Some(stated),
-        None => wrong_number_at(bytes, block_size, versions, block_size as usize),
+        None => wrong_field_at(bytes, block_size, versions, block_size as usize),
     }
 }

@@ -112,7 +112,7 @@ fn create_replacement_file<R: Files>(
 }
 
 // Creates the file for a path, depending on what is at the path.
-fn create_by_state<R: Files>(
+fn create_for_path<R: Files>(
     files: &R,
     paths: &mut ImagePaths,
     standing: PathState,
@@ -138,7 +138,7 @@ pub(crate) fn create_image_file<R: Files>(
     ensures beside { IfOk result (λ made. made.1 ≡ true → IsNumberedPath (string_bytes paths.old.path) (string_bytes paths.new.beside)) }
 {
     let found = fs::symlink_metadata(files, paths.path.as_str());
-    create_by_state(files, paths, state_of_metadata(found))
+    create_for_path(files, paths, state_of_metadata(found))
 }
 
 // Renames the temporary file to its path. If the system refuses the rename, for example because the

@@ -3,14 +3,14 @@
 ghost use Rattle.std.specs.Prelude.{◌≡◌, ◌⊎◌, ◌<◌, ◌^◌, IfErr, IfOk, OnErr, OnOk, false, length};
 ghost use Rattle.lfs_device.specs.RamDevice.{ram_blocks, ram_geometry};
 ghost use Rattle.lfs_device.specs.DeviceDisk.{disk_of_blocks as shown};
-ghost use Rattle.lfs_model.specs.tree.View.{IsFormedList};
+ghost use Rattle.lfs_model.specs.tree.View.{IsWellFormedList};
 ghost use Rattle.lfs_tool.specs.Actions.{AddsAction};
-ghost use Rattle.lfs_tool.specs.Unpackings.{HaveFormedLists, FailsUnpackingDisk, FailsUnpackingImage, IsMountedStill, ActionsPartlyDone, HasDoneActions, HasUnpackedDisk, HasUnpackedImage, ReportsTargetFaults, place_action, place_actions};
+ghost use Rattle.lfs_tool.specs.Unpackings.{HaveWellFormedLists, FailsUnpackingDisk, FailsUnpackingImage, IsStillMounted, HasDoneActionsPrefix, HasDoneActions, HasUnpackedDisk, HasUnpackedImage, ReportsTargetFaults, path_struct_action, path_struct_actions};
 ghost use Rattle.lfs_thread.specs.ThreadSteps.{OnlyReadsThread};
 ghost use Rattle.lfs_lookup.specs.FileBytes.{struct_file_bytes};
 ghost use Rattle.lfs_lookup.specs.Items.{owned_view};
 ghost use Rattle.lfs_lookup.specs.TreeWalk.{tree_item_view, tree_items_view};
-ghost use Rattle.lfs_tool.specs.Reports.{ReportsFault};
+ghost use Rattle.lfs_tool.specs.Reports.{ReportsNewFault};
 ghost use Rattle.lfs_model.specs.format.Disk.{Disk, disk_of_image};
 ghost use Rattle.lfs_model.specs.declared.order.NameOrder.TheVariants.{LongerFirst};
 
@@ -28,7 +28,7 @@ fn file_bytes(
     structure: &OwnedStruct,
 ) -> Result<Vec<u8>, ToolError>
     requires works { thread.old.failed ≡ false }
-    requires list { IsFormedList thread.old.kept.disk (owned_view structure.now) }
+    requires list { IsWellFormedList thread.old.kept.disk (owned_view structure.now) }
     ensures bytes { IfOk result (λ bytes. bytes.items ≡ struct_file_bytes thread.old.kept.disk (owned_view structure.now)) }
     ensures only { OnlyReadsThread thread.old.kept thread.new.kept }
     ensures works { thread.new.failed ≡ false }
@@ -61,7 +61,7 @@ fn put_item_bytes<T: Target>(
     bytes: &[u8],
     target: &mut T,
 ) -> Result<(), ToolError>
-    ensures done { (disk : Disk) → bytes.now ≡ struct_file_bytes disk (owned_view item.now.structure) → OnOk result (AddsAction (T.done target.old) (T.done target.new) (place_action disk (tree_item_view item.now))) }
+    ensures done { (disk : Disk) → bytes.now ≡ struct_file_bytes disk (owned_view item.now.structure) → OnOk result (AddsAction (T.done target.old) (T.done target.new) (path_struct_action disk (tree_item_view item.now))) }
     ensures undone { OnErr result (T.done target.new ≡ T.done target.old) }
     ensures reports { ReportsTargetFaults (T.has_failed target.old) (T.has_failed target.new) result }
 {
@@ -82,8 +82,8 @@ fn unpack_tree_item<T: Target>(
     target: &mut T,
 ) -> Result<(), ToolError>
     requires works { thread.old.failed ≡ false }
-    requires list { IsFormedList thread.old.kept.disk (owned_view item.now.structure) }
-    ensures done { OnOk result (AddsAction (T.done target.old) (T.done target.new) (place_action thread.old.kept.disk (tree_item_view item.now))) }
+    requires list { IsWellFormedList thread.old.kept.disk (owned_view item.now.structure) }
+    ensures done { OnOk result (AddsAction (T.done target.old) (T.done target.new) (path_struct_action thread.old.kept.disk (tree_item_view item.now))) }
     ensures undone { OnErr result (T.done target.new ≡ T.done target.old) }
     ensures only { (OnlyReadsThread thread.old.kept thread.new.kept) × (thread.new.failed ≡ false) }
     ensures reports { ReportsTargetFaults (T.has_failed target.old) (T.has_failed target.new) result }
@@ -116,9 +116,9 @@ fn unpack_tree_items<T: Target, F: FollowsProgress>(
     progress: &mut F,
 ) -> Result<(), ToolError>
     requires works { thread.old.failed ≡ false }
-    requires lists { HaveFormedLists thread.old.kept.disk (tree_items_view items.now) }
-    ensures done { OnOk result (HasDoneActions (T.done target.old) (T.done target.new) (place_actions thread.old.kept.disk (tree_items_view items.now))) }
-    ensures begun { OnErr result (ActionsPartlyDone (T.done target.old) (T.done target.new) (place_actions thread.old.kept.disk (tree_items_view items.now))) }
+    requires lists { HaveWellFormedLists thread.old.kept.disk (tree_items_view items.now) }
+    ensures done { OnOk result (HasDoneActions (T.done target.old) (T.done target.new) (path_struct_actions thread.old.kept.disk (tree_items_view items.now))) }
+    ensures begun { OnErr result (HasDoneActionsPrefix (T.done target.old) (T.done target.new) (path_struct_actions thread.old.kept.disk (tree_items_view items.now))) }
     ensures only { OnOk result ((OnlyReadsThread thread.old.kept thread.new.kept) × (thread.new.failed ≡ false)) }
     ensures reports { ReportsTargetFaults (T.has_failed target.old) (T.has_failed target.new) result }
 {
@@ -137,9 +137,9 @@ fn unpack_ram_device<T: Target, F: FollowsProgress>(
     progress: &mut F,
 ) -> Result<MountedImage, ToolError>
     ensures done { OnOk result (HasUnpackedDisk (shown (ram_geometry device) (ram_blocks device)) (T.done target.old) (T.done target.new)) }
-    ensures mounted { IfOk result (IsMountedStill (shown (ram_geometry device) (ram_blocks device))) }
+    ensures mounted { IfOk result (IsStillMounted (shown (ram_geometry device) (ram_blocks device))) }
     ensures failed { IfErr result (FailsUnpackingDisk (shown (ram_geometry device) (ram_blocks device)) (T.done target.old) (T.done target.new)) }
-    ensures output { ReportsFault ToolError.Output (T.has_failed target.old) (T.has_failed target.new) result }
+    ensures output { ReportsNewFault ToolError.Output (T.has_failed target.old) (T.has_failed target.new) result }
 {
     let mut image = match mount_and_walk(alloc, device) {
         Ok(image) => image,
@@ -167,11 +167,11 @@ pub fn unpack<T: Target, F: FollowsProgress>(
     progress: &mut F,
 ) -> Result<MountedImage, ToolError>
     ensures done { OnOk result (HasUnpackedImage layout image.items (T.done target.old) (T.done target.new)) }
-    ensures mounted { IfOk result (IsMountedStill (disk_of_image layout.block_size layout.page layout.profile LongerFirst image.items)) }
+    ensures mounted { IfOk result (IsStillMounted (disk_of_image layout.block_size layout.page layout.profile LongerFirst image.items)) }
 
     // If the target failed or memory ran out, only the first actions, if any, have been done.
     ensures failed { IfErr result (FailsUnpackingImage layout image.items (T.done target.old) (T.done target.new)) }
-    ensures output { ReportsFault ToolError.Output (T.has_failed target.old) (T.has_failed target.new) result }
+    ensures output { ReportsNewFault ToolError.Output (T.has_failed target.old) (T.has_failed target.new) result }
 {
     match ram_device_of(image, layout) {
         Ok(device) => unpack_ram_device(alloc, device, target, progress),

@@ -73,7 +73,7 @@ fn bad_size<'a>(matches: &ArgMatches<'a>, id: &str) -> Option<&'a str>
 
 // Returns the first of these options whose value isn't a number, with that value.
 #[tactic(auto, using(crate::proofs::Table::bad_found, crate::proofs::Table::good_passed, crate::proofs::Table::none_bad))]
-fn bad_number_among<'a>(
+fn first_invalid_number<'a>(
     matches: &ArgMatches<'a>,
     ids: &[&'static str],
 ) -> Option<(&'static str, &'a str)>
@@ -111,5 +111,5 @@ pub(crate) fn first_bad_number<'a>(matches: &ArgMatches<'a>) -> Option<(&'static
     if let Some(text) = bad_size(matches, "size") {
         return Some(("size", text));
     }
-    bad_number_among(matches, &NUMBERS)
+    first_invalid_number(matches, &NUMBERS)
 }

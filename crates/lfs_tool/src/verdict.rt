@@ -1,7 +1,7 @@
 // The verdict on an image, and the result of a check.
 
 ghost use Rattle.std.specs.Prelude.{◌≡◌, ℕ, List, length};
-ghost use Rattle.lfs_tool.specs.CheckResults.{AreGivenSizes};
+ghost use Rattle.lfs_tool.specs.CheckResults.{AreCheckedSizes};
 
 use crate::ImageLayout;
 use lfs_model::{ProfileBreach, Violation};
@@ -75,19 +75,19 @@ pub enum WrongNumber {
 /// number of whole blocks. If the bytes are from `read_image` and exceed the largest image, `size`
 /// is the largest size plus one.
 #[derive(Clone, Copy, Debug, PartialEq, Eq, Drop)]
-pub struct GivenSizes {
+pub struct CheckedSizes {
     pub block_size: u32,
     pub page: u32,
     pub size: usize,
     pub blocks: usize,
 }
 
-impl GivenSizes {
+impl CheckedSizes {
     // Returns the sizes with which an image of `len` bytes is checked.
-    pub(crate) fn of(len: usize, layout: ImageLayout) -> GivenSizes
-        ensures { (image : List ℕ) → length image ≡ len → AreGivenSizes layout image result }
+    pub(crate) fn of(len: usize, layout: ImageLayout) -> CheckedSizes
+        ensures { (image : List ℕ) → length image ≡ len → AreCheckedSizes layout image result }
     {
-        GivenSizes {
+        CheckedSizes {
             block_size: layout.block_size,
             page: layout.page,
             size: len,
@@ -117,6 +117,6 @@ pub enum CheckResult {
     },
     Refused {
         reason: RefusalReason,
-        given: GivenSizes,
+        given: CheckedSizes,
     },
 }

@@ -4,10 +4,10 @@
 ghost use Rattle.std.specs.Prelude.{◌≡◌, IfErr, IfOk};
 
 use crate::ImageLayout;
-use crate::found_thread::{FoundSlot, FoundThread, current_block, escaped_name};
-use crate::number_text::{PairText, WrongNumberText};
-use crate::superblocks::wrong_number_in;
-use crate::verdict::{BrokenRule, GivenSizes};
+use crate::number_text::{PairText, WrongFieldText};
+use crate::scanned_pairs::{ScannedPairs, ScannedSlot, current_block, escaped_name};
+use crate::superblocks::wrong_field_of;
+use crate::verdict::{BrokenRule, CheckedSizes};
 use lfs_device::{BlockDevice, Error, RamDevice};
 use lfs_file::walk;
 use lfs_lookup::OwnedStruct;
@@ -19,7 +19,11 @@ use std::alloc::{AllocError, Global};
 // ---- rules of one pair
 
 // Returns the line that says why a metadata pair has no valid contents.
-fn no_content_line(alloc: Global, device: &mut RamDevice, pair: [u32; 2]) -> Result<String, Error> {
+fn invalid_pair_line(
+    alloc: Global,
+    device: &mut RamDevice,
+    pair: [u32; 2],
+) -> Result<String, Error> {
     let at = PairText(pair);
     let Some(block) = current_block(alloc, device, pair)? else {
         return Ok(format!(in alloc; "{at}: no commit with a right checksum")?);
@@ -52,7 +56,7 @@ fn no_superblock_line(alloc: Global) -> Result<String, AllocError> {
 // ---- rules of the tail list
 
 // Returns why a slot isn't a valid entry.
-fn entry_flaw(slot: &FoundSlot) -> &'static str {
+fn invalid_entry_reason(slot: &ScannedSlot) -> &'static str {
     match (slot.kind, &slot.structure) {
         (SlotNameKind::Superblock, _) => "is a second superblock",
         (SlotNameKind::File, OwnedStruct::Branch(_)) => "has another kind's struct",
@@ -80,18 +84,18 @@ fn has_list_block(
     }
 }
 
-impl FoundThread {
+impl ScannedPairs {
     // Returns the wrong number of the superblock in a slot, or None if it has none.
-    fn wrong_number(&self, slot: &FoundSlot) -> Option<WrongNumberText> {
+    fn wrong_number(&self, slot: &ScannedSlot) -> Option<WrongFieldText> {
         let OwnedStruct::Inline(bytes) = &slot.structure else {
             return None;
         };
         let fields = superblock_of(<&[u8; 24]>::try_from(bytes.as_slice()).ok()?);
         let (size, blocks) = (self.geometry.block_size, self.geometry.block_count as usize);
-        let stated = wrong_number_in(size, blocks, self.geometry.profile.versions, &fields)?;
+        let stated = wrong_field_of(size, blocks, self.geometry.profile.versions, &fields)?;
         let layout = ImageLayout::new(size, self.geometry.page);
-        let given = GivenSizes::of(size as usize * blocks, layout);
-        Some(WrongNumberText { given, stated })
+        let given = CheckedSizes::of(size as usize * blocks, layout);
+        Some(WrongFieldText { given, stated })
     }
 
     fn first_superblock_line(&self, pair: [u32; 2]) -> Result<String, AllocError> {
@@ -125,7 +129,11 @@ impl FoundThread {
     // Returns the line for two neighbouring names that are out of order. If no two names are out of
     // order in both orders, the line has two such pairs of names, one for each order. The second of
     // these may be in another directory, which the rule `other` states.
-    fn names_line(&self, pair: [u32; 2], other: Violation) -> Result<String, AllocError> {
+    fn misordered_names_line(
+        &self,
+        pair: [u32; 2],
+        other: Violation,
+    ) -> Result<String, AllocError> {
         let other = match other {
             Violation::Names { pair } => pair,
             _ => pair,
@@ -135,9 +143,9 @@ impl FoundThread {
         let (Some(one), Some(two)) = (one, two) else {
             return Ok(String::new(self.alloc));
         };
-        if !one.names_rise(NameOrder::ShorterFirst) {
+        if !one.are_names_ascending(NameOrder::ShorterFirst) {
             format!(in self.alloc; "{one}")
-        } else if !two.names_rise(NameOrder::LongerFirst) {
+        } else if !two.are_names_ascending(NameOrder::LongerFirst) {
             format!(in self.alloc; "{two}")
         } else {
             format!(in self.alloc; "names in two orders: {one}, and {two}")
@@ -146,7 +154,7 @@ impl FoundThread {
 
     // Returns the line for the first entry of a directory that points to a pair where no directory
     // begins.
-    fn branch_line(&self, pair: [u32; 2]) -> Result<String, AllocError> {
+    fn dangling_directory_line(&self, pair: [u32; 2]) -> Result<String, AllocError> {
         for slot in &self.slots {
             if let Some(to) = slot.branch() {
                 if self.is_entry_in(slot, pair) && !self.has_directory(to) {
@@ -162,10 +170,10 @@ impl FoundThread {
 
     // Returns the line for two entries that point to the same directory, or for one that points to
     // the root.
-    fn two_paths_line(&self, pair: [u32; 2]) -> Result<String, AllocError> {
+    fn directory_paths_line(&self, pair: [u32; 2]) -> Result<String, AllocError> {
         let root = self.directories.first().copied();
         let is_root = root.is_some_and(|root| is_same_pair(root, pair));
-        match self.entries_naming(pair)?.as_slice() {
+        match self.entries_pointing_to(pair)?.as_slice() {
             [one, ..] if is_root => format!(in self.alloc; "{one} leads to the root directory"),
             [one, other, ..] => {
                 format!(in self.alloc; "{other} leads to the same directory as {one}")
@@ -174,20 +182,20 @@ impl FoundThread {
         }
     }
 
-    fn pair_with_block(&self, block: u32) -> Option<[u32; 2]> {
+    fn pair_containing_block(&self, block: u32) -> Option<[u32; 2]> {
         self.pairs.iter().copied().find(|p| p.contains(&block))
     }
 
     // Returns the line for a block that an entry's file shares with a metadata pair or with another
     // file.
-    fn two_owners_line(
+    fn shared_block_line(
         &self,
         device: &mut RamDevice,
-        slot: &FoundSlot,
+        slot: &ScannedSlot,
         block: u32,
     ) -> Result<String, Error> {
         let alloc = self.alloc;
-        if let Some(pair) = self.pair_with_block(block) {
+        if let Some(pair) = self.pair_containing_block(block) {
             let at = PairText(pair);
             return Ok(format!(in alloc; "block {block}: in {at} and in a file, {slot}")?);
         }
@@ -204,7 +212,11 @@ impl FoundThread {
     }
 
     // Returns the line for a rule that refers to a slot.
-    fn slot_line(&self, device: &mut RamDevice, violation: Violation) -> Result<String, Error> {
+    fn slot_violation_line(
+        &self,
+        device: &mut RamDevice,
+        violation: Violation,
+    ) -> Result<String, Error> {
         let (pair, number) = match violation {
             Violation::Entry { pair, slot }
             | Violation::List { pair, slot }
@@ -215,18 +227,18 @@ impl FoundThread {
             return Ok(String::new(self.alloc));
         };
         let line = match violation {
-            Violation::TwoOwners { block, .. } => self.two_owners_line(device, slot, block)?,
+            Violation::TwoOwners { block, .. } => self.shared_block_line(device, slot, block)?,
             Violation::List { .. } => {
                 format!(in self.alloc; "{slot} has a list with a wrong size, block or pointer")?
             }
-            _ => format!(in self.alloc; "{slot} {}", entry_flaw(slot))?,
+            _ => format!(in self.alloc; "{slot} {}", invalid_entry_reason(slot))?,
         };
         Ok(line)
     }
 }
 
 // Returns the line for a rule that needs all metadata pairs to be read again.
-fn thread_line(
+fn thread_violation_line(
     alloc: Global,
     device: &mut RamDevice,
     violation: Violation,
@@ -236,23 +248,23 @@ fn thread_line(
         Violation::TwoPairs { pair, .. } => Some(pair),
         _ => None,
     };
-    let thread = FoundThread::read(alloc, device, stop)?;
+    let thread = ScannedPairs::read(alloc, device, stop)?;
     let line = match violation {
         Violation::Superblock { pair } => thread.first_superblock_line(pair)?,
         Violation::OtherSuperblock { pair } => thread.other_superblock_line(pair)?,
         Violation::TwoPairs { pair, block } => {
-            let [a, b] = thread.pair_with_block(block).unwrap_or(pair);
+            let [a, b] = thread.pair_containing_block(block).unwrap_or(pair);
             let [c, d] = pair;
             format!(in alloc; "block {block}: in two pairs, {a} {b} and {c} {d}")?
         }
-        Violation::Names { pair } => thread.names_line(pair, other)?,
-        Violation::Branch { pair } => thread.branch_line(pair)?,
-        Violation::TwoPaths { pair } => thread.two_paths_line(pair)?,
+        Violation::Names { pair } => thread.misordered_names_line(pair, other)?,
+        Violation::Branch { pair } => thread.dangling_directory_line(pair)?,
+        Violation::TwoPaths { pair } => thread.directory_paths_line(pair)?,
         Violation::Move if thread.state.kind == 0 => {
             format!(in alloc; "global state: no move is set, but it names a slot")?
         }
         Violation::Move => format!(in alloc; "global state: its move names no entry")?,
-        _ => thread.slot_line(device, violation)?,
+        _ => thread.slot_violation_line(device, violation)?,
     };
     Ok(line)
 }
@@ -260,7 +272,7 @@ fn thread_line(
 // ---- all rules
 
 // Returns the line for a rule. In the other order of names, the image breaks the rule `other`.
-fn rule_line(
+fn broken_rule_text(
     alloc: Global,
     device: &mut RamDevice,
     violation: Violation,
@@ -283,8 +295,8 @@ fn rule_line(
             "{}: no path leads to its directory, and the sync bit is clear",
             PairText(pair)
         )?,
-        Violation::NoContent { pair } => no_content_line(alloc, device, pair)?,
-        _ => thread_line(alloc, device, violation, other)?,
+        Violation::NoContent { pair } => invalid_pair_line(alloc, device, pair)?,
+        _ => thread_violation_line(alloc, device, violation, other)?,
     };
     Ok(line)
 }
@@ -301,7 +313,7 @@ pub(crate) fn broken_rule(
     ensures err { IfErr result (λ e. e ≡ Error.NoMemory) }
 {
     let mut device = device;
-    match rule_line(alloc, &mut device, violation, other) {
+    match broken_rule_text(alloc, &mut device, violation, other) {
         Ok(line) => Ok(BrokenRule {
             violation,
             line: line.into_bytes(),

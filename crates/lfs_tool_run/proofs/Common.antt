@@ -6,9 +6,9 @@ pub use Rattle.lfs_model.proofs.Counts.{Each, each_append, each_both, each_right
 pub use Rattle.lfs_model.proofs.Kept.{fresh_defined}
 pub use Rattle.lfs_model.proofs.Names.{greater}
 pub use Rattle.lfs_model.proofs.Paths.{append_step, not_longer}
-pub use Rattle.lfs_model.specs.format.Disk.{Disk, block_count, disk_of_image, ordered_disk}
+pub use Rattle.lfs_model.specs.format.Disk.{Disk, block_count, disk_of_image, disk_with_order}
 pub use Rattle.lfs_model.specs.format.Names.{Name, is_component, name_cmp}
-pub use Rattle.lfs_model.specs.layers.Listing.{new_flags, node_copies}
+pub use Rattle.lfs_model.specs.layers.Listing.{new_flags, node_copy_operations}
 pub use Rattle.lfs_model.specs.layers.Source.{AFile, AFolder, IsSourceNode, IsSourceTree, TreeSource, is_named_folder, node_at, path_in_folder, source_names}
 pub use Rattle.lfs_model.specs.session.Headline.{session_after_all}
 pub use Rattle.lfs_model.specs.session.History.{fault_count}
@@ -21,8 +21,8 @@ pub use Rattle.lfs_model.specs.session.TreeEdits.{names_with, node_with_names, s
 pub use Rattle.lfs_model.specs.tree.Fresh.{IsFreshDisk, empty_tree}
 pub use Rattle.lfs_model.specs.tree.Tree.{DirectoryNode, FileNode, Node, Path, Tree}
 pub use Rattle.lfs_model.specs.tree.View.{IsAccepted}
-pub use Rattle.lfs_tool_run.specs.AppliedOperations.{AppliesUntilError, AreApplied, HealthyWithoutFiles, IsFirstRefusal, RunsToError, entries_operations, entry_operations, node_of_optional}
-pub use Rattle.lfs_tool_run.specs.MadeImages.{RefusesEntries}
+pub use Rattle.lfs_tool_run.specs.AppliedOperations.{AppliesUntilError, AreApplied, IsHealthyWithoutFiles, IsFirstRefusal, AppliesUpToError, entries_operations, entry_operations, node_of_optional_bytes}
+pub use Rattle.lfs_tool_run.specs.MadeImages.{IsFirstEntriesRefusal}
 pub use Rattle.lfs_tool.specs.MemorySources.{optional_bytes_view}
 pub use Rattle.lfs_tool.specs.SourceEntries.{AreDepthFirst, AreSortedFolderNames, AreSourceEntries, HasSourceContents, PathAndKind, paths_in_folder}
 pub use Rattle.std.proofs.lemmas.Grind.{flat_map-append}

@@ -1,9 +1,9 @@
 -- Entries come into a tree one after another, each folder before what stands in it. What they make is the source's tree.
 use Rattle.std.proofs.Common.{ℕ, zero, suc, ◌≡◌, ◌∙◌, ◌≤◌, ◌++◌, Bool, true, false, cond, List, [], ◌∷◌, length, Option, Some, None, refl, sym, ap, subst, arith, append_assoc, append-nil, length-append, option_and_then, option_map}
-use Rattle.lfs_tool_run.proofs.Common.{IsPermutation-map, recursion_from_All, Name, is_component, name_cmp, Path, FileNode, DirectoryNode, Tree, tree_creating, names_with, node_with_names, empty_tree, path_bytes, AFile, AFolder, IsSourceTree, IsSourceNode, TreeSource, is_named_folder, source_names, path_in_folder, node_at, path_or_root, Each, each_append, each_both, each_weaker, append_step, not_longer, optional_bytes_view, AreSourceEntries, AreDepthFirst, AreSortedFolderNames, HasSourceContents, PathAndKind, paths_in_folder, node_of_optional}
+use Rattle.lfs_tool_run.proofs.Common.{IsPermutation-map, recursion_from_All, Name, is_component, name_cmp, Path, FileNode, DirectoryNode, Tree, tree_creating, names_with, node_with_names, empty_tree, path_bytes, AFile, AFolder, IsSourceTree, IsSourceNode, TreeSource, is_named_folder, source_names, path_in_folder, node_at, path_or_root, Each, each_append, each_both, each_weaker, append_step, not_longer, optional_bytes_view, AreSourceEntries, AreDepthFirst, AreSortedFolderNames, HasSourceContents, PathAndKind, paths_in_folder, node_of_optional_bytes}
 use Rattle.std.specs.declared.cmp.Ordering.TheVariants.{Less}
 use Rattle.lfs_model.specs.declared.order.NameOrder.TheVariants.{ShorterFirst}
-use Rattle.lfs_model.specs.layers.Source.{SourceNode, file_at_end}
+use Rattle.lfs_model.specs.layers.Source.{SourceNode, source_file_node}
 use Rattle.lfs_model.proofs.Paths.{cancel}
 use Rattle.lfs_tool.specs.declared.entries.SourceEntry.{SourceEntry}
 use Rattle.lfs_tool_run.proofs.NamesGiven.{Rising, before_it, each_given, each_names, kind_moved, less_unlike, name_at_end, none_given, rising_from, rising_right}
@@ -12,7 +12,7 @@ use Rattle.lfs_tool_run.proofs.PathPlaces.{AreComponents, added_above, added_asi
 -- ---- entries that come
 
 abbrev pub grown : SourceEntry → Tree → Tree
-grown e t = tree_creating (path_or_root e.path.items) (node_of_optional (optional_bytes_view e.bytes)) t
+grown e t = tree_creating (path_or_root e.path.items) (node_of_optional_bytes (optional_bytes_view e.bytes)) t
 
 abbrev pub tree_after : List SourceEntry → Tree → Tree
 tree_after [] t = t
@@ -55,7 +55,7 @@ none_read known (p ∷ ps) es e h = absurd (cc)
 -- ---- a folder
 
 abbrev pub beneath : TreeSource → List ℕ → Path → Bool → Option SourceNode
-beneath s path rest is_folder = cond is_folder (node_at s path rest) (file_at_end s path rest)
+beneath s path rest is_folder = cond is_folder (node_at s path rest) (source_file_node s path rest)
 
 -- what stands at a name of a folder and beneath it
 abbrev ShowsName : TreeSource → Path → Tree → Name × Bool → Type 0
@@ -104,12 +104,12 @@ abbrev Grows : ℕ → Type 0
 Grows n = (s : TreeSource) (f : Path) (ns : List Name) (gs : List (Name × Bool)) (es : List SourceEntry) (t : Tree) → length es ≤ n → IsSourceBegun s f ns gs es t → HasGrown s f ns gs es t
 
 a_file : (s : TreeSource) (p : Path) (bytes : List ℕ) (t : Tree) → bytes ≡ s.bytes (path_bytes p) → t p ≡ Some (FileNode [] bytes) → ((m : Name) (rest : Path) → t (p ++ m ∷ rest) ≡ None)
-    → (rest : Path) → IsSourceNode (file_at_end s (path_bytes p) rest) (t (p ++ rest))
+    → (rest : Path) → IsSourceNode (source_file_node s (path_bytes p) rest) (t (p ++ rest))
 a_file s p bytes t is there none [] = subst (IsSourceNode (Some (AFile (s.bytes (path_bytes p))))) (sym (ap t (append-nil p) ∙ there)) (refl, is)
 a_file s p bytes t is there none (m ∷ rest) = subst (IsSourceNode None) (sym (none m rest)) tt
 
 come : (n : ℕ) → Grows n → (s : TreeSource) (p : Path) (is_folder : Bool) (o : Option (List ℕ)) (within : List (Name × Bool)) (es : List SourceEntry) (t : Tree) → length es ≤ n → HasSourceContents (Some s) (path_bytes p) is_folder o within
-    → AreDepthFirst (Some s) (paths_in_folder (path_bytes p) within) es → AreComponents p → t p ≡ Some (node_of_optional o) → ((m : Name) (rest : Path) → t (p ++ m ∷ rest) ≡ None) → HasCome s p is_folder es t
+    → AreDepthFirst (Some s) (paths_in_folder (path_bytes p) within) es → AreComponents p → t p ≡ Some (node_of_optional_bytes o) → ((m : Name) (rest : Path) → t (p ++ m ∷ rest) ≡ None) → HasCome s p is_folder es t
 come n ih s p false None within es t few holds read path there none = absurd holds
 come n ih s p false (Some bytes) within es t few holds read path there none =
     let nothing : es ≡ [] = none_read (Some s) (paths_in_folder (path_bytes p) within) es (ap (paths_in_folder (path_bytes p)) holds.1) read in
@@ -170,18 +170,18 @@ module _ (n : ℕ) (ih : Grows n) (s : TreeSource) (f : Path) (ns : List Name) (
   abbrev one : Tree
   one = grown e t
 
-  one_is : one ≡ tree_creating p (node_of_optional (optional_bytes_view e.bytes)) t
-  one_is = ap (λ q. tree_creating q (node_of_optional (optional_bytes_view e.bytes)) t) at
+  one_is : one ≡ tree_creating p (node_of_optional_bytes (optional_bytes_view e.bytes)) t
+  one_is = ap (λ q. tree_creating q (node_of_optional_bytes (optional_bytes_view e.bytes)) t) at
 
-  there : one p ≡ Some (node_of_optional (optional_bytes_view e.bytes))
-  there = ap (λ (u : Tree). u p) one_is ∙ added_there p (node_of_optional (optional_bytes_view e.bytes)) t
+  there : one p ≡ Some (node_of_optional_bytes (optional_bytes_view e.bytes))
+  there = ap (λ (u : Tree). u p) one_is ∙ added_there p (node_of_optional_bytes (optional_bytes_view e.bytes)) t
 
   above : one f ≡ Some (DirectoryNode [] (ns ++ g.0 ∷ []))
-  above = ap (λ (u : Tree). u f) one_is ∙ added_above f g.0 (node_of_optional (optional_bytes_view e.bytes)) t ∙ ap (option_map (node_with_names (names_with g.0))) b.folder
+  above = ap (λ (u : Tree). u f) one_is ∙ added_above f g.0 (node_of_optional_bytes (optional_bytes_view e.bytes)) t ∙ ap (option_map (node_with_names (names_with g.0))) b.folder
       ∙ ap (λ xs. Some (DirectoryNode [] xs)) (name_at_end g.0 ns (before_it ns g.0 (source_names gs) b.rising))
 
   aside : (q : Path) → (q ≡ f → ⊥) → (q ≡ p → ⊥) → one q ≡ t q
-  aside q x y = ap (λ (u : Tree). u q) one_is ∙ added_aside f g.0 (node_of_optional (optional_bytes_view e.bytes)) t q x y
+  aside q x y = ap (λ (u : Tree). u q) one_is ∙ added_aside f g.0 (node_of_optional_bytes (optional_bytes_view e.bytes)) t q x y
 
   beyond : (m : Name) (rest : Path) → one (p ++ m ∷ rest) ≡ None
   beyond m rest = aside (p ++ m ∷ rest) (λ x. not_longer f g.0 (m ∷ rest) (sym x ∙ append_step f g.0 (m ∷ rest))) (λ x. not_longer p m rest (sym x)) ∙ ap t (append_step f g.0 (m ∷ rest)) ∙ b.empty.0 (m ∷ rest)

@@ -6,7 +6,7 @@ use Rattle.lfs_device.specs.declared.error.Error.TheVariants.{NoMemory}
 use Rattle.std.proofs.lemmas.Nat.{div-mul-add, mod-mul-add}
 use Rattle.lfs_device.specs.DeviceDisk as device
 use Rattle.lfs_device.specs.declared.geometry.Geometry.{Geometry}
-use Rattle.lfs_tool_run.proofs.Common.{ram_geometry, ram_blocks, ram_bytes, Disk, block_count, ordered_disk, disk_of_image, IsFreshDisk, empty_tree, session_after_all, SystemState, Session, IsSourceTree, TreeSource, Healthy, SessionHealth, is_remount, mounted_session, IsAccepted, Each, fresh_defined, SessionView, system_state, AreSourceEntries, AreApplied, IsFirstRefusal, entry_operations, entries_operations, RefusesEntries}
+use Rattle.lfs_tool_run.proofs.Common.{ram_geometry, ram_blocks, ram_bytes, Disk, block_count, disk_with_order, disk_of_image, IsFreshDisk, empty_tree, session_after_all, SystemState, Session, IsSourceTree, TreeSource, Healthy, SessionHealth, is_remount, mounted_session, IsAccepted, Each, fresh_defined, SessionView, system_state, AreSourceEntries, AreApplied, IsFirstRefusal, entry_operations, entries_operations, IsFirstEntriesRefusal}
 use Rattle.lfs_device.specs.declared.ram.RamDevice.{RamDevice}
 use Rattle.lfs_model.specs.format.Blocks.{cut}
 use Rattle.lfs_model.specs.format.Content.{content_at}
@@ -22,15 +22,15 @@ use Rattle.lfs_model.proofs.Cuts.{length-cut}
 use Rattle.lfs_model.proofs.Kept.{fresh_settled, fresh_true}
 use Rattle.lfs_model.proofs.Uniqueness.{one_thread}
 use Rattle.lfs_tool.specs.declared.entries.SourceEntry.{SourceEntry}
-use Rattle.lfs_tool_run.specs.MadeImages.{AreImageBytes, BeginsFresh, IsSourceImage}
+use Rattle.lfs_tool_run.specs.MadeImages.{AreImageBytes, IsFreshSession, IsSourceImage}
 use Rattle.lfs_tool_run.proofs.Growing.{carried_tree, tree_after}
 use Rattle.lfs_fs.proofs.StepShapes.{steps_keep_order, steps_keep_shape}
 use Rattle.lfs_tool_run.proofs.Refusing.{IsFromFresh, anywhere, comes, has_carried, no_remount}
 
 -- ---- the geometry
 
-pub begins : (g : Geometry) (o : NameOrder) (d : RamDevice) (h : SessionView) → ram_geometry d ≡ g → IsFreshDisk h.tree.disk → (system_state h).state ≡ Healthy (mounted_session empty_tree) → SameGeometry (ordered_disk o (device.disk_of_blocks (ram_geometry d) (ram_blocks d))) h.tree.disk
-    → BeginsFresh g o (system_state h)
+pub begins : (g : Geometry) (o : NameOrder) (d : RamDevice) (h : SessionView) → ram_geometry d ≡ g → IsFreshDisk h.tree.disk → (system_state h).state ≡ Healthy (mounted_session empty_tree) → SameGeometry (disk_with_order o (device.disk_of_blocks (ram_geometry d) (ram_blocks d))) h.tree.disk
+    → IsFreshSession g o (system_state h)
 begins g o d h is fresh state same = record {
   fresh = fresh;
   block_size = same.block_size ∙ ap (λ (x : Geometry). x.block_size) is;
@@ -55,8 +55,8 @@ some_bytes : (g : Geometry) → 1 ≤ g.block_size
 some_bytes g = let least : 1024 ≤ g.block_size = g.valid.no_smaller in omega (arith, least)
 
 -- what the run left in the device
-pub left : (g : Geometry) (o : NameOrder) (from to : SystemState) (es : List SourceEntry) (d : RamDevice) (bytes : List ℕ) → BeginsFresh g o from → AreApplied from (entries_operations es) to
-    → ordered_disk to.disk.order (device.disk_of_blocks (ram_geometry d) (ram_blocks d)) ≡ to.disk
+pub left : (g : Geometry) (o : NameOrder) (from to : SystemState) (es : List SourceEntry) (d : RamDevice) (bytes : List ℕ) → IsFreshSession g o from → AreApplied from (entries_operations es) to
+    → disk_with_order to.disk.order (device.disk_of_blocks (ram_geometry d) (ram_blocks d)) ≡ to.disk
     → bytes ≡ ram_bytes d → AreImageBytes g o es bytes
 left g o from to es d bytes b c shown is =
     let same = steps_keep_shape (entries_operations es) c.replies from to c.session_steps in
@@ -125,8 +125,8 @@ made g o known es bytes all l = record {
 
 -- ---- what is passed on
 
-pub refused : {X : Type 0} (r : Result X Error) (e : Error) (g : Geometry) (o : NameOrder) (from : SystemState) (es : List SourceEntry) → IsErrAnd r (λ f. f ≡ e) → BeginsFresh g o from → (e ≢ NoMemory → IsFirstRefusal from (entries_operations es) e)
-    → IfErr r (λ f. f ≢ NoMemory → RefusesEntries g o es f)
+pub refused : {X : Type 0} (r : Result X Error) (e : Error) (g : Geometry) (o : NameOrder) (from : SystemState) (es : List SourceEntry) → IsErrAnd r (λ f. f ≡ e) → IsFreshSession g o from → (e ≢ NoMemory → IsFirstRefusal from (entries_operations es) e)
+    → IfErr r (λ f. f ≢ NoMemory → IsFirstEntriesRefusal g o es f)
 refused (Ok x) e g o from es is b h = tt
 refused (Err f) e g o from es is b h = λ other. record { from = from; begins = b; first = subst (IsFirstRefusal from (entries_operations es)) (sym is) (h (λ x. other (is ∙ x))) }
 

@@ -1,6 +1,6 @@
 -- In a run from a fresh disk in memory each error but want of memory is a refusal, the first.
 use Rattle.std.proofs.Common.{ℕ, ◌≡◌, ◌≢◌, ◌∙◌, ◌+◌, ◌<◌, ◌++◌, ◌⊎◌, inl, inr, Bool, true, false, List, [], ◌∷◌, length, take, drop, get_or, Option, Some, None, refl, sym, ap, subst, add-one, append_assoc, arith, drop-cons, flat_map}
-use Rattle.lfs_tool_run.proofs.Common.{flat_map-append, recursion_from_All, IsFreshDisk, empty_tree, session_after_all, fault_count, node_copies, Operation, SystemState, is_refusal, DiskSummary, Healthy, is_remount, mounted_session, Each, each_right, fresh_defined, EndsInError, optional_bytes_view, AreApplied, RunsToError, HealthyWithoutFiles, IsFirstRefusal, node_of_optional, entry_operations}
+use Rattle.lfs_tool_run.proofs.Common.{flat_map-append, recursion_from_All, IsFreshDisk, empty_tree, session_after_all, fault_count, node_copy_operations, Operation, SystemState, is_refusal, DiskSummary, Healthy, is_remount, mounted_session, Each, each_right, fresh_defined, EndsInError, optional_bytes_view, AreApplied, AppliesUpToError, IsHealthyWithoutFiles, IsFirstRefusal, node_of_optional_bytes, entry_operations}
 use Rattle.std.proofs.lemmas.List.{take-append-drop}
 use Rattle.lfs_device.specs.declared.error.Error.{Error}
 use Rattle.lfs_device.specs.declared.error.Error.TheVariants.{Io, NoMemory, Corrupt}
@@ -31,7 +31,7 @@ pub has_carried : (from to : SystemState) (es : List SourceEntry) (f : IsFromFre
     HasCarried (session_after_all anywhere (mounted_session empty_tree) (flat_map entry_operations es) c.replies) es empty_tree
 has_carried from to es f c = carried_from anywhere es empty_tree [] c.replies from to tt (recursion_from_All (λ r. is_refusal r ≡ false) c.replies c.accepted) c.session_steps
 
-pub no_file : (from to : SystemState) (es : List SourceEntry) → IsFromFresh from → AreApplied from (flat_map entry_operations es) to → HealthyWithoutFiles to
+pub no_file : (from to : SystemState) (es : List SourceEntry) → IsFromFresh from → AreApplied from (flat_map entry_operations es) to → IsHealthyWithoutFiles to
 no_file from to es f c = record {
   session = session_after_all anywhere (mounted_session empty_tree) (flat_map entry_operations es) c.replies;
   healthy = fresh_defined (flat_map entry_operations es) c.replies to anywhere (comes from to (flat_map entry_operations es) f c);
@@ -43,7 +43,7 @@ no_file from to es f c = record {
 pub no_remount : (e : SourceEntry) → Each (λ op. is_remount op ≡ false) (entry_operations e)
 no_remount e = go (optional_bytes_view e.bytes)
   where
-    go : (o : Option (List ℕ)) → Each (λ op. is_remount op ≡ false) (node_copies e.path.items (node_of_optional o))
+    go : (o : Option (List ℕ)) → Each (λ op. is_remount op ≡ false) (node_copy_operations e.path.items (node_of_optional_bytes o))
     go None = (refl, tt)
     go (Some bytes) = (refl, (refl, (refl, tt)))
 
@@ -56,7 +56,7 @@ only_memory e at to op h other none = go h.errors
     go (inr (inl memory)) = memory
     go (inr (inr corrupt)) = absurd (let k = sym other ∙ corrupt.1 in cc)
 
-refusal_first : (e : Error) (from to : SystemState) (operations : List Operation) → RunsToError e from operations to → refusals.is_refusal e ≡ true → IsFirstRefusal from operations e
+refusal_first : (e : Error) (from to : SystemState) (operations : List Operation) → AppliesUpToError e from operations to → refusals.is_refusal e ≡ true → IsFirstRefusal from operations e
 refusal_first e from to operations k is = record {
   done = k.done;
   next = k.next;
@@ -77,7 +77,7 @@ parts es i d lt =
     ∙ sym (append_assoc (flat_map entry_operations (take i es)) (entry_operations (get_or es i d)) (flat_map entry_operations (drop (i + 1) es)))
 
 -- an error of one entry's operations that isn't want of memory is a refusal
-refused_in_entry : (e : Error) (x : SourceEntry) (at to : SystemState) → RunsToError e at (entry_operations x) to → fault_count to.calls ≡ 0 → e ≢ NoMemory → refusals.is_refusal e ≡ true
+refused_in_entry : (e : Error) (x : SourceEntry) (at to : SystemState) → AppliesUpToError e at (entry_operations x) to → fault_count to.calls ≡ 0 → e ≢ NoMemory → refusals.is_refusal e ≡ true
 refused_in_entry e x at to k none not_memory = go (refusals.is_refusal e) refl
   where
     other : is_remount k.next ≡ false
@@ -88,9 +88,9 @@ refused_in_entry e x at to k none not_memory = go (refusals.is_refusal e) refl
     go false is = absurd (not_memory (only_memory e k.at to k.next (subst (λ b. EndsInError b e k.at k.next to) is k.ends) other none))
 
 module _ (e : Error) (es : List SourceEntry) (i : ℕ) (d : SourceEntry) (from at to : SystemState) (lt : i < length es) (c : AreApplied from (flat_map entry_operations (take i es)) at)
-    (k : RunsToError e at (entry_operations (get_or es i d)) to) (none : fault_count to.calls ≡ 0) where
+    (k : AppliesUpToError e at (entry_operations (get_or es i d)) to) (none : fault_count to.calls ≡ 0) where
   pub first_refused : e ≢ NoMemory → IsFirstRefusal from (flat_map entry_operations es) e
   first_refused not_memory = refusal_first e from to (flat_map entry_operations es)
-      (subst (λ xs. RunsToError e from xs to) (sym (parts es i d lt)) (ended_before e (flat_map entry_operations (take i es) ++ entry_operations (get_or es i d)) (flat_map entry_operations (drop (i + 1) es)) from to
+      (subst (λ xs. AppliesUpToError e from xs to) (sym (parts es i d lt)) (ended_before e (flat_map entry_operations (take i es) ++ entry_operations (get_or es i d)) (flat_map entry_operations (drop (i + 1) es)) from to
       (ended_on e (flat_map entry_operations (take i es)) (entry_operations (get_or es i d)) from at to c k)))
       (refused_in_entry e (get_or es i d) at to k none not_memory)

@@ -1,7 +1,7 @@
 -- Operations that are carried out one after another, up to an error.
 use Rattle.std.proofs.Common.{ℕ, ◌≡◌, ◌∙◌, ◌+◌, ◌<◌, ◌++◌, Bool, true, false, cond, List, [], ◌∷◌, length, take, get_or, Result, Ok, Err, refl, sym, ap, subst, append_assoc, flat_map}
 use Rattle.std.specs.Prelude.{IsErrAnd}
-use Rattle.lfs_tool_run.proofs.Common.{flat_map-append, append-nil, All-from_recursion, recursion_from_All, new_flags, node_copies, Operation, Reply, FileNode, IsStep, SystemState, is_refusal, each_append, SessionView, system_state, EndsInError, AreApplied, RunsToError, AppliesUntilError, HealthyWithoutFiles, entry_operations}
+use Rattle.lfs_tool_run.proofs.Common.{flat_map-append, append-nil, All-from_recursion, recursion_from_All, new_flags, node_copy_operations, Operation, Reply, FileNode, IsStep, SystemState, is_refusal, each_append, SessionView, system_state, EndsInError, AreApplied, AppliesUpToError, AppliesUntilError, IsHealthyWithoutFiles, entry_operations}
 use Rattle.std.proofs.lemmas.List.{take_more}
 use Rattle.lfs_device.specs.declared.error.Error.{Error}
 use Rattle.lfs_model.specs.session.Operations as ops
@@ -42,10 +42,10 @@ carried_on xs ys a b c h k = record {
       (each_append IsAccepted h.replies k.replies (recursion_from_All IsAccepted h.replies h.accepted) (recursion_from_All IsAccepted k.replies k.accepted));
 }
 
-pub ended_at : (e : Error) (xs : List Operation) (op : Operation) (more : List Operation) (a b c : SystemState) → AreApplied a xs b → EndsInError (refusals.is_refusal e) e b op c → RunsToError e a (xs ++ op ∷ more) c
+pub ended_at : (e : Error) (xs : List Operation) (op : Operation) (more : List Operation) (a b c : SystemState) → AreApplied a xs b → EndsInError (refusals.is_refusal e) e b op c → AppliesUpToError e a (xs ++ op ∷ more) c
 ended_at e xs op more a b c h ends = record { done = xs; next = op; others = more; are = refl; at = b; carried = h; ends = ends }
 
-pub ended_on : (e : Error) (xs ys : List Operation) (a b c : SystemState) → AreApplied a xs b → RunsToError e b ys c → RunsToError e a (xs ++ ys) c
+pub ended_on : (e : Error) (xs ys : List Operation) (a b c : SystemState) → AreApplied a xs b → AppliesUpToError e b ys c → AppliesUpToError e a (xs ++ ys) c
 ended_on e xs ys a b c h k = record {
   done = xs ++ k.done;
   next = k.next;
@@ -56,7 +56,7 @@ ended_on e xs ys a b c h k = record {
   ends = k.ends;
 }
 
-pub ended_before : (e : Error) (xs ys : List Operation) (a c : SystemState) → RunsToError e a xs c → RunsToError e a (xs ++ ys) c
+pub ended_before : (e : Error) (xs ys : List Operation) (a c : SystemState) → AppliesUpToError e a xs c → AppliesUpToError e a (xs ++ ys) c
 ended_before e xs ys a c k = record {
   done = k.done;
   next = k.next;
@@ -79,9 +79,9 @@ carries_on xs ys a b c (Ok x) h k = carried_on xs ys a b c h k
 carries_on xs ys a b c (Err e) h k = ended_on e xs ys a b c h k
 
 -- an error that is passed on
-pub passed_on : {X : Type 0} (r : Result X Error) (e : Error) (a : SystemState) (operations : List Operation) (c : SystemState) → IsErrAnd r (λ f. f ≡ e) → RunsToError e a operations c → AppliesUntilError a operations r c
+pub passed_on : {X : Type 0} (r : Result X Error) (e : Error) (a : SystemState) (operations : List Operation) (c : SystemState) → IsErrAnd r (λ f. f ≡ e) → AppliesUpToError e a operations c → AppliesUntilError a operations r c
 passed_on (Ok x) e a operations c is h = absurd is
-passed_on (Err f) e a operations c is h = subst (λ g. RunsToError g a operations c) (sym is) h
+passed_on (Err f) e a operations c is h = subst (λ g. AppliesUpToError g a operations c) (sym is) h
 
 -- ---- a file
 
@@ -90,7 +90,7 @@ pub record IsOpened (old : SessionView) (path : List ℕ) (fd : ℕ) (new : Sess
   pub number : fd ≡ 0
   pub carried : AreApplied (system_state old) (ops.Open path new_flags ∷ []) (system_state new)
 
-pub opens : (old new : SessionView) (path : List ℕ) (flags : FlagsOfOpen) (fd : ℕ) → flags ≡ new_flags → HealthyWithoutFiles (system_state old) → IsStep (system_state old) (ops.Open path flags) (ops.Opened fd) (system_state new) → IsOpened old path fd new
+pub opens : (old new : SessionView) (path : List ℕ) (flags : FlagsOfOpen) (fd : ℕ) → flags ≡ new_flags → IsHealthyWithoutFiles (system_state old) → IsStep (system_state old) (ops.Open path flags) (ops.Opened fd) (system_state new) → IsOpened old path fd new
 opens old new path flags fd is none turn =
     let opened : IsStep (system_state old) (ops.Open path new_flags) (ops.Opened fd) (system_state new) = subst (λ f. IsStep (system_state old) (ops.Open path f) (ops.Opened fd) (system_state new)) is turn in
     record {
@@ -99,20 +99,20 @@ opens old new path flags fd is none turn =
     }
 
 pub fails_to_open : (old new : SessionView) (path : List ℕ) (flags : FlagsOfOpen) (more : List Operation) (e : Error) → flags ≡ new_flags → StepsOrFails old (ops.Open path flags) (reply_from ops.Opened (Err e)) new
-    → RunsToError e (system_state old) (ops.Open path new_flags ∷ more) (system_state new)
+    → AppliesUpToError e (system_state old) (ops.Open path new_flags ∷ more) (system_state new)
 fails_to_open old new path flags more e is h =
     ended_at e [] (ops.Open path new_flags) more (system_state old) (system_state old) (system_state new) (none_carried (system_state old))
     (one_ends old new (ops.Open path new_flags) ops.Opened e (subst (λ f. StepsOrFails old (ops.Open path f) (reply_from ops.Opened (Err e)) new) is h))
 
 pub fails_to_write : (old between new : SessionView) (path bytes : List ℕ) (fd : ℕ) (e : Error) → IsOpened old path fd between → StepsOrFails between (ops.Write fd bytes) (reply_from ops.Count (Err e)) new
-    → RunsToError e (system_state old) (node_copies path (FileNode [] bytes)) (system_state new)
+    → AppliesUpToError e (system_state old) (node_copy_operations path (FileNode [] bytes)) (system_state new)
 fails_to_write old between new path bytes fd e o h =
     ended_on e (ops.Open path new_flags ∷ []) (ops.Write 0 bytes ∷ ops.Close 0 ∷ []) (system_state old) (system_state between) (system_state new) o.carried
     (ended_at e [] (ops.Write 0 bytes) (ops.Close 0 ∷ []) (system_state between) (system_state between) (system_state new) (none_carried (system_state between))
     (one_ends between new (ops.Write 0 bytes) ops.Count e (subst (λ n. StepsOrFails between (ops.Write n bytes) (reply_from ops.Count (Err e)) new) o.number h)))
 
 pub closes : {X : Type 0} (old between written new : SessionView) (path bytes : List ℕ) (fd count : ℕ) (r : Result X Error) → IsOpened old path fd between → IsStep (system_state between) (ops.Write fd bytes) (ops.Count count) (system_state written)
-    → StepsOrFails written (ops.Close fd) (reply_from (λ x. ops.Done) r) new → AppliesUntilError (system_state old) (node_copies path (FileNode [] bytes)) r (system_state new)
+    → StepsOrFails written (ops.Close fd) (reply_from (λ x. ops.Done) r) new → AppliesUntilError (system_state old) (node_copy_operations path (FileNode [] bytes)) r (system_state new)
 closes old between written new path bytes fd count r o turn h =
     let write : AreApplied (system_state between) (ops.Write 0 bytes ∷ []) (system_state written) =
     one_carried (system_state between) (system_state written) (ops.Write 0 bytes) (ops.Count count) (subst (λ n. IsStep (system_state between) (ops.Write n bytes) (ops.Count count) (system_state written)) o.number turn) refl in

@@ -1,12 +1,12 @@
 -- What the operations of entries make of a session, where each is accepted.
 use Rattle.std.proofs.Common.{ℕ, ◌≡◌, ◌∙◌, ◌+◌, ◌++◌, Bool, true, false, cond, List, [], ◌∷◌, length, Option, Some, None, drop, is_none, refl, sym, ap, ap₂, subst, append-nil, flat_map, option_map}
 use Rattle.std.proofs.Math.Seq.{drop-nil}
-use Rattle.lfs_tool_run.proofs.Common.{same_Some, tree_creating, same_path, new_flags, node_copies, Operation, Reply, Session, DiskSummary, path_or_root, Healthy, SessionHealth, Path, FileNode, DirectoryNode, Tree, IsStep, SystemState, is_refusal, session_after_all, Each, optional_bytes_view, node_of_optional, entry_operations}
+use Rattle.lfs_tool_run.proofs.Common.{same_Some, tree_creating, same_path, new_flags, node_copy_operations, Operation, Reply, Session, DiskSummary, path_or_root, Healthy, SessionHealth, Path, FileNode, DirectoryNode, Tree, IsStep, SystemState, is_refusal, session_after_all, Each, optional_bytes_view, node_of_optional_bytes, entry_operations}
 use Rattle.lfs_model.specs.session.TreeEdits.{file_bytes, tree_with_change}
 use Rattle.lfs_model.specs.session.Operations as ops
 use Rattle.lfs_model.specs.session.Operations.{Refusal}
 use Rattle.lfs_model.specs.session.Session.{OpenFilesByNumber, FileWriter, Writing, free_number_of}
-use Rattle.lfs_model.specs.session.Writers.{written_writer, opened_writer}
+use Rattle.lfs_model.specs.session.Writers.{writer_after_write, opened_writer}
 use Rattle.lfs_model.specs.session.Effects.{operation_result, tree_after_storing, operation_effect, unless_refused, node_with_bytes}
 use Rattle.lfs_model.specs.session.Refusals.{operation_refusal}
 use Rattle.lfs_model.specs.session.State.{nonremount_result}
@@ -37,7 +37,7 @@ abbrev tree_opened : Tree → Path → Tree
 tree_opened t p = cond (is_none (t p)) (tree_creating p (FileNode [] []) t) t
 
 abbrev tree_closed : Tree → Path → List ℕ → Tree
-tree_closed t p bytes = tree_after_storing (Some (Writing (written_writer (opened t p) bytes))) (tree_opened t p)
+tree_closed t p bytes = tree_after_storing (Some (Writing (writer_after_write (opened t p) bytes))) (tree_opened t p)
 
 changed_added : (p : Path) (bytes : List ℕ) (t : Tree) → tree_with_change p (node_with_bytes bytes) (tree_creating p (FileNode [] []) t) ≡ tree_creating p (FileNode [] bytes) t
 changed_added p bytes t = λ i q. at q i
@@ -54,7 +54,7 @@ file_comes t p [] e = ap (λ o. cond (is_none o) (tree_creating p (FileNode [] [
 file_comes t p (b ∷ bytes) e =
     ap₂ (λ c (u : Tree). tree_with_change p (node_with_bytes c) u) all (ap (λ o. cond (is_none o) (tree_creating p (FileNode [] []) t) t) e) ∙ changed_added p (b ∷ bytes) t
   where
-    all : (written_writer (opened t p) (b ∷ bytes)).contents ≡ b ∷ bytes
+    all : (writer_after_write (opened t p) (b ∷ bytes)).contents ≡ b ∷ bytes
     all = ap (λ o. b ∷ (bytes ++ drop (0 + length (b ∷ bytes)) (file_bytes o))) e ∙ ap (λ xs. b ∷ (bytes ++ xs)) (drop-nil (0 + length (b ∷ bytes))) ∙ ap (λ xs. b ∷ xs) (append-nil bytes)
 
 -- ---- an entry
@@ -68,8 +68,8 @@ record HasStepped (around : DiskSummary) (path : List ℕ) (o : Option (List ℕ
   session_steps : AreSteps between more left to
   accepted : Accepted left
   closed : AllFilesClosed left_open
-  is : session_after_all around (with_files t files) (node_copies path (node_of_optional o) ++ more) replies ≡ session_after_all around (with_files tree left_open) more left
-  comes : t (path_or_root path) ≡ None → tree ≡ tree_creating (path_or_root path) (node_of_optional o) t
+  is : session_after_all around (with_files t files) (node_copy_operations path (node_of_optional_bytes o) ++ more) replies ≡ session_after_all around (with_files tree left_open) more left
+  comes : t (path_or_root path) ≡ None → tree ≡ tree_creating (path_or_root path) (node_of_optional_bytes o) t
 
 -- an accepted operation has its effect
 accepted_effect : (around : DiskSummary) (s : Session) (op : Operation) (reply : Reply) (more : List Operation) (left : List Reply) → is_refusal reply ≡ false
@@ -126,7 +126,7 @@ file_stepped around path bytes more t files (a ∷ b ∷ c ∷ left) from to clo
     }
 
 stepped : (around : DiskSummary) (path : List ℕ) (o : Option (List ℕ)) (more : List Operation) (t : Tree) (files : OpenFilesByNumber) (replies : List Reply) (from to : SystemState) → AllFilesClosed files → Accepted replies
-    → AreSteps from (node_copies path (node_of_optional o) ++ more) replies to → HasStepped around path o more t files replies to
+    → AreSteps from (node_copy_operations path (node_of_optional_bytes o) ++ more) replies to → HasStepped around path o more t files replies to
 stepped around path None more = folder_stepped around path more
 stepped around path (Some bytes) more = file_stepped around path bytes more
 

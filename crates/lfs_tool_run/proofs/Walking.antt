@@ -1,14 +1,14 @@
 -- The entries that were read are a walk of the source's tree, so their operations carry it over.
 use Rattle.std.proofs.Common.{ℕ, ◌≡◌, ◌∙◌, ◌++◌, ◌⊎◌, inl, inr, Bool, true, false, List, [], ◌∷◌, map, Option, Some, None, refl, sym, ap, ap₂, subst, append-nil, flat_map, option_and_then}
 use Rattle.std.specs.Prelude.{Contains}
-use Rattle.lfs_tool_run.proofs.Common.{IsPermutation, All-contains, All-contains_itself, All-from_recursion, recursion_from_All, Contains-permutation, IsPermutation-map, IsPermutation-sym, empty_tree, node_copies, Name, name_cmp, Operation, path_bytes, AFile, AFolder, IsSourceTree, IsSourceNode, TreeSource, is_named_folder, source_names, path_in_folder, node_at, Path, Node, FileNode, DirectoryNode, Tree, Each, each_weaker, greater, append_step, AreSourceEntries, AreDepthFirst, AreSortedFolderNames, HasSourceContents, PathAndKind, paths_in_folder, optional_bytes_view, node_of_optional, entry_operations, entries_operations}
+use Rattle.lfs_tool_run.proofs.Common.{IsPermutation, All-contains, All-contains_itself, All-from_recursion, recursion_from_All, Contains-permutation, IsPermutation-map, IsPermutation-sym, empty_tree, node_copy_operations, Name, name_cmp, Operation, path_bytes, AFile, AFolder, IsSourceTree, IsSourceNode, TreeSource, is_named_folder, source_names, path_in_folder, node_at, Path, Node, FileNode, DirectoryNode, Tree, Each, each_weaker, greater, append_step, AreSourceEntries, AreDepthFirst, AreSortedFolderNames, HasSourceContents, PathAndKind, paths_in_folder, optional_bytes_view, node_of_optional_bytes, entry_operations, entries_operations}
 use Rattle.std.specs.declared.cmp.Ordering.TheVariants.{Less}
 use Rattle.lfs_model.specs.declared.order.NameOrder.TheVariants.{ShorterFirst}
 use Rattle.lfs_model.specs.session.TreeEdits as apply
 use Rattle.lfs_model.specs.layers.Listing as listing
 use Rattle.lfs_model.specs.layers.Listing.{IsDepthFirst, entry_paths}
 use Rattle.lfs_tool.specs.declared.entries.SourceEntry.{SourceEntry}
-use Rattle.lfs_tool_run.specs.MadeImages.{CopySource}
+use Rattle.lfs_tool_run.specs.MadeImages.{AreSourceCopyOperations}
 use Rattle.lfs_tool_run.proofs.Growing.{beneath, carried_tree, tree_after}
 use Rattle.lfs_tool_run.proofs.NamesGiven.{Rising, each_found, kind_moved, less_unlike, rising_from}
 use Rattle.lfs_tool_run.proofs.PathPlaces.{path_more}
@@ -100,13 +100,13 @@ kinds_within s folder within w =
 record IsWalked (tree : Tree) (qs : List Path) (es : List SourceEntry) : Type 0 where
   entries : List listing.PathNode
   walk : IsDepthFirst tree qs entries
-  same : flat_map entry_operations es ≡ flat_map listing.entry_copies entries
+  same : flat_map entry_operations es ≡ flat_map listing.entry_copy_operations entries
 
 -- what the tree has at a place, and the operations that bring it
 record IsMet (s : TreeSource) (tree : Tree) (q : Path) (p : PathAndKind) (o : Option (List ℕ)) (within : List (Name × Bool)) : Type 0 where
   node : Node
   there : tree q ≡ Some node
-  operations : node_copies p.0 (node_of_optional o) ≡ node_copies (path_bytes q) node
+  operations : node_copy_operations p.0 (node_of_optional_bytes o) ≡ node_copy_operations (path_bytes q) node
   below : AllStand s (entry_paths tree q) (paths_in_folder p.0 within)
 
 met_file : (s : TreeSource) (tree : Tree) (q : Path) (folder : List ℕ) (bytes : List ℕ) (within : List (Name × Bool)) (o : Option Node) → tree q ≡ o → path_bytes q ≡ folder → bytes ≡ s.bytes folder → within ≡ []
@@ -115,7 +115,7 @@ met_file s tree q folder bytes within None e at is none h = absurd h
 met_file s tree q folder bytes within (Some (FileNode attributes shown)) e at is none h = record {
   node = FileNode attributes shown;
   there = e;
-  operations = ap₂ (λ f xs. node_copies f (FileNode [] xs)) (sym at) (is ∙ sym h.1);
+  operations = ap₂ (λ f xs. node_copy_operations f (FileNode [] xs)) (sym at) (is ∙ sym h.1);
   below = subst (λ (ps : List PathAndKind). AllStand s (entry_paths tree q) ps) (ap (paths_in_folder folder) (sym none)) (subst (λ (u : Option Node). AllStand s (map (λ name. q ++ name ∷ []) (apply.directory_names u)) []) (sym e) tt);
 }
 met_file s tree q folder bytes within (Some (DirectoryNode attributes shown)) e at is none h = absurd h
@@ -132,7 +132,7 @@ met_folder s tree q folder within (Some (DirectoryNode attributes shown)) e at l
     record {
       node = DirectoryNode attributes shown;
       there = e;
-      operations = ap (λ f. node_copies f (DirectoryNode [] [])) (sym at);
+      operations = ap (λ f. node_copy_operations f (DirectoryNode [] [])) (sym at);
       below = subst (λ (u : Option Node). AllStand s (map (λ name. q ++ name ∷ []) (apply.directory_names u)) (paths_in_folder folder within)) (sym e)
           (subst (λ ns. AllStand s (map (λ name. q ++ name ∷ []) ns) (paths_in_folder folder within)) (sym same) (below_stand s q folder within at leads (kinds_within s folder within w)));
     }
@@ -158,10 +158,10 @@ walked s tree shows (e ∷ es) (q ∷ qs) (p ∷ ps) h (path, (within, (holds, r
     record {
       entries = record { path = q; node = m.node } ∷ w.entries;
       walk = (refl, m.there, w.walk);
-      same = ap₂ (λ (xs ys : List Operation). xs ++ ys) (ap (λ f. node_copies f (node_of_optional (optional_bytes_view e.bytes))) path ∙ m.operations) w.same;
+      same = ap₂ (λ (xs ys : List Operation). xs ++ ys) (ap (λ f. node_copy_operations f (node_of_optional_bytes (optional_bytes_view e.bytes))) path ∙ m.operations) w.same;
     }
 
-pub carry_over : (known : Option TreeSource) (es : List SourceEntry) → AreSourceEntries known es → CopySource known (entries_operations es)
+pub carry_over : (known : Option TreeSource) (es : List SourceEntry) → AreSourceEntries known es → AreSourceCopyOperations known (entries_operations es)
 carry_over None es all = tt
 carry_over (Some s) es (top, (w, read)) =
     let whole = carried_tree s es (top, (w, read)) in

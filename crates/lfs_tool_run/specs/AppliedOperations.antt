@@ -2,7 +2,7 @@
 use Rattle.std.specs.Prelude.{ℕ, ◌≡◌, true, false, List, [], ◌∷◌, ◌++◌, Option, Some, None, Result, Ok, Err, All}
 use Rattle.std.specs.List.{flat_map}
 use Rattle.lfs_device.specs.declared.error.Error.{Error}
-use Rattle.lfs_model.specs.layers.Listing.{node_copies}
+use Rattle.lfs_model.specs.layers.Listing.{node_copy_operations}
 use Rattle.lfs_model.specs.session.Operations as ops
 use Rattle.lfs_model.specs.session.Operations.{Operation, Reply}
 use Rattle.lfs_model.specs.session.Run.{AreSteps, IsStep, SystemState}
@@ -18,13 +18,13 @@ use Rattle.lfs_tool.specs.declared.entries.SourceEntry.{SourceEntry}
 -- ---- the operations
 
 -- the node of an entry; a folder is created empty, before its entries
-abbrev pub node_of_optional : Option (List ℕ) → Node
-node_of_optional None = DirectoryNode [] []
-node_of_optional (Some bytes) = FileNode [] bytes
+abbrev pub node_of_optional_bytes : Option (List ℕ) → Node
+node_of_optional_bytes None = DirectoryNode [] []
+node_of_optional_bytes (Some bytes) = FileNode [] bytes
 
 -- the operations that copy an entry
 abbrev pub entry_operations : SourceEntry → List Operation
-entry_operations e = node_copies e.path.items (node_of_optional (optional_bytes_view e.bytes))
+entry_operations e = node_copy_operations e.path.items (node_of_optional_bytes (optional_bytes_view e.bytes))
 
 abbrev pub entries_operations : List SourceEntry → List Operation
 entries_operations entries = flat_map entry_operations entries
@@ -38,7 +38,7 @@ AllFilesClosed (None ∷ []) = Unit {0}
 AllFilesClosed (None ∷ f ∷ fs) = ⊥
 AllFilesClosed (Some o ∷ fs) = ⊥
 
-pub record HealthyWithoutFiles (at : SystemState) : Type 0 where
+pub record IsHealthyWithoutFiles (at : SystemState) : Type 0 where
   pub session : Session
   pub healthy : at.state ≡ Healthy session
   pub closed : AllFilesClosed session.files
@@ -52,7 +52,7 @@ pub record AreApplied (from : SystemState) (operations : List Operation) (to : S
   pub accepted : All (λ r. run.is_refusal r ≡ false) replies
 
 -- Some of the operations are applied, and the next one ends in that error.
-pub record RunsToError (e : Error) (from : SystemState) (operations : List Operation) (to : SystemState) : Type 0 where
+pub record AppliesUpToError (e : Error) (from : SystemState) (operations : List Operation) (to : SystemState) : Type 0 where
   pub done : List Operation
   pub next : Operation
   pub others : List Operation
@@ -63,7 +63,7 @@ pub record RunsToError (e : Error) (from : SystemState) (operations : List Opera
 
 abbrev pub AppliesUntilError : {X : Type 0} → SystemState → List Operation → Result X Error → SystemState → Type 0
 AppliesUntilError from operations (Ok x) to = AreApplied from operations to
-AppliesUntilError from operations (Err e) to = RunsToError e from operations to
+AppliesUntilError from operations (Err e) to = AppliesUpToError e from operations to
 
 -- That refusal is the first one among the operations, in order.
 pub record IsFirstRefusal (from : SystemState) (operations : List Operation) (e : Error) : Type 0 where

@@ -3,7 +3,7 @@ use Rattle.std.specs.Prelude.{ℕ, ◌≡◌, ◌*◌, Bool, false, List, length
 use Rattle.std.specs.Io.KnownBytes.{Appends}
 use Rattle.lfs_model.specs.format.Disk.{IsWholeImage, block_count, disk_of_image}
 use Rattle.lfs_model.specs.tree.Fresh.{IsFreshDisk, empty_tree}
-use Rattle.lfs_model.specs.layers.Listing.{CopyTree}
+use Rattle.lfs_model.specs.layers.Listing.{AreCopyOperations}
 use Rattle.lfs_model.specs.session.Operations.{Operation}
 use Rattle.lfs_model.specs.session.Run.{SystemState}
 use Rattle.lfs_model.specs.format.Slots.{zero_gstate}
@@ -19,7 +19,7 @@ use Rattle.lfs_device.specs.declared.error.Error.{Error}
 use Rattle.lfs_device.specs.declared.geometry.Geometry.{Geometry}
 use Rattle.lfs_tool.specs.declared.errors.ToolError.{ToolError}
 use Rattle.lfs_tool.specs.declared.errors.ToolError.TheVariants.{Input}
-use Rattle.lfs_tool.specs.KnownBytes.{AppendsBeginning}
+use Rattle.lfs_tool.specs.KnownBytes.{AppendsPrefix}
 use Rattle.lfs_tool_run.specs.AppliedOperations.{AreApplied, IsFirstRefusal, entries_operations}
 use Rattle.lfs_tool.specs.SourceEntries.{AreSourceEntries, HasFaultOr, HasBadNames}
 use Rattle.lfs_tool.specs.declared.entries.SourceEntry.{SourceEntry}
@@ -27,7 +27,7 @@ use Rattle.lfs_tool.specs.declared.entries.SourceEntry.{SourceEntry}
 -- ---- a run
 
 -- A session begins on a fresh disk of the geometry, with its names in that order.
-pub record BeginsFresh (geometry : Geometry) (order : NameOrder) (from : SystemState) : Type 0 where
+pub record IsFreshSession (geometry : Geometry) (order : NameOrder) (from : SystemState) : Type 0 where
   pub fresh : IsFreshDisk from.disk
   pub block_size : from.disk.block_size ≡ geometry.block_size
   pub page : from.disk.page ≡ geometry.page
@@ -39,27 +39,27 @@ pub record BeginsFresh (geometry : Geometry) (order : NameOrder) (from : SystemS
 -- A session that began so has performed the operations of the entries, none of them refused.
 pub record HasCopiedEntries (geometry : Geometry) (order : NameOrder) (entries : List SourceEntry) (to : SystemState) : Type 0 where
   pub from : SystemState
-  pub begins : BeginsFresh geometry order from
+  pub begins : IsFreshSession geometry order from
   pub carried : AreApplied from (entries_operations entries) to
 
 -- These are the bytes of the disk that the operations of the entries leave, none of them refused.
 pub record AreImageBytes (geometry : Geometry) (order : NameOrder) (entries : List SourceEntry) (bytes : List ℕ) : Type 0 where
   pub from : SystemState
-  pub begins : BeginsFresh geometry order from
+  pub begins : IsFreshSession geometry order from
   pub to : SystemState
   pub carried : AreApplied from (entries_operations entries) to
   pub len : length bytes ≡ geometry.block_size * geometry.block_count
   pub disk : to.disk ≡ disk_of_image geometry.block_size geometry.page geometry.profile order bytes
 
 -- An operation of the entries is refused, and this is the first refusal.
-pub record RefusesEntries (geometry : Geometry) (order : NameOrder) (entries : List SourceEntry) (e : Error) : Type 0 where
+pub record IsFirstEntriesRefusal (geometry : Geometry) (order : NameOrder) (entries : List SourceEntry) (e : Error) : Type 0 where
   pub from : SystemState
-  pub begins : BeginsFresh geometry order from
+  pub begins : IsFreshSession geometry order from
   pub first : IsFirstRefusal from (entries_operations entries) e
 
 -- These operations copy the source's tree, where it is known what the source shows.
-abbrev pub CopySource : Option TreeSource → List Operation → Type 0
-CopySource known operations = IfSome known (λ s. (tree : Tree) × (IsSourceTree s tree × CopyTree tree operations))
+abbrev pub AreSourceCopyOperations : Option TreeSource → List Operation → Type 0
+AreSourceCopyOperations known operations = IfSome known (λ s. (tree : Tree) × (IsSourceTree s tree × AreCopyOperations tree operations))
 
 -- ---- an image
 
@@ -75,16 +75,16 @@ pub record IsSourceImage (geometry : Geometry) (order : NameOrder) (known : Opti
   pub tree : IfSome known (λ s. IsSourceTree s (disk_tree (disk_of_image geometry.block_size geometry.page geometry.profile order bytes) pairs))
 
 -- of each source that has these entries its tree is copied, and this is an image of it
-abbrev pub ShowsItsSource : Geometry → NameOrder → List SourceEntry → List ℕ → Type 0
-ShowsItsSource geometry order entries image = (known : Option TreeSource) → AreSourceEntries known entries → CopySource known (entries_operations entries) × IsSourceImage geometry order known image
+abbrev pub IsImageOfSource : Geometry → NameOrder → List SourceEntry → List ℕ → Type 0
+IsImageOfSource geometry order entries image = (known : Option TreeSource) → AreSourceEntries known entries → AreSourceCopyOperations known (entries_operations entries) × IsSourceImage geometry order known image
 
 -- what is known to be written grew by one image of the entries
 abbrev pub HasWrittenImage : Geometry → NameOrder → List SourceEntry → Option (List ℕ) → Option (List ℕ) → Type 0
-HasWrittenImage geometry order entries old new = (image : List ℕ) × (AreImageBytes geometry order entries image × (ShowsItsSource geometry order entries image × Appends old new image))
+HasWrittenImage geometry order entries old new = (image : List ℕ) × (AreImageBytes geometry order entries image × (IsImageOfSource geometry order entries image × Appends old new image))
 
 -- what is known to be written grew by a beginning of one
-abbrev pub HasWrittenBeginning : Geometry → NameOrder → List SourceEntry → Option (List ℕ) → Option (List ℕ) → Type 0
-HasWrittenBeginning geometry order entries old new = (image : List ℕ) × (AreImageBytes geometry order entries image × (ShowsItsSource geometry order entries image × AppendsBeginning old new image))
+abbrev pub HasWrittenImagePrefix : Geometry → NameOrder → List SourceEntry → Option (List ℕ) → Option (List ℕ) → Type 0
+HasWrittenImagePrefix geometry order entries old new = (image : List ℕ) × (AreImageBytes geometry order entries image × (IsImageOfSource geometry order entries image × AppendsPrefix old new image))
 
 -- `Input` comes if the source's last call failed, or if it didn't and a folder in it has bad names. After any other result it
 -- didn't fail.

@@ -3,9 +3,9 @@
 use crate::creation::{read_source_entries, session_of_entries};
 use crate::files::Host;
 use crate::run::{folder_of_line, geometry_of_line};
-use crate::times::keep_times;
+use crate::times::store_file_times;
 use lfs_device::{Error, Geometry, RamDevice};
-use lfs_tool::{Extras, FollowsProgress, Line, Mode, SourceEntry, ToolError};
+use lfs_tool::{FollowsProgress, Line, Mode, RunOptions, SourceEntry, ToolError};
 
 /// The size of the largest image in bytes.
 pub(crate) const IMAGE_MAX: u32 = 268_435_456;
@@ -22,7 +22,7 @@ const INLINE_MAX: usize = 1022;
 /// - `TooBig` if a file is longer than both the image and the line's `file_max`.
 /// - `NoSpace` if a file is longer than the image but not than the line's `file_max`.
 /// - `NoMemory` if memory can't be allocated.
-pub(crate) fn read_line_folder(
+pub(crate) fn read_source_folder(
     host: Host<'_>,
     line: &Line<'_>,
     folder: &str,
@@ -30,7 +30,7 @@ pub(crate) fn read_line_folder(
 ) -> Result<Vec<SourceEntry>, ToolError> {
     let mut source = folder_of_line(host, folder, size)?;
     let entries = read_source_entries(host.alloc(), &mut source)?;
-    match source.first_long_file() {
+    match source.first_oversized_file() {
         Some(file) if file.len > u64::from(line.profile.file_max) => Err(Error::TooBig.into()),
         Some(_) => Err(Error::NoSpace.into()),
         None => Ok(entries),
@@ -47,7 +47,7 @@ pub(crate) fn image_of_entries<F: FollowsProgress>(
 ) -> Result<RamDevice, ToolError> {
     let mut session = session_of_entries(host.alloc(), geometry, line.order, entries, progress)?;
     if host.times {
-        keep_times(host, &mut session, entries)?;
+        store_file_times(host, &mut session, entries)?;
     }
     Ok(session.unmount())
 }
@@ -66,14 +66,14 @@ fn are_blocks_enough(
     }
 }
 
-fn most_blocks(block_size: u32) -> u32 {
+fn maximum_block_count(block_size: u32) -> u32 {
     let most = IMAGE_MAX.checked_div(block_size).unwrap_or(0);
     most.min(BLOCKS_MAX)
 }
 
 // Returns a lower bound for the number of blocks that an image of the entries needs. It counts the
 // root's pair and the full blocks of files that can't be inline.
-fn blocks_of_bytes(entries: &[SourceEntry], block_size: u32) -> u32 {
+fn minimum_block_count(entries: &[SourceEntry], block_size: u32) -> u32 {
     let mut count = 2u32;
     for entry in entries {
         let len = entry.bytes.as_ref().map_or(0, |bytes| bytes.len());
@@ -90,17 +90,17 @@ fn blocks_of_bytes(entries: &[SourceEntry], block_size: u32) -> u32 {
 ///
 /// # Errors
 /// The error of an attempt that fails for any reason other than a lack of free blocks.
-pub(crate) fn enough_blocks(
+pub(crate) fn find_block_count(
     host: Host<'_>,
     line: &Line<'_>,
     entries: &[SourceEntry],
     given: u32,
 ) -> Result<Option<u32>, ToolError> {
-    let most = most_blocks(line.block_size);
+    let most = maximum_block_count(line.block_size);
     // `few` blocks are too few, or fewer than `given`. If `enough` is known, that many blocks
     // suffice.
     let mut few = given
-        .max(blocks_of_bytes(entries, line.block_size).min(most))
+        .max(minimum_block_count(entries, line.block_size).min(most))
         .saturating_sub(1);
     let mut enough: Option<u32> = None;
     let mut step = 1u32;
@@ -121,15 +121,15 @@ pub(crate) fn enough_blocks(
     Ok(enough)
 }
 
-/// Returns the number of blocks that `enough_blocks` finds for the contents of a folder.
-pub(crate) fn enough_for_folder(
+/// Returns the number of blocks that `find_block_count` finds for the contents of a folder.
+pub(crate) fn folder_block_count(
     host: Host<'_>,
     line: &Line<'_>,
     folder: &str,
     given: u32,
 ) -> Result<Option<u32>, ToolError> {
-    match read_line_folder(host, line, folder, IMAGE_MAX) {
-        Ok(entries) => enough_blocks(host, line, &entries, given),
+    match read_source_folder(host, line, folder, IMAGE_MAX) {
+        Ok(entries) => find_block_count(host, line, &entries, given),
         Err(ToolError::Fs(Error::NoSpace)) => Ok(None),
         Err(error) => Err(error),
     }
@@ -139,18 +139,18 @@ pub(crate) fn enough_for_folder(
 /// and returns the contents of the folder. Without `--size auto`, returns None. If the contents
 /// don't fit in the largest image, sets the line's size to that of the largest image, and returns
 /// `NoSpace`.
-pub(crate) fn fit_size(
+pub(crate) fn resolve_auto_size(
     host: Host<'_>,
     line: &mut Line<'_>,
-    extras: &Extras<'_>,
+    extras: &RunOptions<'_>,
 ) -> Result<Option<Vec<SourceEntry>>, ToolError> {
     let (Mode::Create(folder), true) = (line.mode, extras.is_size_auto) else {
         return Ok(None);
     };
-    line.size = most_blocks(line.block_size).saturating_mul(line.block_size);
+    line.size = maximum_block_count(line.block_size).saturating_mul(line.block_size);
     geometry_of_line(line)?;
-    let entries = read_line_folder(host, line, folder, IMAGE_MAX)?;
-    let Some(count) = enough_blocks(host, line, &entries, 2)? else {
+    let entries = read_source_folder(host, line, folder, IMAGE_MAX)?;
+    let Some(count) = find_block_count(host, line, &entries, 2)? else {
         return Err(ToolError::Fs(Error::NoSpace));
     };
     let count = count.saturating_add(extras.spare);

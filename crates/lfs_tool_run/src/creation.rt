@@ -3,7 +3,7 @@ ghost use Rattle.lfs_device.specs.RamDevice.{ram_bytes};
 ghost use Rattle.lfs_fs.specs.SessionView.{system_state};
 ghost use Rattle.lfs_tool.specs.Reports.{ReportsWriterFaults};
 ghost use Rattle.lfs_tool.specs.Streams.{stream_inner};
-ghost use Rattle.lfs_tool_run.specs.MadeImages.{AreImageBytes, BeginsFresh, HasCopiedEntries, HasWrittenBeginning, HasWrittenImage, RefusesEntries, ReportsSourceFaults};
+ghost use Rattle.lfs_tool_run.specs.MadeImages.{AreImageBytes, IsFreshSession, HasCopiedEntries, HasWrittenImagePrefix, HasWrittenImage, IsFirstEntriesRefusal, ReportsSourceFaults};
 ghost use Rattle.lfs_tool.specs.SourceEntries.{AreSourceEntries};
 
 use crate::source_entries::copy_entries;
@@ -38,12 +38,12 @@ pub fn read_source_entries<S: Source>(
 }
 
 // Formats an image in memory, and mounts it.
-fn begin_session(
+fn format_and_mount(
     alloc: Global,
     geometry: Geometry,
     order: NameOrder,
 ) -> Result<Session<RamDevice>, Error>
-    ensures begins { IfOk result (λ s. BeginsFresh geometry order (system_state s)) }
+    ensures begins { IfOk result (λ s. IsFreshSession geometry order (system_state s)) }
     ensures err { IfErr result (λ e. e ≡ Error.NoMemory) }
 {
     let device = RamDevice::blank(alloc, geometry)?;
@@ -70,9 +70,9 @@ pub fn session_of_entries<F: FollowsProgress>(
     progress: &mut F,
 ) -> Result<Session<RamDevice>, Error>
     ensures ok { IfOk result (λ s. HasCopiedEntries geometry order entries.now (system_state s)) }
-    ensures err { IfErr result (λ e. e ≢ Error.NoMemory → RefusesEntries geometry order entries.now e) }
+    ensures err { IfErr result (λ e. e ≢ Error.NoMemory → IsFirstEntriesRefusal geometry order entries.now e) }
 {
-    let mut session = begin_session(alloc, geometry, order)?;
+    let mut session = format_and_mount(alloc, geometry, order)?;
     copy_entries(alloc, &mut session, entries, progress)?;
     Ok(session)
 }
@@ -89,7 +89,7 @@ pub fn new_image<F: FollowsProgress>(
     progress: &mut F,
 ) -> Result<RamDevice, Error>
     ensures ok { IfOk result (λ d. AreImageBytes geometry order entries.now (ram_bytes d)) }
-    ensures err { IfErr result (λ e. e ≢ Error.NoMemory → RefusesEntries geometry order entries.now e) }
+    ensures err { IfErr result (λ e. e ≢ Error.NoMemory → IsFirstEntriesRefusal geometry order entries.now e) }
 {
     let session = session_of_entries(alloc, geometry, order, entries, progress)?;
     Ok(session.unmount())
@@ -118,10 +118,10 @@ pub fn create<W: Write, F: FollowsProgress>(
     // If the writer fails, it has received only a prefix of the image.
     ensures writer { ReportsWriterFaults out.old out.new result }
     ensures beginning { IsErrOf result ToolError.Output
-        → HasWrittenBeginning geometry order entries.now (W.contents (stream_inner out.old)) (W.contents (stream_inner out.new)) }
+        → HasWrittenImagePrefix geometry order entries.now (W.contents (stream_inner out.old)) (W.contents (stream_inner out.new)) }
 
     // The causes of the other errors.
-    ensures refused { (e : _) → IsErrOf result (ToolError.Fs e) → e ≢ Error.NoMemory → RefusesEntries geometry order entries.now e }
+    ensures refused { (e : _) → IsErrOf result (ToolError.Fs e) → e ≢ Error.NoMemory → IsFirstEntriesRefusal geometry order entries.now e }
     ensures never { ¬ IsErrOf result ToolError.Input }
 {
     match new_image(alloc, geometry, order, entries, progress) {

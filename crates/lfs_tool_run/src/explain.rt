@@ -1,16 +1,16 @@
 // The lines of `--explain`, which say why a command failed.
 
-use crate::blocks::{IMAGE_MAX, enough_for_folder};
+use crate::blocks::{IMAGE_MAX, folder_block_count};
 use crate::creation::read_source_entries;
 use crate::files::{Host, is_standard_stream};
-use crate::parts::{ImagePart, open_part, read_part};
+use crate::parts::{ImagePart, open_image_start, read_part};
 use crate::run::{folder_of_line, geometry_of_line, layout_of_line};
 use lfs_device::{AcceptedVersions, Error};
 use lfs_tag::Superblock;
 use lfs_tool::{
     CheckResult, Fault, Folder, ImageLayout, Line, LineError, Mode, RefusalReason, Sizes,
-    SourceEntry, Stream, ToolError, check_result_lines, image_superblock_at, layout_by_blocks,
-    push_escaped_path, report, result_of_image, write_and_flush,
+    SourceEntry, Stream, ToolError, check_result_lines, check_result_of_image, image_superblock_at,
+    layout_by_blocks, push_escaped_path, report, write_and_flush,
 };
 use std::alloc::AllocError;
 use std::io::Write;
@@ -23,7 +23,7 @@ const MODES: &str =
 const LATER_VERSION: u32 = 0x0002_0001;
 
 // Reads the image again. Fails for standard input, which can't be read twice.
-fn read_part_again(host: Host<'_>, line: &Line<'_>) -> Result<ImagePart, ToolError> {
+fn reread_image_file(host: Host<'_>, line: &Line<'_>) -> Result<ImagePart, ToolError> {
     if is_standard_stream(line.image) {
         return Err(ToolError::Input);
     }
@@ -41,7 +41,7 @@ fn push_path_line(text: &mut Vec<u8>, parts: &[&[u8]], words: &[u8]) -> Result<(
 }
 
 // Returns what an error says about a path, or None if it says nothing.
-fn words_of_refusal(error: Error) -> Option<&'static str> {
+fn path_error_text(error: Error) -> Option<&'static str> {
     match error {
         Error::NoEnt => Some("nothing is there, or a folder above it is missing"),
         Error::Exist => Some("something is there already"),
@@ -58,8 +58,8 @@ fn words_of_refusal(error: Error) -> Option<&'static str> {
 }
 
 // Returns the options for those limits of the image that differ from the given ones.
-fn other_limits(host: Host<'_>, line: &Line<'_>) -> Result<String, ToolError> {
-    let part = read_part_again(host, line)?;
+fn differing_limit_options(host: Host<'_>, line: &Line<'_>) -> Result<String, ToolError> {
+    let part = reread_image_file(host, line)?;
     let mut options = String::new(host.alloc());
     let Some(superblock) = image_superblock_at(part.bytes.as_slice()) else {
         return Ok(options);
@@ -85,13 +85,13 @@ fn other_limits(host: Host<'_>, line: &Line<'_>) -> Result<String, ToolError> {
 }
 
 // Appends the options that open an image for changes if its limits differ from the given ones.
-fn push_read_only(
+fn push_limit_options(
     host: Host<'_>,
     line: &Line<'_>,
     path: &str,
     text: &mut Vec<u8>,
 ) -> Result<(), ToolError> {
-    let options = other_limits(host, line)?;
+    let options = differing_limit_options(host, line)?;
     if options.is_empty() {
         let words = "the image isn't one that is changed here; --check says why";
         return Ok(push_path_line(text, &[path.as_bytes()], words.as_bytes())?);
@@ -103,7 +103,7 @@ fn push_read_only(
 }
 
 // Appends what is wrong with the path in the image that the mode refers to.
-fn push_path_in_image(
+fn push_path_error(
     host: Host<'_>,
     line: &Line<'_>,
     error: Error,
@@ -114,20 +114,20 @@ fn push_path_in_image(
         Mode::Create(_) | Mode::Unpack(_) | Mode::List | Mode::Check => return Ok(()),
     };
     if error == Error::ReadOnly {
-        return push_read_only(host, line, path, text);
+        return push_limit_options(host, line, path, text);
     }
-    match words_of_refusal(error) {
+    match path_error_text(error) {
         Some(words) => Ok(push_path_line(text, &[path.as_bytes()], words.as_bytes())?),
         None => Ok(()),
     }
 }
 
 // Returns the sizes that the superblock of the image states, or None if an image can have them.
-fn wrong_own_sizes(host: Host<'_>, line: &Line<'_>) -> Result<Option<Sizes>, ToolError> {
+fn invalid_superblock_sizes(host: Host<'_>, line: &Line<'_>) -> Result<Option<Sizes>, ToolError> {
     if !line.has_own_limits || is_standard_stream(line.image) {
         return Ok(None);
     }
-    let (_file, head) = open_part(host, line)?;
+    let (_file, head) = open_image_start(host, line)?;
     let Some(own) = layout_by_blocks(head.as_slice(), layout_of_line(line)) else {
         return Ok(None);
     };
@@ -136,7 +136,7 @@ fn wrong_own_sizes(host: Host<'_>, line: &Line<'_>) -> Result<Option<Sizes>, Too
 }
 
 fn sizes_of_image(host: Host<'_>, line: &Line<'_>) -> Result<Sizes, ToolError> {
-    if let Some(sizes) = wrong_own_sizes(host, line)? {
+    if let Some(sizes) = invalid_superblock_sizes(host, line)? {
         return Ok(sizes);
     }
     if let Mode::Create(_) = line.mode {
@@ -146,7 +146,7 @@ fn sizes_of_image(host: Host<'_>, line: &Line<'_>) -> Result<Sizes, ToolError> {
             page: line.page,
         });
     }
-    let part = read_part_again(host, line)?;
+    let part = reread_image_file(host, line)?;
     Ok(Sizes {
         size: part.bytes.len(),
         block_size: part.layout.block_size,
@@ -180,7 +180,7 @@ fn push_missing_options(
 
 // Appends the result of a check of the image, and the options that are missing.
 fn push_check(host: Host<'_>, line: &Line<'_>, text: &mut Vec<u8>) -> Result<(), ToolError> {
-    let part = match read_part_again(host, line) {
+    let part = match reread_image_file(host, line) {
         Err(ToolError::Fs(Error::Corrupt)) => {
             let words = b"no superblock: neither block 0 nor block 1 begins with one\n";
             return Ok(text.extend_from_slice(words)?);
@@ -189,7 +189,7 @@ fn push_check(host: Host<'_>, line: &Line<'_>, text: &mut Vec<u8>) -> Result<(),
     };
     let superblock = image_superblock_at(part.bytes.as_slice());
     let layout = part.layout;
-    let checked = result_of_image(host.alloc(), part.bytes, layout)?;
+    let checked = check_result_of_image(host.alloc(), part.bytes, layout)?;
     text.extend_from_slice(check_result_lines(host.alloc(), &checked)?.as_slice())?;
     if let CheckResult::Refused {
         reason: RefusalReason::WrongNumber(_),
@@ -205,15 +205,15 @@ fn push_check(host: Host<'_>, line: &Line<'_>, text: &mut Vec<u8>) -> Result<(),
 
 // Returns the length of a file in a folder in bytes. If the file is longer than any image, it
 // wasn't read, and the source has its length.
-fn length_of_file(entry: &SourceEntry, source: &Folder<'_, HostRuntime>) -> usize {
-    match source.first_long_file() {
+fn source_file_length(entry: &SourceEntry, source: &Folder<'_, HostRuntime>) -> usize {
+    match source.first_oversized_file() {
         Some(file) if file.path.as_slice() == entry.path.as_slice() => file.len as usize,
         _ => entry.bytes.as_ref().map_or(0, |bytes| bytes.len()),
     }
 }
 
 // Appends the first name or file of a folder that exceeds the limit to which this error refers.
-fn push_passed_limit(
+fn push_exceeded_limit(
     host: Host<'_>,
     line: &Line<'_>,
     folder: &str,
@@ -228,7 +228,7 @@ fn push_passed_limit(
             Error::NameTooLong => ("name", name_len, line.profile.name_max as usize),
             _ => (
                 "file",
-                length_of_file(&entry, &source),
+                source_file_length(&entry, &source),
                 line.profile.file_max as usize,
             ),
         };
@@ -247,7 +247,7 @@ fn push_passed_limit(
 fn needed_blocks_line(host: Host<'_>, line: &Line<'_>, folder: &str) -> Result<String, ToolError> {
     let blocks = geometry_of_line(line)?.block_count;
     let alloc = host.alloc();
-    let text = match enough_for_folder(host, line, folder, blocks) {
+    let text = match folder_block_count(host, line, folder, blocks) {
         Ok(Some(count)) if count > blocks => {
             format!(in alloc; "{blocks} blocks are too few, it takes {count}\n")
         }
@@ -263,7 +263,7 @@ fn needed_blocks_line(host: Host<'_>, line: &Line<'_>, folder: &str) -> Result<S
 }
 
 // Appends the lines that say why no image could be made of a folder.
-fn push_new_image(
+fn push_creation_failure(
     host: Host<'_>,
     line: &Line<'_>,
     folder: &str,
@@ -277,7 +277,7 @@ fn push_new_image(
             "a time takes an attribute of 4 bytes, and {attr_max} are the most\n"
         )?,
         Error::TooBig | Error::NameTooLong => {
-            return push_passed_limit(host, line, folder, error, text);
+            return push_exceeded_limit(host, line, folder, error, text);
         }
         _ => return Ok(()),
     };
@@ -299,20 +299,20 @@ fn push_explanation(
             let sizes = sizes_of_image(host, line)?;
             match sizes.broken_rule() {
                 Some(rule) => Ok(sizes.push_rule_line(text, rule)?),
-                None => push_path_in_image(host, line, Error::Invalid, text),
+                None => push_path_error(host, line, Error::Invalid, text),
             }
         }
         ToolError::Fs(Error::Corrupt) => push_check(host, line, text),
         ToolError::Fs(error) => match line.mode {
-            Mode::Create(folder) => push_new_image(host, line, folder, error, text),
-            _ => push_path_in_image(host, line, error, text),
+            Mode::Create(folder) => push_creation_failure(host, line, folder, error, text),
+            _ => push_path_error(host, line, error, text),
         },
     }
 }
 
 /// Writes the list of modes if the command line doesn't give exactly one. A failed write is
 /// ignored.
-pub(crate) fn write_modes<E: Write>(fault: &Fault, err: &mut Stream<E>) {
+pub(crate) fn write_mode_list<E: Write>(fault: &Fault, err: &mut Stream<E>) {
     if let Fault::Line(LineError::Modes) = fault {
         let _ = write_and_flush(err, MODES.as_bytes());
     }

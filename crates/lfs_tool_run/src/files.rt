@@ -1,6 +1,6 @@
 // The files of a command line. The path `-` means standard input or standard output.
 
-use crate::leftovers::{begin_new_image, remove_leftovers};
+use crate::leftovers::{create_locked_image, remove_leftovers};
 use lfs_tool::{FaultLog, FolderRules, NewImage, ToolError};
 use std::alloc::Global;
 use std::fs::File;
@@ -41,7 +41,7 @@ impl<'a> Host<'a> {
     }
 
     /// Logs the error of a call at a path, unless a signal interrupted the call.
-    pub(crate) fn note_error<T>(self, path: &str, called: &io::Result<T>) {
+    pub(crate) fn log_error<T>(self, path: &str, called: &io::Result<T>) {
         if let Err(error) = called {
             if error.kind() != ErrorKind::Interrupted {
                 self.log.note(self.alloc(), path.as_bytes(), error);
@@ -50,13 +50,13 @@ impl<'a> Host<'a> {
     }
 
     /// Logs the error of a call at a path, and replaces it by the tool's error.
-    pub(crate) fn note_and_map<T>(
+    pub(crate) fn log_and_map<T>(
         self,
         path: &str,
         called: io::Result<T>,
         error: ToolError,
     ) -> Result<T, ToolError> {
-        self.note_error(path, &called);
+        self.log_error(path, &called);
         called.map_err(|_| error)
     }
 }
@@ -92,7 +92,7 @@ enum ReadStream {
 }
 
 #[derive(Drop)]
-pub(crate) struct NotedReader<'a> {
+pub(crate) struct LoggingReader<'a> {
     stream: ReadStream,
     // The state of the file when it was opened. Pipes and devices have none.
     state: Option<FileState>,
@@ -100,20 +100,20 @@ pub(crate) struct NotedReader<'a> {
     host: Host<'a>,
 }
 
-impl Read for NotedReader<'_> {
+impl Read for LoggingReader<'_> {
     fn read(&mut self, buf: &mut [u8]) -> io::Result<usize> {
         let read = match &mut self.stream {
             ReadStream::File(file) => file.read(buf),
             ReadStream::Standard(stream) => stream.read(buf),
         };
-        self.host.note_error(self.path, &read);
+        self.host.log_error(self.path, &read);
         read
     }
 }
 
-impl NotedReader<'_> {
+impl LoggingReader<'_> {
     /// Returns how many bytes of the file follow an offset, or 0 if the file's length is unknown.
-    pub(crate) fn stated_len(&self, offset: u32) -> u64 {
+    pub(crate) fn length_after_offset(&self, offset: u32) -> u64 {
         let len = self.state.map_or(0, |state| state.len);
         len.saturating_sub(u64::from(offset))
     }
@@ -130,23 +130,23 @@ impl NotedReader<'_> {
             Err(error) => Err(error),
         };
         self.host
-            .note_and_map(self.path, confirmed, ToolError::Input)
+            .log_and_map(self.path, confirmed, ToolError::Input)
     }
 }
 
 /// Opens the file at a path for reading.
-pub(crate) fn open_file<'a>(host: Host<'a>, path: &'a str) -> Result<NotedReader<'a>, ToolError> {
+pub(crate) fn open_file<'a>(host: Host<'a>, path: &'a str) -> Result<LoggingReader<'a>, ToolError> {
     if is_standard_stream(path) {
-        return Ok(NotedReader {
+        return Ok(LoggingReader {
             stream: ReadStream::Standard(host.rt.stdin()),
             state: None,
             path,
             host,
         });
     }
-    let file = host.note_and_map(path, File::open(host.rt, path), ToolError::Input)?;
-    let state = host.note_and_map(path, state_of_file(&file), ToolError::Input)?;
-    Ok(NotedReader {
+    let file = host.log_and_map(path, File::open(host.rt, path), ToolError::Input)?;
+    let state = host.log_and_map(path, state_of_file(&file), ToolError::Input)?;
+    Ok(LoggingReader {
         stream: ReadStream::File(file),
         state,
         path,
@@ -172,13 +172,13 @@ pub(crate) struct NotedWriter<'a> {
 impl Write for NotedWriter<'_> {
     fn write(&mut self, buf: &[u8]) -> io::Result<usize> {
         let written = match &mut self.stream {
-            WrittenStream::File(file) => match begin_new_image(file) {
+            WrittenStream::File(file) => match create_locked_image(file) {
                 Ok(()) => file.write(buf),
                 Err(error) => Err(error),
             },
             WrittenStream::Standard(stream) => stream.write(buf),
         };
-        self.host.note_error(self.path, &written);
+        self.host.log_error(self.path, &written);
         written
     }
 
@@ -187,7 +187,7 @@ impl Write for NotedWriter<'_> {
             WrittenStream::File(file) => file.flush(),
             WrittenStream::Standard(stream) => stream.flush(),
         };
-        self.host.note_error(self.path, &flushed);
+        self.host.log_error(self.path, &flushed);
         flushed
     }
 }
@@ -209,7 +209,7 @@ impl<'a> NotedWriter<'a> {
     pub(crate) fn place(self) -> Result<(), ToolError> {
         let NotedWriter { stream, path, host } = self;
         if let WrittenStream::File(file) = stream {
-            host.note_and_map(path, file.place(), ToolError::Output)?;
+            host.log_and_map(path, file.place(), ToolError::Output)?;
             remove_leftovers(host.rt, path);
         }
         Ok(())

@@ -3,7 +3,8 @@
 use lfs_device::Profile;
 use lfs_tag::Superblock;
 use lfs_tool::{
-    AcceptedOrders, CheckResult, ImageSummary, OwnedStruct, TreeItem, breach_line, reason_line,
+    AcceptedOrders, CheckResult, ImageSummary, OwnedStruct, TreeItem, profile_breach_text,
+    refusal_reason_text,
 };
 use std::alloc::{AllocError, Global};
 use std::io;
@@ -108,7 +109,7 @@ fn push_summary(
     match summary.breach {
         Some(breach) => push_reason(
             text,
-            breach_line(alloc, summary.inline_max, breach)?.as_slice(),
+            profile_breach_text(alloc, summary.inline_max, breach)?.as_slice(),
         ),
         None => Ok(()),
     }
@@ -125,7 +126,7 @@ fn push_check(
     match checked {
         CheckResult::Accepted { summary, orders } => push_summary(alloc, text, summary, *orders)?,
         CheckResult::Refused { reason, given } => {
-            push_reason(text, reason_line(alloc, given, reason)?.as_slice())?
+            push_reason(text, refusal_reason_text(alloc, given, reason)?.as_slice())?
         }
     }
     if let Some(count) = behind {

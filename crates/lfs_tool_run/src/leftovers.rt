@@ -11,7 +11,7 @@ const START: &str = ".mklittlefs-";
 
 /// Creates the file of a new image, and locks it until it is closed. Other runs don't remove a
 /// temporary file that is locked.
-pub(crate) fn begin_new_image(image: &mut NewImage<'_, HostRuntime>) -> io::Result<()> {
+pub(crate) fn create_locked_image(image: &mut NewImage<'_, HostRuntime>) -> io::Result<()> {
     if image.file().is_none() {
         let _none = image.write(&[])?;
         if let Some(file) = image.file() {

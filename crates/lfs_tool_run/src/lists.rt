@@ -4,7 +4,7 @@ use crate::files::Host;
 use crate::json::{json_of_check, json_of_items};
 use crate::parts::{ImagePart, read_part};
 use lfs_tool::{
-    CheckResult, Line, Stream, ToolError, check, items_of_image, list, result_of_image,
+    CheckResult, Line, Stream, ToolError, check, check_result_of_image, items_of_image, list,
     write_and_flush,
 };
 use std::io::Write;
@@ -41,7 +41,7 @@ pub(crate) fn check_image<W: Write>(
     } = read_part(host, line)?;
     let behind = line.is_auto.then_some(behind);
     if json {
-        let checked = result_of_image(host.alloc(), bytes, layout)?;
+        let checked = check_result_of_image(host.alloc(), bytes, layout)?;
         let text = json_of_check(host.alloc(), &checked, behind)?;
         write_and_flush(out, text.as_slice())?;
         return Ok(matches!(checked, CheckResult::Accepted { .. }));

@@ -1,6 +1,6 @@
 // The bytes of the image and the files of a command line. Each file is read once.
 
-use crate::files::{Host, NotedReader, open_file};
+use crate::files::{Host, LoggingReader, open_file};
 use crate::run::layout_of_line;
 use lfs_device::Error;
 use lfs_tool::{
@@ -39,7 +39,7 @@ fn skip_bytes<R: Read>(reader: &mut R, most: u64) -> Result<u64, ToolError> {
 // Returns the layout and the length of an image that begins with these bytes. With `-b auto` or
 // `--auto`, its superblock states them. With `-b auto`, an image without a superblock is the whole
 // file.
-fn layout_of_head(line: &Line<'_>, head: &[u8]) -> Result<(ImageLayout, u64), ToolError> {
+fn layout_and_length(line: &Line<'_>, head: &[u8]) -> Result<(ImageLayout, u64), ToolError> {
     let layout = layout_of_line(line);
     if !line.is_auto {
         return Ok((layout, u64::MAX));
@@ -57,10 +57,10 @@ fn layout_of_head(line: &Line<'_>, head: &[u8]) -> Result<(ImageLayout, u64), To
 
 /// Opens the file of an image. With `-b auto` or `--auto`, also reads the first bytes of the image,
 /// which contain its superblock.
-pub(crate) fn open_part<'a>(
+pub(crate) fn open_image_start<'a>(
     host: Host<'a>,
     line: &Line<'a>,
-) -> Result<(NotedReader<'a>, Vec<u8>), ToolError> {
+) -> Result<(LoggingReader<'a>, Vec<u8>), ToolError> {
     let mut file = open_file(host, line.image)?;
     let _before = skip_bytes(&mut file, u64::from(line.offset))?;
     let mut head = Vec::new(host.alloc());
@@ -72,7 +72,7 @@ pub(crate) fn open_part<'a>(
 }
 
 // Reads the bytes after an image, if a change of the image must keep them.
-fn read_rest<R: Read>(
+fn read_after_image<R: Read>(
     host: Host<'_>,
     line: &Line<'_>,
     reader: &mut R,
@@ -89,15 +89,15 @@ fn read_rest<R: Read>(
 /// Reads an image, which is the whole file after the offset. With `-b auto` or `--auto`, its
 /// superblock states its length and its block size.
 pub(crate) fn read_part(host: Host<'_>, line: &Line<'_>) -> Result<ImagePart, ToolError> {
-    let (file, head) = open_part(host, line)?;
-    let (layout, size) = layout_of_head(line, head.as_slice())?;
-    let expected = file.stated_len(line.offset).min(size);
+    let (file, head) = open_image_start(host, line)?;
+    let (layout, size) = layout_and_length(line, head.as_slice())?;
+    let expected = file.length_after_offset(line.offset).min(size);
     let mut stream = Stream::new(Cursor::new(head).chain(file).take(size));
     let bytes = read_image(host.alloc(), &mut stream, expected as usize)?;
     let mut rest = stream.into_inner();
     let _image = skip_bytes(&mut rest, u64::MAX)?;
     let mut rest = rest.into_inner();
-    let kept = read_rest(host, line, &mut rest)?;
+    let kept = read_after_image(host, line, &mut rest)?;
     let behind = if line.is_auto && line.mode == Mode::Check {
         skip_bytes(&mut rest, u64::MAX)?
     } else {
@@ -117,7 +117,7 @@ pub(crate) fn read_part(host: Host<'_>, line: &Line<'_>) -> Result<ImagePart, To
 /// byte more than the largest image has.
 pub(crate) fn read_file(host: Host<'_>, path: &str) -> Result<Vec<u8>, ToolError> {
     let file = open_file(host, path)?;
-    let expected = file.stated_len(0);
+    let expected = file.length_after_offset(0);
     let mut stream = Stream::new(file);
     let bytes = read_image(host.alloc(), &mut stream, expected as usize)?;
     stream.into_inner().confirm_unchanged()?;

@@ -1,8 +1,8 @@
 // The execution of a command line.
 
-use crate::blocks::{fit_size, image_of_entries, read_line_folder};
+use crate::blocks::{image_of_entries, read_source_folder, resolve_auto_size};
 use crate::creation::create;
-use crate::explain::{write_explanation, write_modes};
+use crate::explain::{write_explanation, write_mode_list};
 use crate::files::{Host, NotedWriter};
 use crate::lists::{check_image, list_image};
 use crate::parts::read_part;
@@ -10,9 +10,9 @@ use crate::session::{cat_file, change_image};
 use crate::times::{set_times, times_in_image};
 use lfs_device::{Error, Geometry};
 use lfs_tool::{
-    Extras, Fault, Folder, FolderRules, ImageLayout, Line, LineError, Links, Mode, ProgressLine,
-    Request, SourceEntry, Stream, Target, TargetFolder, ToolError, geometry_of_sizes, read_request,
-    report, target_tool_error, unpack, write_and_flush,
+    Fault, Folder, FolderRules, ImageLayout, Line, LineError, Links, Mode, ProgressLine, Request,
+    RunOptions, SourceEntry, Stream, Target, TargetFolder, ToolError, geometry_of_sizes,
+    read_request, report, target_tool_error, unpack, write_and_flush,
 };
 use std::io;
 use std::io::{ErrorKind, IsTerminal, Stderr, Write};
@@ -40,7 +40,7 @@ pub(crate) fn folder_of_line<'a>(
 
 // Returns a progress line for a task that begins at the time of the call. It writes only to a
 // terminal.
-fn progress_at_terminal(rt: &HostRuntime) -> ProgressLine<Stderr, HostRuntime> {
+fn new_progress_line(rt: &HostRuntime) -> ProgressLine<Stderr, HostRuntime> {
     ProgressLine::new(rt.stderr(), *rt, rt.stderr().is_terminal())
 }
 
@@ -55,10 +55,10 @@ fn create_image(
     let geometry = geometry_of_line(line)?;
     let entries = match read {
         Some(entries) => entries,
-        None => read_line_folder(host, line, folder, line.size)?,
+        None => read_source_folder(host, line, folder, line.size)?,
     };
     let mut image = Stream::new(NotedWriter::new(host, line.image)?);
-    let mut progress = progress_at_terminal(host.rt);
+    let mut progress = new_progress_line(host.rt);
     if host.times {
         let made = image_of_entries(host, line, geometry, &entries, &mut progress)?;
         write_and_flush(&mut image, made.bytes())?;
@@ -80,7 +80,7 @@ fn unpack_image(host: Host<'_>, line: &Line<'_>, folder: &str) -> Result<(), Too
     let alloc = host.alloc();
     let part = read_part(host, line)?;
     let mut target = TargetFolder::new(host.rt, host.log, folder)?;
-    let mut progress = progress_at_terminal(host.rt);
+    let mut progress = new_progress_line(host.rt);
     let mut image = unpack(alloc, part.bytes, part.layout, &mut target, &mut progress)?;
     // An empty image has no action that makes the folder.
     if let Err(error) = target.make_folder(alloc, b"") {
@@ -115,7 +115,7 @@ fn run_mode<W: Write>(
 
 // Returns the status for a failed write to standard output. An error line is written unless the
 // reader has closed the pipe.
-fn report_unwritten<O: Write, E: Write>(out: &mut Stream<O>, err: &mut Stream<E>) -> u8 {
+fn report_failed_output<O: Write, E: Write>(out: &mut Stream<O>, err: &mut Stream<E>) -> u8 {
     match out.fault() {
         Some(ErrorKind::BrokenPipe) => 3,
         _ => report(&Fault::Tool(ToolError::Output), out, err),
@@ -123,7 +123,7 @@ fn report_unwritten<O: Write, E: Write>(out: &mut Stream<O>, err: &mut Stream<E>
 }
 
 // Returns the rules for reading the folder of a new image.
-fn folder_rules<'a>(extras: &'a Extras<'_>) -> FolderRules<'a> {
+fn folder_rules<'a>(extras: &'a RunOptions<'_>) -> FolderRules<'a> {
     let links = match (extras.follow_links, extras.skip_links) {
         (true, _) => Links::Follow,
         (_, true) => Links::Skip,
@@ -149,14 +149,14 @@ fn run_request<O: Write, E: Write>(
         ..host
     };
     let mut line = request.line;
-    let done = match fit_size(host, &mut line, &request.extras) {
+    let done = match resolve_auto_size(host, &mut line, &request.extras) {
         Ok(read) => run_mode(host, &line, request.extras.json, read, out),
         Err(error) => Err(error),
     };
     match done {
         Ok(true) => 0,
         Ok(false) => 1,
-        Err(ToolError::Output) if line.mode == Mode::List => report_unwritten(out, err),
+        Err(ToolError::Output) if line.mode == Mode::List => report_failed_output(out, err),
         Err(error) => {
             let status = report(&Fault::Tool(error), out, err);
             if line.explain || host.explains {
@@ -192,10 +192,10 @@ pub fn run_words<O: Write, E: Write>(
         Err(error) => {
             let fault = Fault::Line(error);
             match report(&fault, out, err) {
-                0 if out.fault().is_some() => report_unwritten(out, err),
+                0 if out.fault().is_some() => report_failed_output(out, err),
                 status => {
                     if host.explains || are_explanations_asked(words.as_slice()) {
-                        write_modes(&fault, err);
+                        write_mode_list(&fault, err);
                     }
                     status
                 }

@@ -2,12 +2,12 @@
 
 ghost use Rattle.std.specs.Prelude.{[], ◌≡◌, ◌≢◌, IfErr, OnOk};
 ghost use Rattle.lfs_model.specs.tree.Fresh.{IsFreshDisk, empty_tree};
-ghost use Rattle.lfs_model.specs.layers.Listing.{new_flags, node_copies};
+ghost use Rattle.lfs_model.specs.layers.Listing.{new_flags, node_copy_operations};
 ghost use Rattle.lfs_model.specs.session.State.{Healthy, mounted_session};
 ghost use Rattle.lfs_model.specs.tree.Tree.{FileNode};
 ghost use Rattle.lfs_fs.specs.FlagsView.{flags_view};
 ghost use Rattle.lfs_fs.specs.SessionView.{system_state};
-ghost use Rattle.lfs_tool_run.specs.AppliedOperations.{AreApplied, AppliesUntilError, HealthyWithoutFiles, IsFirstRefusal, entry_operations, entries_operations};
+ghost use Rattle.lfs_tool_run.specs.AppliedOperations.{AreApplied, AppliesUntilError, IsHealthyWithoutFiles, IsFirstRefusal, entry_operations, entries_operations};
 
 use bitflags::Flags;
 use lfs_device::{Error, RamDevice};
@@ -30,8 +30,8 @@ fn create_file_in(
     path: &[u8],
     bytes: &[u8],
 ) -> Result<(), Error>
-    requires { HealthyWithoutFiles (system_state session.old) }
-    ensures { AppliesUntilError (system_state session.old) (node_copies path.now (FileNode [] bytes.now)) result (system_state session.new) }
+    requires { IsHealthyWithoutFiles (system_state session.old) }
+    ensures { AppliesUntilError (system_state session.old) (node_copy_operations path.now (FileNode [] bytes.now)) result (system_state session.new) }
 {
     let fd = session.open(alloc, path, new_file_flags())?;
     session.write(alloc, fd, bytes)?;
@@ -44,7 +44,7 @@ fn copy_entry(
     session: &mut Session<RamDevice>,
     entry: &SourceEntry,
 ) -> Result<(), Error>
-    requires { HealthyWithoutFiles (system_state session.old) }
+    requires { IsHealthyWithoutFiles (system_state session.old) }
     ensures { AppliesUntilError (system_state session.old) (entry_operations entry.now) result (system_state session.new) }
 {
     match &entry.bytes {

@@ -16,7 +16,7 @@ use std::time::{Duration, UNIX_EPOCH};
 const TIME: u8 = b't';
 
 /// Stores the times of the entries in an image. Each entry must have been copied into it.
-pub(crate) fn keep_times(
+pub(crate) fn store_file_times(
     host: Host<'_>,
     session: &mut RamSession,
     entries: &[SourceEntry],
@@ -79,7 +79,7 @@ pub(crate) fn set_times(
     for (path, bytes) in times.iter() {
         let full = format!(in host.alloc(); "{folder}{path}")?;
         let set = set_time(host, full.as_str(), *bytes);
-        host.note_and_map(full.as_str(), set, ToolError::Output)?;
+        host.log_and_map(full.as_str(), set, ToolError::Output)?;
     }
     Ok(())
 }

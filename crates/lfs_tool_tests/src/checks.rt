@@ -7,8 +7,8 @@ use crate::log_entries::{
     PLAIN_FIELDS, SAME, SHORT_FIELDS, SOFT_TAIL, SUPERBLOCK, TO_PAIR1, TO_ROOT1, TURNED,
 };
 use crate::texts::check_text;
-use lfs_fixtures::BlockFilling::{Bytes, Commit};
-use lfs_fixtures::{BlockFilling, FixtureEntries, image_with_commit};
+use lfs_fixtures::BlockContents::{Bytes, Commit};
+use lfs_fixtures::{BlockContents, FixtureEntries, image_with_commit};
 use lfs_tool::ImageLayout;
 use std::alloc::{AllocError, Global};
 use std::test::Fail;
@@ -25,7 +25,11 @@ const LONG_BLOCKS: &[u8] = &[
 
 // An image, and the expected text. The image has a second commit in its first block, and some other
 // blocks. The text is that of the whole check, or the line after `corrupt`.
-type Row<'a> = (FixtureEntries<'a>, &'a [(usize, BlockFilling<'a>)], &'a str);
+type Row<'a> = (
+    FixtureEntries<'a>,
+    &'a [(usize, BlockContents<'a>)],
+    &'a str,
+);
 
 pub(crate) const FRESH: &str =
     "ok\nfiles 0\ndirectories 0\nused 2 of 16 blocks\nfree 14\norder either\nrecover no\nwritable yes\n";

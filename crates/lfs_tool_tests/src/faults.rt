@@ -37,7 +37,7 @@ fn note_in_log(rt: &HostRuntime, log: &FaultLog, note: Note) {
                 log.note(rt.alloc(), path.as_bytes(), &error);
             }
         }
-        Note::Lost => log.note_lost_fault(),
+        Note::Lost => log.log_allocation_failure(),
     }
 }
 

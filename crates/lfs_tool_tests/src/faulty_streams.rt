@@ -18,7 +18,7 @@ const OUTPUT: &[u8] = b"error: output\n";
 // A reader and writer that transfers at most `most` bytes in a call. The call with the number
 // `fails_at` fails, and a flush counts as a call.
 #[derive(Drop)]
-struct Faulty<'a> {
+struct FaultyRamDevice<'a> {
     left: &'a [u8],
     taken: Vec<u8>,
     most: usize,
@@ -27,7 +27,7 @@ struct Faulty<'a> {
     kind: ErrorKind,
 }
 
-impl Faulty<'_> {
+impl FaultyRamDevice<'_> {
     fn count_call_or_fail(&mut self) -> io::Result<()> {
         self.calls = self.calls.saturating_add(1);
         if self.calls == self.fails_at {
@@ -37,7 +37,7 @@ impl Faulty<'_> {
     }
 }
 
-impl Read for Faulty<'_> {
+impl Read for FaultyRamDevice<'_> {
     fn read(&mut self, buf: &mut [u8]) -> io::Result<usize> {
         self.count_call_or_fail()?;
         let n = self.left.len().min(self.most);
@@ -48,7 +48,7 @@ impl Read for Faulty<'_> {
     }
 }
 
-impl Write for Faulty<'_> {
+impl Write for FaultyRamDevice<'_> {
     fn write(&mut self, buf: &[u8]) -> io::Result<usize> {
         self.count_call_or_fail()?;
         let n = buf.len().min(self.most);
@@ -67,8 +67,8 @@ fn stream_failing_at_call<'a>(
     most: usize,
     fails_at: u32,
     kind: ErrorKind,
-) -> Stream<Faulty<'a>> {
-    Stream::new(Faulty {
+) -> Stream<FaultyRamDevice<'a>> {
+    Stream::new(FaultyRamDevice {
         left,
         taken: Vec::new(alloc),
         most,
@@ -141,7 +141,7 @@ fn text_from_failing_writer(
     alloc: Global,
     image: &[u8],
     is_made: bool,
-    writer: Stream<Faulty<'_>>,
+    writer: Stream<FaultyRamDevice<'_>>,
 ) -> Result<Vec<u8>, Error> {
     let mut writer = writer;
     let result = if is_made {

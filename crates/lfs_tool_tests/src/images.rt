@@ -6,9 +6,9 @@ use crate::log_entries::{
     SHORT_FIELDS, SOFT_TAIL, SUPERBLOCK, TO_PAIR1, TO_PAIR2, TO_PAIR3, TO_ROOT1, TURNED,
 };
 use crate::texts::{list_text, unpack_text};
-use lfs_fixtures::BlockFilling::{Bytes, Commit};
+use lfs_fixtures::BlockContents::{Bytes, Commit};
 use lfs_fixtures::{
-    BlockFilling, FixtureEntries, block_with_entries, commits_beginning, image_with_commit,
+    BlockContents, FixtureEntries, block_with_commits, block_with_entries, image_with_commit,
     image_with_pair,
 };
 use lfs_tool::ImageLayout;
@@ -25,13 +25,17 @@ const HALF: &[u8] = &[2, 0, 0, 0, 0xff, 0xff, 0xff, 0xff];
 const NO_PAIR: &[u8] = &[0xff; 8];
 
 // Blocks of a pair, with a file `f` and with a file `a`.
-const WITH_F: BlockFilling<'static> = Commit(&[(0x0010_0001, b"f"), (0x2010_0002, b"hi")]);
+const WITH_F: BlockContents<'static> = Commit(&[(0x0010_0001, b"f"), (0x2010_0002, b"hi")]);
 
-const WITH_A: BlockFilling<'static> = Commit(&[A0, (0x2010_0002, b"hi")]);
+const WITH_A: BlockContents<'static> = Commit(&[A0, (0x2010_0002, b"hi")]);
 
 // An image, and the expected text. The image has a second commit in its first block, and some other
 // blocks.
-type Row<'a> = (FixtureEntries<'a>, &'a [(usize, BlockFilling<'a>)], &'a str);
+type Row<'a> = (
+    FixtureEntries<'a>,
+    &'a [(usize, BlockContents<'a>)],
+    &'a str,
+);
 
 // The entries of a second commit, and the expected listing.
 const COMMITS: [(FixtureEntries<'static>, &str); 19] = [
@@ -176,14 +180,14 @@ const FORWARD_CHECKSUM: (u32, &[u8]) = (0x5fff_fc08, &[0x10, 0, 0, 0, 0x12, 0x34
 
 // Two files, of which one name is a prefix of the other. Either the longer or the shorter name
 // comes first.
-const LONGER: BlockFilling<'static> = Commit(&[
+const LONGER: BlockContents<'static> = Commit(&[
     (0x0010_0002, b"xy"),
     EMPTY0,
     (0x0010_0401, b"x"),
     EMPTY1,
 ]);
 
-pub(crate) const SHORTER: BlockFilling<'static> = Commit(&[
+pub(crate) const SHORTER: BlockContents<'static> = Commit(&[
     (0x0010_0001, b"x"),
     EMPTY0,
     (0x0010_0402, b"xy"),
@@ -235,7 +239,7 @@ const MOVES: [Row<'static>; 2] = [
 ];
 
 // A list of three blocks, and one whose last block has a wrong pointer.
-const SECOND: BlockFilling<'static> = Bytes(&[4, 0, 0, 0]);
+const SECOND: BlockContents<'static> = Bytes(&[4, 0, 0, 0]);
 
 const LISTS: [Row<'static>; 8] = [
     // a block in two files, the superblock's block, and a block that isn't in the image
@@ -289,7 +293,7 @@ pub(crate) const ENTRIES: FixtureEntries<'static> = &[
     NEXT_PAIR,
 ];
 
-pub(crate) const BELOW: BlockFilling<'static> = Commit(&[(0x0010_0001, b"x"), EMPTY0]);
+pub(crate) const BELOW: BlockContents<'static> = Commit(&[(0x0010_0001, b"x"), EMPTY0]);
 
 // Images, and the expected actions for unpacking them.
 const UNPACKED: [Row<'static>; 4] = [
@@ -357,7 +361,7 @@ const SHIFTING: [FixtureEntries<'static>; 4] = [
 ];
 
 pub(crate) fn shifting_block(alloc: Global) -> Result<Vec<u8>, AllocError> {
-    commits_beginning(alloc, 1, &SHIFTING)
+    block_with_commits(alloc, 1, &SHIFTING)
 }
 
 // A log with a file `x` up to the middle of its CRC entry: the first bytes, 67 zeros, and the last
@@ -413,7 +417,7 @@ const ODD: [(UnusualImage, &str); 15] = [
 ];
 
 // Returns the block that is nearly a log.
-fn block_nearly_with_log(alloc: Global, byte: u8) -> Result<Vec<u8>, AllocError> {
+fn damaged_log_block(alloc: Global, byte: u8) -> Result<Vec<u8>, AllocError> {
     let mut block = Vec::from_slice(alloc, NEARLY)?;
     block.resize(128, 0)?;
     block.extend_from_slice(NEARLY_END)?;
@@ -422,7 +426,7 @@ fn block_nearly_with_log(alloc: Global, byte: u8) -> Result<Vec<u8>, AllocError>
 }
 
 // Returns the bytes of an unusual image.
-fn odd_image(alloc: Global, odd: UnusualImage) -> Result<Vec<u8>, AllocError> {
+fn unusual_image(alloc: Global, odd: UnusualImage) -> Result<Vec<u8>, AllocError> {
     let mut first = shifting_block(alloc)?;
     let mut second = Vec::new(alloc);
     let mut len = 65536;
@@ -434,7 +438,7 @@ fn odd_image(alloc: Global, odd: UnusualImage) -> Result<Vec<u8>, AllocError> {
             first = Vec::from_slice(alloc, &[0; 4])?;
             second = block_with_entries(alloc, revision, entries)?;
         }
-        UnusualImage::Nearly(byte) => second = block_nearly_with_log(alloc, byte)?,
+        UnusualImage::Nearly(byte) => second = damaged_log_block(alloc, byte)?,
         UnusualImage::Flipped(at, bits) => {
             if let Some(byte) = first.get_mut(at) {
                 *byte ^= bits;
@@ -454,14 +458,14 @@ fn odd_image(alloc: Global, odd: UnusualImage) -> Result<Vec<u8>, AllocError> {
     Ok(image)
 }
 
-fn is_odd_image_listed(
+fn is_unusual_image_listed(
     alloc: Global,
     odd: UnusualImage,
     block_size: u32,
     page: u32,
     wanted: &str,
 ) -> Result<bool, AllocError> {
-    let image = odd_image(alloc, odd)?;
+    let image = unusual_image(alloc, odd)?;
     let text = list_text(alloc, image.as_slice(), ImageLayout::new(block_size, page))?;
     Ok(text.as_slice() == wanted.as_bytes())
 }
@@ -477,15 +481,15 @@ const SIZES: [(u32, u32, &str); 6] = [
 ];
 
 #[test]
-fn odd_images_are_listed_or_refused(rt: HostRuntime) -> Result<(), Fail> {
+fn unusual_images_are_listed_or_refused(rt: HostRuntime) -> Result<(), Fail> {
     for (number, (odd, text)) in ODD.iter().enumerate() {
         assert!(rt;
-            is_odd_image_listed(rt.alloc(), *odd, 4096, 256, text)?,
+            is_unusual_image_listed(rt.alloc(), *odd, 4096, 256, text)?,
             "{number}"
         );
     }
     for (block_size, page, text) in SIZES {
-        let is_listed = is_odd_image_listed(
+        let is_listed = is_unusual_image_listed(
             rt.alloc(),
             UnusualImage::Fresh(65536),
             block_size,
@@ -531,7 +535,7 @@ fn is_image_listed_with_inverted_byte(
 
 #[test]
 fn images_with_inverted_bytes_are_listed(rt: HostRuntime) -> Result<(), Fail> {
-    let mut image = odd_image(rt.alloc(), UnusualImage::Flipped(0, 0))?;
+    let mut image = unusual_image(rt.alloc(), UnusualImage::Flipped(0, 0))?;
     let mut from = 0;
     for (to, text) in INVERTED {
         for at in from..to {

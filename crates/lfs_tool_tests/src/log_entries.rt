@@ -1,6 +1,6 @@
 // Log entries and their contents, from which images are built.
 
-use lfs_fixtures::BlockFilling;
+use lfs_fixtures::BlockContents;
 
 /// A log entry: its tag and its data.
 pub(crate) type Entry = (u32, &'static [u8]);
@@ -99,4 +99,4 @@ pub(crate) const NEXT_PAIR: Entry = (SOFT_TAIL, PAIR);
 pub(crate) const GOES_ON: Entry = (HARD_TAIL, PAIR);
 
 /// A block of a pair without slots.
-pub(crate) const EMPTY: BlockFilling<'static> = BlockFilling::Commit(&[]);
+pub(crate) const EMPTY: BlockContents<'static> = BlockContents::Commit(&[]);

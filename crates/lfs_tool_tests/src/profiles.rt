@@ -5,8 +5,8 @@ use crate::log_entries::{A1, GOES_ON, LATER_FIELDS, PLAIN_FIELDS, SHORT_FIELDS, 
 use crate::sources::{Items, memory_source_of_items};
 use crate::texts::{check_text, create_of_source, list_text, unpack_text, with_error_line};
 use lfs_device::{AcceptedVersions, Error, Geometry, Profile};
-use lfs_fixtures::BlockFilling::{Bytes, Commit};
-use lfs_fixtures::{BlockFilling, FixtureEntries, image_with_commit};
+use lfs_fixtures::BlockContents::{Bytes, Commit};
+use lfs_fixtures::{BlockContents, FixtureEntries, image_with_commit};
 use lfs_tool::{ImageLayout, Stream};
 use std::alloc::{AllocError, Global};
 use std::test::Fail;
@@ -53,7 +53,7 @@ const SHORT_ATTRIBUTES: &[u8] = &[
 
 // A first block that littlefs has compacted, so that a file comes between the superblock's name and
 // its struct.
-const COMPACTED: BlockFilling<'static> = Commit(&[
+const COMPACTED: BlockContents<'static> = Commit(&[
     SUPERBLOCK,
     A1,
     (0x2010_041c, b"twenty-eight bytes are in it"),
@@ -86,29 +86,29 @@ const FORMATTED_SECOND: &[u8] =
     b"\x01\0\0\0\xf0\x0f\xff\xf7littlefs/\xe0\0\x10\x01\0\x02\0\0\x10\0\0\x10\0\0\0\xff\0\0\0\xff\xff\xff\x7f\xfe\x03\0\0\
     \x7f\xef\xfc\x10\0\x01\0\0\xdeWW\x01\x0f\xf0\0\xcc\x06\x90\x17H";
 
-const FIRMWARE_BLOCKS: &[(usize, BlockFilling<'static>)] = &[
+const FIRMWARE_BLOCKS: &[(usize, BlockContents<'static>)] = &[
     (0, Bytes(FIRMWARE_FIRST)),
     (1, Bytes(FIRMWARE_SECOND)),
 ];
 
-const FORMATTED_BLOCKS: &[(usize, BlockFilling<'static>)] = &[
+const FORMATTED_BLOCKS: &[(usize, BlockContents<'static>)] = &[
     (0, Bytes(FORMATTED_FIRST)),
     (1, Bytes(FORMATTED_SECOND)),
 ];
 
 // The second pair of a superblock chain, with a superblock of version 2.1, of version 2.0, or with
 // another limit.
-const LATER_ROOT: &[(usize, BlockFilling<'static>)] = &[(2, Commit(&[SUPERBLOCK, LATER_FIELDS]))];
+const LATER_ROOT: &[(usize, BlockContents<'static>)] = &[(2, Commit(&[SUPERBLOCK, LATER_FIELDS]))];
 
-const PLAIN_ROOT: &[(usize, BlockFilling<'static>)] = &[(2, Commit(&[SUPERBLOCK, PLAIN_FIELDS]))];
+const PLAIN_ROOT: &[(usize, BlockContents<'static>)] = &[(2, Commit(&[SUPERBLOCK, PLAIN_FIELDS]))];
 
-const OTHER_ROOT: &[(usize, BlockFilling<'static>)] = &[(2, Commit(&[SUPERBLOCK, SHORT_FIELDS]))];
+const OTHER_ROOT: &[(usize, BlockContents<'static>)] = &[(2, Commit(&[SUPERBLOCK, SHORT_FIELDS]))];
 
 // An image, a profile, and the lines of the check. The image has a second commit in its first
 // block, and some other blocks.
 type Row<'a> = (
     FixtureEntries<'a>,
-    &'a [(usize, BlockFilling<'a>)],
+    &'a [(usize, BlockContents<'a>)],
     Profile,
     &'a str,
 );

@@ -26,7 +26,7 @@ impl FollowsProgress for RecordedProgress {
     }
 }
 
-fn no_progress_told(alloc: Global) -> RecordedProgress {
+fn new_recorded_progress(alloc: Global) -> RecordedProgress {
     RecordedProgress {
         amounts: Vec::new(alloc),
         is_full: false,
@@ -35,7 +35,7 @@ fn no_progress_told(alloc: Global) -> RecordedProgress {
 
 // Returns whether the recorded progress is as expected: the totals of files and bytes, and those of
 // each entry.
-fn is_progress_told(told: &RecordedProgress, wanted: &[(usize, usize)]) -> bool {
+fn is_recorded_progress(told: &RecordedProgress, wanted: &[(usize, usize)]) -> bool {
     let is_same = told.amounts.iter().zip(wanted).all(|(amount, (files, bytes))| amount.files
         == *files
         && amount.bytes == *bytes);
@@ -53,7 +53,7 @@ fn progress_of_making_image(alloc: Global) -> Result<RecordedProgress, Error> {
         ],
     )?;
     let mut out = Stream::new(Vec::new(alloc));
-    let mut told = no_progress_told(alloc);
+    let mut told = new_recorded_progress(alloc);
     let geometry = Geometry::new(4096, 256, 16)?;
     let _ = create_of_source(alloc, &mut source, geometry, &mut out, &mut told);
     Ok(told)
@@ -65,17 +65,17 @@ fn progress_of_unpacking_image(alloc: Global) -> Result<RecordedProgress, AllocE
     let mut target = MemoryTarget {
         done: Vec::new(alloc),
     };
-    let mut told = no_progress_told(alloc);
+    let mut told = new_recorded_progress(alloc);
     let layout = ImageLayout::new(4096, 256);
     let _ = unpack(alloc, image, layout, &mut target, &mut told);
     Ok(told)
 }
 
 #[test]
-fn files_and_bytes_are_told(rt: HostRuntime) -> Result<(), Fail> {
+fn progress_counts_are_reported(rt: HostRuntime) -> Result<(), Fail> {
     let made = progress_of_making_image(rt.alloc())?;
-    assert!(rt; is_progress_told(&made, &[(2, 7), (1, 5), (0, 0), (1, 2)]));
+    assert!(rt; is_recorded_progress(&made, &[(2, 7), (1, 5), (0, 0), (1, 2)]));
     let unpacked = progress_of_unpacking_image(rt.alloc())?;
-    assert!(rt; is_progress_told(&unpacked, &[(2, 5), (1, 5), (0, 0), (1, 0)]));
+    assert!(rt; is_recorded_progress(&unpacked, &[(2, 5), (1, 5), (0, 0), (1, 0)]));
     Ok(())
 }

@@ -17,7 +17,7 @@ const OLD: &[u8] = b"an old image";
 
 // What is at the path before the image is written. A link points to a file in another folder.
 #[derive(Clone, Copy, PartialEq, Eq, Debug)]
-enum Standing {
+enum PathBeforeWrite {
     Nothing,
     File,
     Link,
@@ -25,35 +25,83 @@ enum Standing {
 
 // What is at the path before, how many bytes can be written, which calls are refused, whether the
 // image is created, and the bytes that are then at the path.
-const ROWS: [(Standing, usize, Refusal, bool, Option<&[u8]>); 12] = [
-    (Standing::Nothing, 24, Refusal::Nothing, true, Some(IMAGE)),
-    (Standing::Nothing, 23, Refusal::Nothing, false, None),
-    (Standing::File, 24, Refusal::Nothing, true, Some(IMAGE)),
-    (Standing::File, 23, Refusal::Nothing, false, Some(OLD)),
-    (Standing::File, 0, Refusal::Nothing, false, Some(OLD)),
-    (Standing::File, 99, Refusal::Writing, false, Some(OLD)),
-    (Standing::Link, 99, Refusal::Nothing, true, Some(IMAGE)),
+const ROWS: [(PathBeforeWrite, usize, Refusal, bool, Option<&[u8]>); 12] = [
     (
-        Standing::Link,
+        PathBeforeWrite::Nothing,
+        24,
+        Refusal::Nothing,
+        true,
+        Some(IMAGE),
+    ),
+    (PathBeforeWrite::Nothing, 23, Refusal::Nothing, false, None),
+    (
+        PathBeforeWrite::File,
+        24,
+        Refusal::Nothing,
+        true,
+        Some(IMAGE),
+    ),
+    (
+        PathBeforeWrite::File,
+        23,
+        Refusal::Nothing,
+        false,
+        Some(OLD),
+    ),
+    (PathBeforeWrite::File, 0, Refusal::Nothing, false, Some(OLD)),
+    (
+        PathBeforeWrite::File,
+        99,
+        Refusal::Writing,
+        false,
+        Some(OLD),
+    ),
+    (
+        PathBeforeWrite::Link,
+        99,
+        Refusal::Nothing,
+        true,
+        Some(IMAGE),
+    ),
+    (
+        PathBeforeWrite::Link,
         20,
         Refusal::Nothing,
         false,
         Some(b"the bytes of a new i"),
     ),
-    (Standing::Nothing, 99, Refusal::NewNames, false, None),
-    (Standing::File, 99, Refusal::NewNames, true, Some(IMAGE)),
-    (Standing::File, 99, Refusal::Renames, true, Some(IMAGE)),
-    (Standing::File, 23, Refusal::Renames, false, Some(OLD)),
+    (PathBeforeWrite::Nothing, 99, Refusal::NewNames, false, None),
+    (
+        PathBeforeWrite::File,
+        99,
+        Refusal::NewNames,
+        true,
+        Some(IMAGE),
+    ),
+    (
+        PathBeforeWrite::File,
+        99,
+        Refusal::Renames,
+        true,
+        Some(IMAGE),
+    ),
+    (
+        PathBeforeWrite::File,
+        23,
+        Refusal::Renames,
+        false,
+        Some(OLD),
+    ),
 ];
 
 // Recreates the folder, with this at the path.
-fn make_folder(rt: &HostRuntime, standing: Standing) -> io::Result<()> {
+fn make_folder(rt: &HostRuntime, standing: PathBeforeWrite) -> io::Result<()> {
     let _ = fs::remove_dir_all(rt, "whole");
     fs::create_dir_all(rt, "whole")?;
     match standing {
-        Standing::Nothing => Ok(()),
-        Standing::File => fs::write(rt, PATH, OLD),
-        Standing::Link => {
+        PathBeforeWrite::Nothing => Ok(()),
+        PathBeforeWrite::File => fs::write(rt, PATH, OLD),
+        PathBeforeWrite::Link => {
             fs::write(rt, "whole_target", OLD)?;
             symlink(rt, "../whole_target", PATH)
         }
@@ -81,7 +129,7 @@ fn write_new_image<'a, R: Files>(rt: &HostRuntime, files: &'a R) -> io::Result<N
 // Returns whether an image that isn't moved to its path leaves the old file there. Also checks that
 // another run's temporary file stays, and that the image gets the old file's permissions.
 fn are_old_images_and_names_kept(rt: &HostRuntime) -> io::Result<bool> {
-    make_folder(rt, Standing::File)?;
+    make_folder(rt, PathBeforeWrite::File)?;
     fs::set_permissions(rt, PATH, Permissions::from_mode(0o640))?;
     drop(write_new_image(rt, rt)?);
     if fs::read(rt, PATH)?.as_slice() != OLD || count_names(rt)? != 1 {
@@ -94,8 +142,8 @@ fn are_old_images_and_names_kept(rt: &HostRuntime) -> io::Result<bool> {
 }
 
 // Returns whether no file is created if nothing is written.
-fn is_nothing_made_unwritten(rt: &HostRuntime) -> io::Result<bool> {
-    make_folder(rt, Standing::Nothing)?;
+fn is_unwritten_image_absent(rt: &HostRuntime) -> io::Result<bool> {
+    make_folder(rt, PathBeforeWrite::Nothing)?;
     let mut image = NewImage::new(rt.alloc(), rt, PATH)?;
     image.flush()?;
     image.place()?;
@@ -124,7 +172,7 @@ fn images_are_whole_or_not_there(rt: HostRuntime) -> Result<(), Fail> {
         );
         assert_eq!(rt; count_names(&rt)?, usize::from(bytes.is_some()));
     }
-    assert!(rt; are_old_images_and_names_kept(&rt)? && is_nothing_made_unwritten(&rt)?);
+    assert!(rt; are_old_images_and_names_kept(&rt)? && is_unwritten_image_absent(&rt)?);
     fs::remove_file(&rt, "whole_target")?;
     fs::remove_dir_all(&rt, "whole")?;
     Ok(())

@@ -3,7 +3,7 @@ use Rattle.std.proofs.Common.{ℕ, ◌≡◌, ◌∙◌, ◌||◌, Bool, false, 
 use Rattle.std.specs.Prelude.{IfErr, OnErr, OnOk, is_err}
 use Rattle.lfs_device.specs.declared.error.Error.{Error}
 use Rattle.lfs_device.specs.declared.error.Error.TheVariants.{Io}
-use Rattle.lfs_tree.proofs.Common.{BlockStates, CachedBlocks, Disk, CallEvent, Pair, count_before_root, ThreadView, SoundUnlessFailed, SoundWithRoot, uncached_state, thread_state, ReadsOrReports, TreeState, without_cache, HasErrorCause}
+use Rattle.lfs_tree.proofs.Common.{BlockStates, CachedBlocks, Disk, CallEvent, Pair, count_before_root, ThreadView, IsSoundUnlessFailed, IsSoundWithRoot, uncached_state, thread_state, ReadsOrReports, TreeState, without_cache, HasErrorCause}
 use Rattle.lfs_tree.specs.TreeState.{OnlyReadsTree, ReadsTreeOrFails, FailedByReading}
 use Rattle.lfs_tree.proofs.Mounting.{sound_read}
 use Rattle.lfs_tree.proofs.SameErrors.{same_error}
@@ -15,7 +15,7 @@ see disk history pairs map writable failed cache = record { disk = disk; history
 abbrev pub behind : {X : Type 0} → ThreadView → Result X Error → ThreadView
 behind b r = record b { failed = is_err r || b.failed }
 
-module _ {X : Type 0} (a b : ThreadView) (root : ℕ) (writable : Bool) (h : SoundWithRoot a root writable) where
+module _ {X : Type 0} (a b : ThreadView) (root : ℕ) (writable : Bool) (h : IsSoundWithRoot a root writable) where
   asked : (r : Result X Error) → ReadsOrReports a b r → OnOk r (OnlyReadsTree (thread_state a writable) (thread_state (behind b r) writable))
   asked (Err e) k = tt
   asked (Ok x) k = record {
@@ -46,24 +46,24 @@ module _ {X : Type 0} (a b : ThreadView) (root : ℕ) (writable : Bool) (h : Sou
       (subst (λ (t : ThreadView). ReadsTreeOrFails (thread_state a writable) r (thread_state t writable)) (sym is) (record { asked = asked r k; broken = broken r k; errors = reported r k }))
 
   -- it stays what it is
-  pub rooted : (r : Result X Error) → ReadsOrReports a b r → SoundWithRoot b root writable
+  pub rooted : (r : Result X Error) → ReadsOrReports a b r → IsSoundWithRoot b root writable
   rooted r k = record { works = k.works; sound = sound_read a.kept b.kept writable false false k.only h.sound; root_is = h.root_is ∙ ap count_before_root (sym k.only.pairs) }
 
   -- without an error
-  pub held : (r : Result X Error) (c : ThreadView) → c ≡ behind b r → ReadsOrReports a b r → SoundUnlessFailed c root writable
-  held r c is k = subst (λ (t : ThreadView). SoundUnlessFailed t root writable) (sym is) (go r k)
+  pub held : (r : Result X Error) (c : ThreadView) → c ≡ behind b r → ReadsOrReports a b r → IsSoundUnlessFailed c root writable
+  held r c is k = subst (λ (t : ThreadView). IsSoundUnlessFailed t root writable) (sym is) (go r k)
     where
-      go : (r : Result X Error) → ReadsOrReports a b r → SoundUnlessFailed (behind b r) root writable
+      go : (r : Result X Error) → ReadsOrReports a b r → IsSoundUnlessFailed (behind b r) root writable
       go (Err e) k f = absurd (cc)
       go (Ok x) k f = rooted (Ok x) k
 
 -- ---- what is seen of a thread
 
-module _ (thread : ThreadView) (root : ℕ) (writable : Bool) (now : TreeState) (kept : SoundUnlessFailed thread root writable) (view : thread_state thread writable ≡ now) where
+module _ (thread : ThreadView) (root : ℕ) (writable : Bool) (now : TreeState) (kept : IsSoundUnlessFailed thread root writable) (view : thread_state thread writable ≡ now) where
   pub works_held : now.failed ≡ false → thread.failed ≡ false
   works_held e = ap (λ (s : TreeState). s.failed) view ∙ e
 
-  pub rooted_held : now.failed ≡ false → SoundWithRoot thread root writable
+  pub rooted_held : now.failed ≡ false → IsSoundWithRoot thread root writable
   rooted_held e = kept (works_held e)
 
   -- what works and may be written, is seen so

@@ -1,10 +1,10 @@
 -- An image of which no used block changed.
 use Rattle.std.proofs.Common.{ℕ, ◌≡◌, ◌≤◌, ◌+◌, ◌∙◌, List, [], ◌∷◌, ◌++◌, length, length-append, take, Some, refl, sym, ap, subst, arith}
 use Rattle.std.specs.Prelude.{All, Contains}
-use Rattle.lfs_tree.proofs.Common.{flat_map, All-from_recursion, recursion_from_All, slice_get_within, current_block, Disk, SameGeometry, disk_block, FitsInPair, Slot, Pair, pairs_blocks, pairs_from_root, first_address, count_before_root, BeginsWith, IsAccepted, superblock_entry, IsWritableSlot, IsWritable, all_unmoved_slots, struct_blocks, used_blocks, Contains-number_occurrences, IsChangedImage, slots_files, Each, number_occurrences, count_append, count_here, each_from_counted, each_pieces, SameFileBlocks, chain_of_thread, root_begins}
+use Rattle.lfs_tree.proofs.Common.{flat_map, All-from_recursion, recursion_from_All, slice_get_within, current_block, Disk, SameGeometry, disk_block, FitsInPair, Slot, Pair, pairs_blocks, pairs_from_root, first_address, count_before_root, HasFirstLogEntry, IsAccepted, superblock_entry, IsWritableSlot, IsWritable, all_unmoved_slots, struct_blocks, used_blocks, Contains-occurrence_count, IsChangedImage, slots_files, Each, occurrence_count, count_append, count_here, each_from_counted, each_pieces, SameFileBlocks, chain_of_thread, root_begins}
 use Rattle.lfs_model.specs.format.Content.{content_at}
 use Rattle.lfs_model.specs.declared.limits.Profile.{Profile}
-use Rattle.lfs_model.specs.format.Thread.{pairs_from_filled}
+use Rattle.lfs_model.specs.format.Thread.{pairs_from_nonempty}
 use Rattle.lfs_model.proofs.Devices.{content_same, first_same}
 use Rattle.lfs_model.proofs.Splices.{IsDevice}
 use Rattle.lfs_model.proofs.Superblocks.{IsChain, first_counted}
@@ -22,7 +22,7 @@ pub geometry_back : (disk new : Disk) → SameGeometry disk new → SameGeometry
 geometry_back disk new g = record { block_size = sym g.block_size; page = sym g.page; order = sym g.order; profile = sym g.profile; count = sym g.count }
 
 -- pairs of which no block changed
-contents_still : (disk new : Disk) (ps : List Pair) → ((b : ℕ) → 1 ≤ number_occurrences b (pairs_blocks ps) → disk_block new b ≡ disk_block disk b) → Each (λ (p : Pair). content_at disk p.at ≡ Some p.content) ps
+contents_still : (disk new : Disk) (ps : List Pair) → ((b : ℕ) → 1 ≤ occurrence_count b (pairs_blocks ps) → disk_block new b ≡ disk_block disk b) → Each (λ (p : Pair). content_at disk p.at ≡ Some p.content) ps
     → Each (λ (p : Pair). content_at new p.at ≡ Some p.content) ps
 contents_still disk new [] same was = tt
 contents_still disk new (p ∷ ps) same was = (
@@ -32,26 +32,26 @@ contents_still disk new (p ∷ ps) same was = (
   contents_still disk new ps (λ b some. same b (omega arith)) was.1,
 )
 
-first_still : (disk new : Disk) (ps : List Pair) → IsAccepted disk ps → ((b : ℕ) → 1 ≤ number_occurrences b (pairs_blocks ps) → disk_block new b ≡ disk_block disk b)
-    → BeginsWith (current_block new (first_address (pairs_from_filled ps))) superblock_entry
+first_still : (disk new : Disk) (ps : List Pair) → IsAccepted disk ps → ((b : ℕ) → 1 ≤ occurrence_count b (pairs_blocks ps) → disk_block new b ≡ disk_block disk b)
+    → HasFirstLogEntry (current_block new (first_address (pairs_from_nonempty ps))) superblock_entry
 first_still disk new ps ok same =
     let f = accepted_filled disk ps ok in
     let n = first_counted ps f.pair f.rest f.is in
     let e = ap first_address f.is in
-    subst (λ at. BeginsWith (current_block new at) superblock_entry) (sym e)
-    (first_same disk new f.pair.at (same f.pair.at.0 n.0) (same f.pair.at.1 n.1) (subst (λ at. BeginsWith (current_block disk at) superblock_entry) e ok.first))
+    subst (λ at. HasFirstLogEntry (current_block new at) superblock_entry) (sym e)
+    (first_same disk new f.pair.at (same f.pair.at.0 n.0) (same f.pair.at.1 n.1) (subst (λ at. HasFirstLogEntry (current_block disk at) superblock_entry) e ok.first))
 
 module _ (disk new : Disk) (ps : List Pair) (ok : IsAccepted disk ps) (geometry : SameGeometry disk new) (same : (b : ℕ) → Contains (used_blocks disk ps) b → disk_block new b ≡ disk_block disk b) where
-  counted : (b : ℕ) → number_occurrences b (used_blocks disk ps) ≡ number_occurrences b (pairs_blocks ps) + number_occurrences b (flat_map (λ (s : Slot). struct_blocks disk s.struct) (all_unmoved_slots ps))
+  counted : (b : ℕ) → occurrence_count b (used_blocks disk ps) ≡ occurrence_count b (pairs_blocks ps) + occurrence_count b (flat_map (λ (s : Slot). struct_blocks disk s.struct) (all_unmoved_slots ps))
   counted b = count_append b (pairs_blocks ps) (flat_map (λ (s : Slot). struct_blocks disk s.struct) (all_unmoved_slots ps))
 
-  pair_still : (b : ℕ) → 1 ≤ number_occurrences b (pairs_blocks ps) → disk_block new b ≡ disk_block disk b
-  pair_still b some = same b (Contains-number_occurrences (used_blocks disk ps) b (let e = counted b in omega arith))
+  pair_still : (b : ℕ) → 1 ≤ occurrence_count b (pairs_blocks ps) → disk_block new b ≡ disk_block disk b
+  pair_still b some = same b (Contains-occurrence_count (used_blocks disk ps) b (let e = counted b in omega arith))
 
   pub files_still : Each (λ (s : Slot). SameFileBlocks disk new s.struct) (all_unmoved_slots ps)
   files_still = each_pieces (λ b. disk_block new b ≡ disk_block disk b) (λ (s : Slot). struct_blocks disk s.struct) (all_unmoved_slots ps)
       (each_from_counted (λ b. disk_block new b ≡ disk_block disk b) (flat_map (λ (s : Slot). struct_blocks disk s.struct) (all_unmoved_slots ps))
-      (λ b some. same b (Contains-number_occurrences (used_blocks disk ps) b (let e = counted b in omega arith))))
+      (λ b some. same b (Contains-occurrence_count (used_blocks disk ps) b (let e = counted b in omega arith))))
 
   device_still : IsDevice disk new ps ps
   device_still = record {

@@ -1,6 +1,6 @@
 -- A writer's contents, written to blocks that the image doesn't use.
 use Rattle.std.proofs.Common.{ℕ, ◌≡◌, ◌<◌, ◌≤◌, ◌+◌, ◌/◌, ◌∙◌, Bool, true, false, List, length, min, Option, Some, None, Result, Ok, Err, inl, refl, sym, ap, subst, arith}
-use Rattle.lfs_tree.proofs.Common.{min-le_right, is_file, AreUsed, used_count, SameGeometry, disk_block, block_count, inline_limit, DiskSummary, slot_of, Slot, Pair, pairs_gstate, count_before_root, Path, Tree, IsAccepted, IsWritable, disk_tree, used_blocks, Blocks, CachedBlocks, HasEitherTree, SurvivesLossSince, with_blocks, IsChangedImage, HoldsAtLosses-weaker, HoldsAtLosses-worst, SameFileBlocks, file_blocks_same, AreOnThread, CanTruncate, CanWrite, HaveThreadForm, KeepsPairs, ThreadReportsFaults, contents_list_blocks, KeptThread, ThreadView, SoundUnlessFailed, SoundWithRoot, uncached_state, thread_state, CanTruncateIn, CanWriteIn, AreThreadContents, slot_blocks, writer_contents_bytes, list_blocks_at, IsFailedTree, HasErrorCause, IsSoundState, TreeState, contents_bytes, contents_form, ContentsForm, AreUsedAmong}
+use Rattle.lfs_tree.proofs.Common.{min-le_right, is_file, AreUsed, used_count, SameGeometry, disk_block, block_count, inline_limit, DiskSummary, slot_of_path, Slot, Pair, pairs_gstate, count_before_root, Path, Tree, IsAccepted, IsWritable, disk_tree, used_blocks, Blocks, CachedBlocks, HasEitherTree, SurvivesLossSince, with_blocks, IsChangedImage, HoldsAtLosses-weaker, HoldsAtLosses-worst, SameFileBlocks, file_blocks_same, AreContentsOnDisk, CanTruncate, CanWriteToContents, HaveContentsForm, KeepsPairs, ThreadReportsFaults, contents_list_blocks, KeptThread, ThreadView, IsSoundUnlessFailed, IsSoundWithRoot, uncached_state, thread_state, CanTruncateIn, CanWriteIn, AreThreadContents, slot_blocks, writer_contents_bytes, list_blocks_at, IsFailedTree, HasErrorCause, IsSoundState, TreeState, contents_bytes, contents_form, ContentsForm, AreUsedAmong}
 use Rattle.std.specs.Prelude.{Contains, IfErr, IfOk, OnErr, OnOk}
 use Rattle.lfs_device.specs.declared.error.Error.{Error}
 use Rattle.lfs_device.specs.declared.error.Error.TheVariants.{Io}
@@ -17,7 +17,7 @@ use Rattle.lfs_file.specs.declared.contents.WriterContents.{WriterContents}
 use Rattle.lfs_file.proofs.Used.{used_back}
 
 -- the bytes and the form of contents on a thread's device
-pub bytes_of_held : (t : KeptThread) (c : WriterContents) (bytes : List ℕ) (shape : ContentsForm) → HaveThreadForm t c bytes shape → writer_contents_bytes t c ≡ bytes
+pub bytes_of_held : (t : KeptThread) (c : WriterContents) (bytes : List ℕ) (shape : ContentsForm) → HaveContentsForm t c bytes shape → writer_contents_bytes t c ≡ bytes
 bytes_of_held t c bytes shape h = ap (λ (n : ℕ). contents_bytes t.disk.blocks n c) (sym h.divided.block_size) ∙ h.has.has
 
 pub geometry_beside : (a b : KeptThread) → KeepsPairs a b → SameGeometry a.disk b.disk
@@ -44,15 +44,15 @@ module _ (a b : KeptThread) (leaves : KeepsPairs a b) (accepted : IsAccepted a.d
 
   -- the file at a path has its list in the same blocks
   pub list_beside : (path : Path) → list_blocks_at b path ≡ list_blocks_at a path
-  list_beside path = ap (λ (ps : List Pair). slot_blocks b.disk (slot_of ps path)) leaves.pairs ∙ go (slot_of a.pairs path) refl
+  list_beside path = ap (λ (ps : List Pair). slot_blocks b.disk (slot_of_path ps path)) leaves.pairs ∙ go (slot_of_path a.pairs path) refl
     where
-      go : (o : Option Slot) → slot_of a.pairs path ≡ o → slot_blocks b.disk o ≡ slot_blocks a.disk o
+      go : (o : Option Slot) → slot_of_path a.pairs path ≡ o → slot_blocks b.disk o ≡ slot_blocks a.disk o
       go None e = refl
       go (Some s) e = file_blocks_same a.disk b.disk s.struct (geometry_beside a b leaves)
           (slot_has (λ (x : Slot). SameFileBlocks a.disk b.disk x.struct) a.disk a.pairs accepted (files_still a.disk b.disk a.pairs accepted (geometry_beside a b leaves) used_same) tt path s e)
 
   -- what a call makes of contents is over the same file
-  pub over_beside : (path : Path) (contents c : WriterContents) (bytes : List ℕ) (shape : ContentsForm) → AreThreadContents a path contents → HaveThreadForm b c bytes shape → AreUsedAmong b.map (contents_list_blocks a contents) (contents_list_blocks b c) → AreThreadContents b path c
+  pub over_beside : (path : Path) (contents c : WriterContents) (bytes : List ℕ) (shape : ContentsForm) → AreThreadContents a path contents → HaveContentsForm b c bytes shape → AreUsedAmong b.map (contents_list_blocks a contents) (contents_list_blocks b c) → AreThreadContents b path c
   over_beside path contents c bytes shape over holds owned = record {
     file = ap (λ (t : Tree). is_file (t path)) tree_beside ∙ over.file;
     stands = record { geometry = holds.geometry; divided = holds.divided; stands = holds.has.stands };
@@ -84,11 +84,11 @@ left_beside t blocks accepted fits used spared =
     record { pairs = t.pairs; accepted = f.accepted; writable = writable_on t.disk (with_blocks blocks t.disk) t.pairs same fits; tree = inl f.shows }
 
 -- the calls of a tree
-module _ (a b : ThreadView) (root : ℕ) (writable : Bool) (h : SoundWithRoot a root writable) (still : b.failed ≡ false) (leaves : KeepsPairs a.kept b.kept) where
+module _ (a b : ThreadView) (root : ℕ) (writable : Bool) (h : IsSoundWithRoot a root writable) (still : b.failed ≡ false) (leaves : KeepsPairs a.kept b.kept) where
   abbrev sound : IsSoundState (uncached_state a.kept writable false)
   sound = h.sound
 
-  pub rooted_beside : SoundWithRoot b root writable
+  pub rooted_beside : IsSoundWithRoot b root writable
   rooted_beside = record { works = still; sound = sound_beside a.kept b.kept writable leaves sound; root_is = h.root_is ∙ ap count_before_root (sym leaves.pairs) }
 
   written_beside : (r : Result WriterContents Error) → ThreadReportsFaults a.kept b.kept r → OnOk r (KeepsImage (thread_state a writable) (thread_state (behind b r) writable))
@@ -133,21 +133,21 @@ module _ (a b : ThreadView) (root : ℕ) (writable : Bool) (h : SoundWithRoot a 
       (record { beside = written_beside r t; broken = broken_beside r; errors = reported_beside r t; survives = survives_beside }))
 
   -- and the thread is still that of the image
-  pub held_beside : (r : Result WriterContents Error) (c : ThreadView) → c ≡ behind b r → SoundUnlessFailed c root writable
-  held_beside r c is = subst (λ (t : ThreadView). SoundUnlessFailed t root writable) (sym is) (go r)
+  pub held_beside : (r : Result WriterContents Error) (c : ThreadView) → c ≡ behind b r → IsSoundUnlessFailed c root writable
+  held_beside r c is = subst (λ (t : ThreadView). IsSoundUnlessFailed t root writable) (sym is) (go r)
     where
-      go : (r : Result WriterContents Error) → SoundUnlessFailed (behind b r) root writable
+      go : (r : Result WriterContents Error) → IsSoundUnlessFailed (behind b r) root writable
       go (Err e) f = absurd (cc)
       go (Ok x) f = rooted_beside
 
-  pub all_over : (path : Path) (contents : WriterContents) (bytes : List ℕ) (shape : ContentsForm) (r : Result WriterContents Error) → AreThreadContents a.kept path contents → IfOk r (λ c. HaveThreadForm b.kept c bytes shape)
+  pub all_over : (path : Path) (contents : WriterContents) (bytes : List ℕ) (shape : ContentsForm) (r : Result WriterContents Error) → AreThreadContents a.kept path contents → IfOk r (λ c. HaveContentsForm b.kept c bytes shape)
       → IfOk r (λ c. AreUsedAmong b.kept.map (contents_list_blocks a.kept contents) (contents_list_blocks b.kept c)) → IfOk r (AreThreadContents b.kept path)
   all_over path contents bytes shape (Err e) over holds owned = tt
   all_over path contents bytes shape (Ok c) over holds owned = over_beside a.kept b.kept leaves sound.accepted sound.used path contents c bytes shape over holds owned
 
 -- ---- what is asked for, on the thread
 
-limit_short : (t : KeptThread) (contents : WriterContents) → AreOnThread t contents → inline_limit t.disk.profile t.disk.block_size < t.disk.block_size
+limit_short : (t : KeptThread) (contents : WriterContents) → AreContentsOnDisk t contents → inline_limit t.disk.profile t.disk.block_size < t.disk.block_size
 limit_short t contents stands =
     let size : stands.geometry.block_size ≡ t.disk.block_size = stands.divided.block_size in
     let large = stands.geometry.valid.no_smaller in
@@ -159,7 +159,7 @@ module _ (t : KeptThread) (writable : Bool) (sound : IsSoundState (uncached_stat
   room_is : (need : ℕ) → length (used_blocks t.disk t.pairs) + need ≤ block_count t.disk → used_count t.map + need ≤ length t.map
   room_is need room = let e = count_is (uncached_state t writable false) sound in let s = sound.size in omega arith
 
-  pub can_write : {cache : CachedBlocks} (failed : Bool) (contents : WriterContents) (place count : ℕ) → CanWriteIn (record (uncached_state t writable failed) { cache = cache }) contents place count → CanWrite t contents place count
+  pub can_write : {cache : CachedBlocks} (failed : Bool) (contents : WriterContents) (place count : ℕ) → CanWriteIn (record (uncached_state t writable failed) { cache = cache }) contents place count → CanWriteToContents t contents place count
   can_write failed contents place count can = record {
     stands = can.stands;
     fits = record {

@@ -1,7 +1,7 @@
 -- An operation that is carried out, by what its steps say.
 use Rattle.std.proofs.Common.{ℕ, zero, suc, ◌≡◌, ◌≢◌, ◌⊎◌, inl, inr, ◌<◌, ◌≤◌, ◌∙◌, true, false, List, [], ◌∷◌, ◌++◌, length, refl, sym, ap, subst, append_assoc, length-append, slice_index_or, arith}
 use Rattle.std.specs.Prelude.{All, Contains, slice_get}
-use Rattle.lfs_tree.proofs.Common.{AllByRecursion, All-from_recursion, same_Some, is_file, AreUsed, BlockStates, IsFree, IsInFlight, IsUsedBlock, Free, InFlight, Used, Disk, disk_block, CallEvent, OnlyReadsSince, fault_count, IsDirectoryPair, struct_at, Operation, is_recover, renames_itself, OpenFilesByNumber, Slot, zero_gstate, Pair, pairs_blocks, pairs_gstate, Path, IsAccepted, IsWritable, all_unmoved_slots, struct_blocks, disk_tree, used_blocks, arranged_settled, Contains-head, Contains-tail, SameGeometry, IsLayoutRecovered, Contains-number_occurrences, number_occurrences-Contains, CompletesOperation, recovered_from, Each, number_occurrences, count_append, each_from_counted, each_pieces, each_weaker, once_from_distinct, is_unprogrammed_byte-read_count, file_blocks, WritesThreadFree, IsReadyImage, KeptThread, OnlyReadsThread, ChangesThreadBlocks, empty_anchor, thread_pair, AppliesInPlace, AppliesOperation, KeepsFileAt, KeepsListBytes}
+use Rattle.lfs_tree.proofs.Common.{AllByRecursion, All-from_recursion, same_Some, is_file, AreUsed, BlockStates, IsFree, IsInFlight, IsUsedBlock, Free, InFlight, Used, Disk, disk_block, CallEvent, OnlyReadsSince, fault_count, IsDirectoryPair, struct_at, Operation, is_recover, renames_itself, OpenFilesByNumber, Slot, zero_gstate, Pair, pairs_blocks, pairs_gstate, Path, IsAccepted, IsWritable, all_unmoved_slots, struct_blocks, disk_tree, used_blocks, arranged_settled, Contains-head, Contains-tail, SameGeometry, IsLayoutAfterRecovery, Contains-occurrence_count, occurrence_count-Contains, CompletesOperation, recovered_from, Each, occurrence_count, count_append, each_from_counted, each_pieces, each_weaker, once_from_distinct, is_unprogrammed_byte-read_count, file_blocks, WritesThreadAndFree, IsRecoveredWritableImage, KeptThread, OnlyReadsThread, ChangesThreadBlocks, empty_anchor, thread_pair, AppliesBeforeRelocation, AppliesOperation, KeepsFileAt, KeepsListBytes}
 use Rattle.lfs_model.proofs.KeptStructs.{none_stored}
 use Rattle.lfs_model.proofs.Unmoved.{nothing_moves}
 use Rattle.lfs_tree.specs.KeptFiles.{list_blocks_at}
@@ -31,7 +31,7 @@ apart_free : (sets : BlockStates) (b c : ℕ) → IsInFlight sets b → IsFree s
 apart_free sets b c flies free e = let k : InFlight ≡ Free = same_Some InFlight Free (sym flies ∙ ap (slice_get sets) (sym e) ∙ free) in absurd (cc)
 
 in_left : (xs ys : List ℕ) (b : ℕ) → Contains xs b → Contains (xs ++ ys) b
-in_left xs ys b h = let k = number_occurrences-Contains xs b h in let e = count_append b xs ys in Contains-number_occurrences (xs ++ ys) b (omega arith)
+in_left xs ys b h = let k = occurrence_count-Contains xs b h in let e = count_append b xs ys in Contains-occurrence_count (xs ++ ys) b (omega arith)
 
 pub pair_blocks : (ps : List Pair) (index : ℕ) → index < length ps → Contains (pairs_blocks ps) (slice_index_or ps index empty_anchor).at.0 × Contains (pairs_blocks ps) (slice_index_or ps index empty_anchor).at.1
 pair_blocks [] index below = absurd (omega arith)
@@ -78,21 +78,21 @@ keeps_writing a c bs accepted used each w path file same =
 -- ---- the lists of all files
 
 -- none of their blocks is one of these
-pub apart_files : (t : KeptThread) (bs : List ℕ) → IsAccepted t.disk t.pairs → AreUsed t.map (used_blocks t.disk t.pairs) → AllByRecursion (IsPairsOrFree t) bs → (b : ℕ) → 1 ≤ number_occurrences b (file_blocks t.disk (all_unmoved_slots t.pairs)) → All (λ c. c ≢ b) bs
+pub apart_files : (t : KeptThread) (bs : List ℕ) → IsAccepted t.disk t.pairs → AreUsed t.map (used_blocks t.disk t.pairs) → AllByRecursion (IsPairsOrFree t) bs → (b : ℕ) → 1 ≤ occurrence_count b (file_blocks t.disk (all_unmoved_slots t.pairs)) → All (λ c. c ≢ b) bs
 apart_files t bs accepted used each b some = All-from_recursion (λ c. c ≢ b) bs (each_weaker (IsPairsOrFree t) (λ c. c ≢ b) other bs each)
   where
     here : IsUsedBlock t.map b
-    here = let e = count_append b (pairs_blocks t.pairs) (file_blocks t.disk (all_unmoved_slots t.pairs)) in (used b).1 (Contains-number_occurrences (used_blocks t.disk t.pairs) b (omega arith))
+    here = let e = count_append b (pairs_blocks t.pairs) (file_blocks t.disk (all_unmoved_slots t.pairs)) in (used b).1 (Contains-occurrence_count (used_blocks t.disk t.pairs) b (omega arith))
 
     other : (c : ℕ) → IsPairsOrFree t c → c ≢ b
     other c (inl h) e =
-        let k = number_occurrences-Contains (pairs_blocks t.pairs) b (subst (Contains (pairs_blocks t.pairs)) e h) in
+        let k = occurrence_count-Contains (pairs_blocks t.pairs) b (subst (Contains (pairs_blocks t.pairs)) e h) in
         let f = count_append b (pairs_blocks t.pairs) (file_blocks t.disk (all_unmoved_slots t.pairs)) in
         let o = once_from_distinct (used_blocks t.disk t.pairs) accepted.owned_once b in
         absurd (omega arith)
     other c (inr free) e = let k : Free ≡ Used = same_Some Free Used (sym (subst (IsFree t.map) e free) ∙ here) in absurd (cc)
 
-pub lists_from : (disk new : Disk) (ps : List Pair) → ((b : ℕ) → 1 ≤ number_occurrences b (file_blocks disk (all_unmoved_slots ps)) → disk_block new b ≡ disk_block disk b) → KeepsListBytes disk ps new
+pub lists_from : (disk new : Disk) (ps : List Pair) → ((b : ℕ) → 1 ≤ occurrence_count b (file_blocks disk (all_unmoved_slots ps)) → disk_block new b ≡ disk_block disk b) → KeepsListBytes disk ps new
 lists_from disk new ps h =
     All-from_recursion (λ (s : Slot). All (λ b. disk_block new b ≡ disk_block disk b) (struct_blocks disk s.struct)) (all_unmoved_slots ps)
     (each_weaker (λ (s : Slot). Each (λ b. disk_block new b ≡ disk_block disk b) (struct_blocks disk s.struct)) (λ (s : Slot). All (λ b. disk_block new b ≡ disk_block disk b) (struct_blocks disk s.struct))
@@ -104,7 +104,7 @@ pub lists_stay : (t c : KeptThread) (bs : List ℕ) → IsAccepted t.disk t.pair
 lists_stay t c bs accepted used each w = lists_from t.disk c.disk t.pairs (λ b some. w.others.others b (apart_files t bs accepted used each b some))
 
 pub all_pairs : (t : KeptThread) → AllByRecursion (IsPairsOrFree t) (pairs_blocks t.pairs)
-all_pairs t = each_from_counted (IsPairsOrFree t) (pairs_blocks t.pairs) (λ b some. inl (Contains-number_occurrences (pairs_blocks t.pairs) b some))
+all_pairs t = each_from_counted (IsPairsOrFree t) (pairs_blocks t.pairs) (λ b some. inl (Contains-occurrence_count (pairs_blocks t.pairs) b some))
 
 -- a pair of a directory is one of the thread
 pub behind_below : (ps : List Pair) (first index : ℕ) (pair : Pair) (rest : List Pair) → IsDirectoryPair ps first index pair rest → index < length ps
@@ -124,14 +124,14 @@ pub record IsWorked (a : KeptThread) (h : List CallEvent) (op : Operation) (c : 
   pub writable : IsWritable a.disk a.pairs
   pub settled : pairs_gstate a.pairs ≡ zero_gstate
   pub reads : OnlyReadsSince a.disk.blocks a.history h
-  pub ready : IsReadyImage c
+  pub ready : IsRecoveredWritableImage c
   pub stay : (b : ℕ) → IsInFlight a.map b → IsInFlight c.map b
   pub none_comes : (b : ℕ) → IsInFlight c.map b → IsInFlight a.map b
   pub completed : (files : OpenFilesByNumber) → CompletesOperation a.disk a.pairs (record { tree = disk_tree a.disk a.pairs; files = files }) op c.disk c.pairs
-  pub writes : WritesThreadFree (with_history a h) c
+  pub writes : WritesThreadAndFree (with_history a h) c
   pub no_fault : fault_count c.history ≡ fault_count a.history
 
-pub carried : (a : KeptThread) (h : List CallEvent) (op : Operation) (c : KeptThread) → IsWorked a h op c → renames_itself op ≡ false → is_recover op ≡ false → AppliesInPlace a op c
+pub carried : (a : KeptThread) (h : List CallEvent) (op : Operation) (c : KeptThread) → IsWorked a h op c → renames_itself op ≡ false → is_recover op ≡ false → AppliesBeforeRelocation a op c
 carried a h op c w other asks = record { applied = applied; stays = stays }
   where
     wrote : ChangesThreadBlocks w.writes.blocks (with_history a h) c
@@ -143,7 +143,7 @@ carried a h op c w other asks = record { applied = applied; stays = stays }
     calls : List CallEvent
     calls = wrote.at_worst.events ++ w.reads.events
 
-    stays : (files : OpenFilesByNumber) → IsLayoutRecovered a.disk a.pairs (record { tree = disk_tree a.disk a.pairs; files = files }) op c.disk c.pairs
+    stays : (files : OpenFilesByNumber) → IsLayoutAfterRecovery a.disk a.pairs (record { tree = disk_tree a.disk a.pairs; files = files }) op c.disk c.pairs
     stays files = arranged_settled a.disk a.pairs (record { tree = disk_tree a.disk a.pairs; files = files }) op c.disk c.pairs w.accepted w.writable w.settled (w.completed files).laid_out
 
     applied : AppliesOperation a op c

@@ -2,12 +2,12 @@
 use Rattle.std.proofs.Common.{ℕ, ◌≡◌, ◌<◌, ◌≤◌, ◌∙◌, ◌++◌, true, false, List, [], ◌∷◌, length, Some, None, Result, Ok, Err, refl, sym, ap, subst}
 use Rattle.std.specs.Prelude.{All, is_none, Any, OnOk}
 use Rattle.lfs_device.specs.declared.error.Error.{Error}
-use Rattle.lfs_tree.proofs.Common.{AllByRecursion, option_map, ltb-false, recursion_from_All, AreByteBlocks, IsFree, HasPathSlot, KeepsOthers, changed_paths, OpenFilesByNumber, node_attributes_of, last_name, attributes_with, attributes_without, charge_limit, inline_limit, CallEvent, OnlyReadsSince, fault_count, Name, Operation, is_recover, renames_itself, slot_of, Attributes, Slot, Struct, Inline, Ctz, Branch, entry_charge, path_or_root, is_root_path, Pair, address_blocks, Path, Tree, struct_node, IsWritableSlot, InlineBytesFit, struct_list_bytes, all_entries, disk_tree, Each, each_right, last_is, here, WritesPairTwo, CanEditIn, CanSetAttribute, HasRemovedAttribute, HasSetAttribute, tree_setting_attributes, KeptThread, ThreadView, ChangesThreadBlocks, thread_pair, CanRemoveAttr, CanSetAttr, tree_after_call, AppliesInPlace, HasAppliedCall, CanChangeRecovered, AppliesOrFails, SparesOutsideOperation, HasSoundImage, SurvivesEither, HasPathEntry, IsPathSpot, is_entry_found, tree_with_attributes, uncached_state, LeadsToResult, IsSlotBelow}
+use Rattle.lfs_tree.proofs.Common.{AllByRecursion, option_map, ltb-false, recursion_from_All, AreByteBlocks, IsFree, HoldsSlotOfPath, KeepsUnrelatedBlocks, changed_paths, OpenFilesByNumber, node_attributes_of, last_name, attributes_with, attributes_without, half_pair_capacity, inline_limit, CallEvent, OnlyReadsSince, fault_count, Name, Operation, is_recover, renames_itself, slot_of_path, Attributes, Slot, Struct, Inline, Ctz, Branch, reserved_entry_size, path_or_root, is_root_path, Pair, address_blocks, Path, Tree, struct_node, IsWritableSlot, InlineBytesFit, disk_list_bytes, all_entries, disk_tree, Each, each_right, last_is, here, WritesPairAndTwoFree, CanEditIn, CanSetAttribute, HasRemovedAttribute, HasSetAttribute, tree_setting_attributes, KeptThread, ThreadView, ChangesThreadBlocks, thread_pair, CanRemoveAttr, CanSetAttr, tree_after_call, AppliesBeforeRelocation, HasAppliedCall, CanChangeRecovered, AppliesOrFails, KeepsBlocksOutsideOperation, HasSoundImage, PowerLossLeavesEither, HasPathEntry, IsSlotOfPath, is_entry_found, tree_with_attributes, uncached_state, IsResultOfPath, IsSlotOfChild}
 use Rattle.lfs_model.specs.session.Operations as ops
 use Rattle.lfs_operations.specs.Editing.{HasAttributesChanged}
 use Rattle.lfs_tree.proofs.LeftAlone.{about_one, holds_slot, rest_left_alone}
 use Rattle.lfs_tree.specs.TreeCalls as call
-use Rattle.lfs_tree.specs.SlotChanges.{IsFoundSpot}
+use Rattle.lfs_tree.specs.SlotChanges.{IsFoundSlot}
 use Rattle.lfs_lookup.specs.declared.paths.PathLookup.{PathLookup}
 use Rattle.lfs_lookup.specs.declared.paths.PathLookup.TheVariants as found
 use Rattle.lfs_lookup.specs.declared.search.SlotPosition.{SlotPosition}
@@ -20,22 +20,22 @@ use Rattle.lfs_tree.proofs.Operated.{changed, clear_stands, does_clear, does_set
 
 -- ---- what is found
 
-absent : (t : KeptThread) (path : Path) → HasPathEntry (disk_tree t.disk t.pairs) path → slot_of t.pairs path ≡ None → ⊥
+absent : (t : KeptThread) (path : Path) → HasPathEntry (disk_tree t.disk t.pairs) path → slot_of_path t.pairs path ≡ None → ⊥
 absent t path v e =
-    let k = sym v.something ∙ ap (λ o. is_none (option_map (λ (f : Slot). struct_node (struct_list_bytes t.disk) (all_entries t.pairs) f.attributes f.struct) o)) e in absurd (cc)
+    let k = sym v.something ∙ ap (λ o. is_none (option_map (λ (f : Slot). struct_node (disk_list_bytes t.disk) (all_entries t.pairs) f.attributes f.struct) o)) e in absurd (cc)
 
-pub slot_found : (t : KeptThread) (path : Path) (f : PathLookup) → HasPathEntry (disk_tree t.disk t.pairs) path → LeadsToResult t path f → is_entry_found f ≡ true
+pub slot_found : (t : KeptThread) (path : Path) (f : PathLookup) → HasPathEntry (disk_tree t.disk t.pairs) path → IsResultOfPath t path f → is_entry_found f ≡ true
 slot_found t path found.Root v l = let k = sym v.entry ∙ ap is_root_path l.there in absurd (cc)
 slot_found t path found.ParentIsFile v l = let k = sym v.parents ∙ l.parents in absurd (cc)
 slot_found t path found.ParentIsMissing v l = let k = sym v.parents ∙ l.parents in absurd (cc)
-slot_found t path (found.Nothing parent place) v l = absurd (absent t path v (ap (slot_of t.pairs) l.there.is ∙ l.there.there.nothing))
+slot_found t path (found.Nothing parent place) v l = absurd (absent t path v (ap (slot_of_path t.pairs) l.there.is ∙ l.there.there.nothing))
 slot_found t path (found.Directory parent slot first) v l = refl
 slot_found t path (found.File parent slot contents) v l = refl
 
-slot_is : (ps : List Pair) (path above : Path) (name : Name) (parent : ℕ) (slot spot : SlotPosition) → path ≡ above ++ name ∷ [] → IsSlotBelow ps above name parent slot → slot ≡ spot → IsPathSpot ps path spot
-slot_is ps path above name parent slot spot e s h = record { above = above; name = name; first = parent; is = e; stands = subst (IsSlotBelow ps above name parent) h s }
+slot_is : (ps : List Pair) (path above : Path) (name : Name) (parent : ℕ) (slot spot : SlotPosition) → path ≡ above ++ name ∷ [] → IsSlotOfChild ps above name parent slot → slot ≡ spot → IsSlotOfPath ps path spot
+slot_is ps path above name parent slot spot e s h = record { above = above; name = name; first = parent; is = e; stands = subst (IsSlotOfChild ps above name parent) h s }
 
-pub slot_for : (t : KeptThread) (path : Path) (f : PathLookup) (spot : SlotPosition) → LeadsToResult t path f → IsFoundSpot f spot → IsPathSpot t.pairs path spot
+pub slot_for : (t : KeptThread) (path : Path) (f : PathLookup) (spot : SlotPosition) → IsResultOfPath t path f → IsFoundSlot f spot → IsSlotOfPath t.pairs path spot
 slot_for t path found.Root spot l h = absurd h
 slot_for t path found.ParentIsFile spot l h = absurd h
 slot_for t path found.ParentIsMissing spot l h = absurd h
@@ -51,7 +51,7 @@ entry_to_clear t path kind can = record { entry = can.entry; parents = can.paren
 
 -- ---- what may be changed
 
-module _ (t : ThreadView) (root : ℕ) (rests : CanChangeRecovered t root) (path : Path) (large : 1024 ≤ t.kept.disk.block_size) (bytes : AreByteBlocks t.kept.disk.blocks) (spot : SlotPosition) (slot : IsPathSpot t.kept.pairs path spot)
+module _ (t : ThreadView) (root : ℕ) (rests : CanChangeRecovered t root) (path : Path) (large : 1024 ≤ t.kept.disk.block_size) (bytes : AreByteBlocks t.kept.disk.blocks) (spot : SlotPosition) (slot : IsSlotOfPath t.kept.pairs path spot)
     (h : List CallEvent) where
   abbrev before : Tree
   before = disk_tree t.kept.disk t.kept.pairs
@@ -74,10 +74,10 @@ module _ (t : ThreadView) (root : ℕ) (rests : CanChangeRecovered t root) (path
 
   pub attributes_are : node_attributes_of (disk_tree t.kept.disk t.kept.pairs path) ≡ found_slot.attributes
   attributes_are =
-      ap (λ o. node_attributes_of (option_map (λ (f : Slot). struct_node (struct_list_bytes t.kept.disk) (all_entries t.kept.pairs) f.attributes f.struct) o)) (ap (slot_of t.kept.pairs) slot.is ∙ slot.stands.slot)
+      ap (λ o. node_attributes_of (option_map (λ (f : Slot). struct_node (disk_list_bytes t.kept.disk) (all_entries t.kept.pairs) f.attributes f.struct) o)) (ap (slot_of_path t.kept.pairs) slot.is ∙ slot.stands.slot)
       ∙ by_struct found_slot.attributes found_slot.struct
     where
-      by_struct : (a : Attributes) (s : Struct) → node_attributes_of (Some (struct_node (struct_list_bytes t.kept.disk) (all_entries t.kept.pairs) a s)) ≡ a
+      by_struct : (a : Attributes) (s : Struct) → node_attributes_of (Some (struct_node (disk_list_bytes t.kept.disk) (all_entries t.kept.pairs) a s)) ≡ a
       by_struct a (Inline xs) = refl
       by_struct a (Ctz head size) = refl
       by_struct a (Branch to) = refl
@@ -105,8 +105,8 @@ module _ (t : ThreadView) (root : ℕ) (rests : CanChangeRecovered t root) (path
     can = can_edit;
     short = can.len;
     fits = record {
-      charge = subst (λ n. entry_charge t.kept.disk.profile t.kept.disk.block_size n (attributes_with kind given found_slot.attributes) ≤ charge_limit t.kept.disk.block_size t.kept.disk.page) name_is
-          (subst (λ a. entry_charge t.kept.disk.profile t.kept.disk.block_size (last_name path) (attributes_with kind given a) ≤ charge_limit t.kept.disk.block_size t.kept.disk.page) attributes_are (ltb-false _ _ can.fits));
+      charge = subst (λ n. reserved_entry_size t.kept.disk.profile t.kept.disk.block_size n (attributes_with kind given found_slot.attributes) ≤ half_pair_capacity t.kept.disk.block_size t.kept.disk.page) name_is
+          (subst (λ a. reserved_entry_size t.kept.disk.profile t.kept.disk.block_size (last_name path) (attributes_with kind given a) ≤ half_pair_capacity t.kept.disk.block_size t.kept.disk.page) attributes_are (ltb-false _ _ can.fits));
       inline = inline_fits;
     };
   }
@@ -115,7 +115,7 @@ module _ (t : ThreadView) (root : ℕ) (rests : CanChangeRecovered t root) (path
   slot_below = behind_below t.kept.pairs slot.first spot.pair slot.stands.stands.pair slot.stands.stands.rest slot.stands.stands.place
 
   edited_at : (c : KeptThread) (f : Attributes → Attributes) (op : List ℕ → Operation) (given : List ℕ) (bs : List ℕ) → fault_count c.history ≡ fault_count t.kept.history → OnlyReadsSince t.kept.disk.blocks t.kept.history h → ChangesThreadBlocks bs (with_history t.kept h) c → AllByRecursion (IsPairsOrFree t.kept) bs
-      → HasAttributesChanged (with_history t.kept h) c slot.above slot.name f op → path_or_root given ≡ path → renames_itself (op given) ≡ false → is_recover (op given) ≡ false → AppliesInPlace t.kept (op given) c
+      → HasAttributesChanged (with_history t.kept h) c slot.above slot.name f op → path_or_root given ≡ path → renames_itself (op given) ≡ false → is_recover (op given) ≡ false → AppliesBeforeRelocation t.kept (op given) c
   edited_at c f op given bs quiet reads writes among is e other asks = carried t.kept h (op given) c
       (record {
         accepted = rests.held.sound.accepted;
@@ -133,14 +133,14 @@ module _ (t : ThreadView) (root : ℕ) (rests : CanChangeRecovered t root) (path
 
   set_at : (c : KeptThread) (kind : ℕ) (bytes_given given : List ℕ) (bs : List ℕ) → CanSetAttr (uncached_state t.kept true false) path kind bytes_given → fault_count c.history ≡ fault_count t.kept.history → OnlyReadsSince t.kept.disk.blocks t.kept.history h → ChangesThreadBlocks bs (with_history t.kept h) c
       → AllByRecursion (IsPairsOrFree t.kept) bs → ((set : CanSetAttribute (with_history t.kept h) spot.pair spot.id kind bytes_given) → HasSetAttribute (with_history t.kept h) c set.can.path set.can.name kind bytes_given)
-      → path_or_root given ≡ path → AppliesInPlace t.kept (ops.SetAttr given kind bytes_given) c
+      → path_or_root given ≡ path → AppliesBeforeRelocation t.kept (ops.SetAttr given kind bytes_given) c
   unfolding can_set can_edit
   set_at c kind bytes_given given bs can quiet reads writes among gives e =
       let is : HasSetAttribute (with_history t.kept h) c slot.above slot.name kind bytes_given = gives (can_set kind bytes_given can) in
       edited_at c (attributes_with kind bytes_given) (λ z. ops.SetAttr z kind bytes_given) given bs quiet reads writes among is e refl refl
 
   cleared_at : (c : KeptThread) (kind : ℕ) (given : List ℕ) (bs : List ℕ) → fault_count c.history ≡ fault_count t.kept.history → OnlyReadsSince t.kept.disk.blocks t.kept.history h → ChangesThreadBlocks bs (with_history t.kept h) c → AllByRecursion (IsPairsOrFree t.kept) bs
-      → ((can : CanEditIn (with_history t.kept h) spot.pair spot.id) → HasRemovedAttribute (with_history t.kept h) c can.path can.name kind) → path_or_root given ≡ path → AppliesInPlace t.kept (ops.RemoveAttr given kind) c
+      → ((can : CanEditIn (with_history t.kept h) spot.pair spot.id) → HasRemovedAttribute (with_history t.kept h) c can.path can.name kind) → path_or_root given ≡ path → AppliesBeforeRelocation t.kept (ops.RemoveAttr given kind) c
   unfolding can_edit
   cleared_at c kind given bs quiet reads writes among gives e =
       let is : HasRemovedAttribute (with_history t.kept h) c slot.above slot.name kind = gives can_edit in
@@ -149,40 +149,40 @@ module _ (t : ThreadView) (root : ℕ) (rests : CanChangeRecovered t root) (path
   -- the pair holds the slot of the path
   edited_alone : (c : KeptThread) (op : Operation) (files : OpenFilesByNumber) (given : List ℕ) (fresh : List ℕ) → changed_paths (record { tree = disk_tree t.kept.disk t.kept.pairs; files = files }) op ≡ path_or_root given ∷ [] → path_or_root given ≡ path
       → AllByRecursion (IsFree t.kept.map) fresh → ChangesThreadBlocks ((thread_pair t.kept spot.pair).at.0 ∷ (thread_pair t.kept spot.pair).at.1 ∷ fresh) (with_history t.kept h) c
-      → KeepsOthers t.kept.disk t.kept.pairs (record { tree = disk_tree t.kept.disk t.kept.pairs; files = files }) op c.disk c.pairs
+      → KeepsUnrelatedBlocks t.kept.disk t.kept.pairs (record { tree = disk_tree t.kept.disk t.kept.pairs; files = files }) op c.disk c.pairs
   edited_alone c op files given fresh about e free w =
       let s = slot.stands.stands in
       let is : thread_pair t.kept spot.pair ≡ s.pair = here (with_history t.kept h) (ready_to t root h rests large) slot.first spot.pair s.pair s.rest s.place in
       rest_left_alone (with_history t.kept h) c slot.first spot.pair s.pair s.rest fresh (record { tree = disk_tree t.kept.disk t.kept.pairs; files = files }) op
       rests.held.sound.accepted rests.held.sound.used s.place free
       (subst (λ (z : Pair). ChangesThreadBlocks (z.at.0 ∷ z.at.1 ∷ fresh) (with_history t.kept h) c) is w)
-      (λ has n. n (subst (Any (HasPathSlot t.kept.pairs s.pair)) (sym about)
-      (about_one (HasPathSlot t.kept.pairs s.pair) (path_or_root given) (slot.above ++ slot.name ∷ []) (e ∙ slot.is)
+      (λ has n. n (subst (Any (HoldsSlotOfPath t.kept.pairs s.pair)) (sym about)
+      (about_one (HoldsSlotOfPath t.kept.pairs s.pair) (path_or_root given) (slot.above ++ slot.name ∷ []) (e ∙ slot.is)
       (holds_slot t.kept.pairs slot.above slot.stands.on.at slot.first slot.name spot.pair spot.id rests.held.sound.accepted.thread.distinct slot.stands.on.leads slot.stands.on.begins s))))
 
   edit_survives : (c : KeptThread) (f : Attributes → Attributes) (bs : List ℕ) → OnlyReadsSince t.kept.disk.blocks t.kept.history h → ChangesThreadBlocks bs (with_history t.kept h) c
-      → SurvivesEither (with_history t.kept h) c (tree_setting_attributes t.kept slot.above slot.name f) → SurvivesEither t.kept c (tree_with_attributes path f (disk_tree t.kept.disk t.kept.pairs))
+      → PowerLossLeavesEither (with_history t.kept h) c (tree_setting_attributes t.kept slot.above slot.name f) → PowerLossLeavesEither t.kept c (tree_with_attributes path f (disk_tree t.kept.disk t.kept.pairs))
   edit_survives c f bs reads writes k =
-      subst (λ p. SurvivesEither t.kept c (tree_with_attributes p f (disk_tree t.kept.disk t.kept.pairs))) (sym slot.is) (survives_behind t root rests h c bs (tree_setting_attributes t.kept slot.above slot.name f) reads writes k)
+      subst (λ p. PowerLossLeavesEither t.kept c (tree_with_attributes p f (disk_tree t.kept.disk t.kept.pairs))) (sym slot.is) (survives_behind t root rests h c bs (tree_setting_attributes t.kept slot.above slot.name f) reads writes k)
 
   set_survives : (c : KeptThread) (kind : ℕ) (bytes_given : List ℕ) (bs : List ℕ) → CanSetAttr (uncached_state t.kept true false) path kind bytes_given → OnlyReadsSince t.kept.disk.blocks t.kept.history h → ChangesThreadBlocks bs (with_history t.kept h) c
-      → ((set : CanSetAttribute (with_history t.kept h) spot.pair spot.id kind bytes_given) → SurvivesEither (with_history t.kept h) c (tree_setting_attributes (with_history t.kept h) set.can.path set.can.name (attributes_with kind bytes_given)))
-      → SurvivesEither t.kept c (tree_with_attributes path (attributes_with kind bytes_given) (disk_tree t.kept.disk t.kept.pairs))
+      → ((set : CanSetAttribute (with_history t.kept h) spot.pair spot.id kind bytes_given) → PowerLossLeavesEither (with_history t.kept h) c (tree_setting_attributes (with_history t.kept h) set.can.path set.can.name (attributes_with kind bytes_given)))
+      → PowerLossLeavesEither t.kept c (tree_with_attributes path (attributes_with kind bytes_given) (disk_tree t.kept.disk t.kept.pairs))
   unfolding can_set can_edit
   set_survives c kind bytes_given bs can reads writes gives = edit_survives c (attributes_with kind bytes_given) bs reads writes (gives (can_set kind bytes_given can))
 
   cleared_survives : (c : KeptThread) (kind : ℕ) (bs : List ℕ) → OnlyReadsSince t.kept.disk.blocks t.kept.history h → ChangesThreadBlocks bs (with_history t.kept h) c
-      → ((can : CanEditIn (with_history t.kept h) spot.pair spot.id) → SurvivesEither (with_history t.kept h) c (tree_setting_attributes (with_history t.kept h) can.path can.name (attributes_without kind)))
-      → SurvivesEither t.kept c (tree_with_attributes path (attributes_without kind) (disk_tree t.kept.disk t.kept.pairs))
+      → ((can : CanEditIn (with_history t.kept h) spot.pair spot.id) → PowerLossLeavesEither (with_history t.kept h) c (tree_setting_attributes (with_history t.kept h) can.path can.name (attributes_without kind)))
+      → PowerLossLeavesEither t.kept c (tree_with_attributes path (attributes_without kind) (disk_tree t.kept.disk t.kept.pairs))
   unfolding can_edit
   cleared_survives c kind bs reads writes gives = edit_survives c (attributes_without kind) bs reads writes (gives can_edit)
 
   -- ---- all that is said of it
 
   pub set_does : (new : ThreadView) (r : Result (Unit {0}) Error) (kind : ℕ) (value given : List ℕ) → path_or_root given ≡ path → CanSetAttr (uncached_state t.kept true false) path kind value → fault_count h ≡ fault_count t.kept.history → OnlyReadsSince t.kept.disk.blocks t.kept.history h
-      → WritesPairTwo (with_history t.kept h) spot.pair new.kept → OnOk r ((set : CanSetAttribute (with_history t.kept h) spot.pair spot.id kind value) → HasSetAttribute (with_history t.kept h) new.kept set.can.path set.can.name kind value)
+      → WritesPairAndTwoFree (with_history t.kept h) spot.pair new.kept → OnOk r ((set : CanSetAttribute (with_history t.kept h) spot.pair spot.id kind value) → HasSetAttribute (with_history t.kept h) new.kept set.can.path set.can.name kind value)
       → ReportsFaultsSince h new.kept.history r → OnOk r (new.failed ≡ false)
-      → ((set : CanSetAttribute (with_history t.kept h) spot.pair spot.id kind value) → SurvivesEither (with_history t.kept h) new.kept (tree_setting_attributes (with_history t.kept h) set.can.path set.can.name (attributes_with kind value)))
+      → ((set : CanSetAttribute (with_history t.kept h) spot.pair spot.id kind value) → PowerLossLeavesEither (with_history t.kept h) new.kept (tree_setting_attributes (with_history t.kept h) set.can.path set.can.name (attributes_with kind value)))
       → AppliesOrFails t (call.SetAttr path kind value) r new
   set_does new r kind value given named can quiet reads w gives reported works survives =
       changed t new (HasAppliedCall t.kept (call.SetAttr path kind value)) (tree_after_call (call.SetAttr path kind value) before) h _ r quiet reads w.writes reported works (go r gives (quiet_reported t.kept new.kept h r quiet reported)) (set_survives new.kept kind value _ can reads w.writes survives)
@@ -191,11 +191,11 @@ module _ (t : ThreadView) (root : ℕ) (rests : CanChangeRecovered t root) (path
           → OnOk r (fault_count new.kept.history ≡ fault_count t.kept.history) → OnOk r (HasAppliedCall t.kept (call.SetAttr path kind value) new.kept × HasSoundImage t.kept (tree_after_call (call.SetAttr path kind value) before) new.kept)
       go (Err e) gives same = tt
       go (Ok x) gives same =
-          let at : (given : List ℕ) → path_or_root given ≡ path → AppliesInPlace t.kept (ops.SetAttr given kind value) new.kept
+          let at : (given : List ℕ) → path_or_root given ≡ path → AppliesBeforeRelocation t.kept (ops.SetAttr given kind value) new.kept
           = λ given e. set_at new.kept kind value given _ can same reads w.writes (among_one t.kept spot.pair w.fresh slot_below w.free) gives e in (
             record {
-              carries = does_set (λ op. AppliesInPlace t.kept op new.kept) path kind value at;
-              spares = does_set (λ op. SparesOutsideOperation t.kept op new.kept) path kind value (λ given e none files. edited_alone new.kept (ops.SetAttr given kind value) files given w.fresh refl e w.free w.writes);
+              carries = does_set (λ op. AppliesBeforeRelocation t.kept op new.kept) path kind value at;
+              spares = does_set (λ op. KeepsBlocksOutsideOperation t.kept op new.kept) path kind value (λ given e none files. edited_alone new.kept (ops.SetAttr given kind value) files given w.fresh refl e w.free w.writes);
             },
             set_stands t.kept new.kept path kind value given named (at given named) (gives (can_set kind value can)).now.root,
           )
@@ -203,7 +203,7 @@ module _ (t : ThreadView) (root : ℕ) (rests : CanChangeRecovered t root) (path
   pub clear_does : (new : ThreadView) (r : Result (Unit {0}) Error) (kind : ℕ) (given : List ℕ) → path_or_root given ≡ path → fault_count h ≡ fault_count t.kept.history → OnlyReadsSince t.kept.disk.blocks t.kept.history h
       → ChangesThreadBlocks (address_blocks (thread_pair t.kept spot.pair).at) (with_history t.kept h) new.kept → OnOk r ((can : CanEditIn (with_history t.kept h) spot.pair spot.id) → HasRemovedAttribute (with_history t.kept h) new.kept can.path can.name kind)
       → ReportsFaultsSince h new.kept.history r → OnOk r (new.failed ≡ false)
-      → ((can : CanEditIn (with_history t.kept h) spot.pair spot.id) → SurvivesEither (with_history t.kept h) new.kept (tree_setting_attributes (with_history t.kept h) can.path can.name (attributes_without kind)))
+      → ((can : CanEditIn (with_history t.kept h) spot.pair spot.id) → PowerLossLeavesEither (with_history t.kept h) new.kept (tree_setting_attributes (with_history t.kept h) can.path can.name (attributes_without kind)))
       → AppliesOrFails t (call.RemoveAttr path kind) r new
   clear_does new r kind given named quiet reads w gives reported works survives =
       changed t new (HasAppliedCall t.kept (call.RemoveAttr path kind)) (tree_after_call (call.RemoveAttr path kind) before) h _ r quiet reads w reported works (go r gives (quiet_reported t.kept new.kept h r quiet reported)) (cleared_survives new.kept kind _ reads w survives)
@@ -212,11 +212,11 @@ module _ (t : ThreadView) (root : ℕ) (rests : CanChangeRecovered t root) (path
           → OnOk r (fault_count new.kept.history ≡ fault_count t.kept.history) → OnOk r (HasAppliedCall t.kept (call.RemoveAttr path kind) new.kept × HasSoundImage t.kept (tree_after_call (call.RemoveAttr path kind) before) new.kept)
       go (Err e) gives same = tt
       go (Ok x) gives same =
-          let at : (given : List ℕ) → path_or_root given ≡ path → AppliesInPlace t.kept (ops.RemoveAttr given kind) new.kept
+          let at : (given : List ℕ) → path_or_root given ≡ path → AppliesBeforeRelocation t.kept (ops.RemoveAttr given kind) new.kept
           = λ given e. cleared_at new.kept kind given _ same reads w (among_one t.kept spot.pair [] slot_below tt) gives e in (
             record {
-              carries = does_clear (λ op. AppliesInPlace t.kept op new.kept) path kind at;
-              spares = does_clear (λ op. SparesOutsideOperation t.kept op new.kept) path kind (λ given e none files. edited_alone new.kept (ops.RemoveAttr given kind) files given [] refl e tt w);
+              carries = does_clear (λ op. AppliesBeforeRelocation t.kept op new.kept) path kind at;
+              spares = does_clear (λ op. KeepsBlocksOutsideOperation t.kept op new.kept) path kind (λ given e none files. edited_alone new.kept (ops.RemoveAttr given kind) files given [] refl e tt w);
             },
             clear_stands t.kept new.kept path kind given named (at given named) (gives can_edit).now.root,
           )

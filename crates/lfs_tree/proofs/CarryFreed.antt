@@ -1,9 +1,9 @@
 -- A removed file, whose blocks are freed in the map.
 use Rattle.std.proofs.Common.{ℕ, ◌≡◌, ◌≢◌, ◌⊎◌, inl, inr, ◌<◌, ◌≤◌, ◌+◌, ◌-◌, ◌∙◌, Bool, true, false, List, [], ◌∷◌, ◌++◌, length, slice_get, Some, Result, Ok, Err, refl, sym, ap, subst, arith, append-nil, cond}
 use Rattle.std.specs.Prelude.{Contains, OnOk, ◌↔◌}
-use Rattle.lfs_tree.proofs.Common.{cases_lt, All-from_recursion, recursion_from_All, same_Some, CanSettleLists, ChangesOnlyMap, IsListSettled, stored_list_blocks, AreUsed, BlockStates, IsInFlight, IsUsedBlock, Free, InFlight, Used, Disk, SameGeometry, disk_block, CallEvent, Slot, Struct, Pair, pairs_blocks, pairs_gstate, address_blocks, IsFormedList, all_unmoved_slots, struct_blocks, used_blocks, Contains-number_occurrences, number_occurrences-Contains, no_move_from, Each, number_occurrences, count_append, each_from_counted, each_pieces, each_right, once_from_distinct, SameFileBlocks, file_blocks_same, is_list_same, HoldsAtLosses-read_count, HoldsAtLosses-trans, file_blocks, unmoved_in, SameInFlight, CanEditIn, editable_slot, IsReadyImage, IsReadyUnsettled, drops_emptied_pair, removal_written_address, KeptThread, ChangesThreadBlocks, thread_pair, WritesThreadFree, IsStorage, list_in_storage, IsListOrEmpty, SettlesList, empty_list}
+use Rattle.lfs_tree.proofs.Common.{cases_lt, All-from_recursion, recursion_from_All, same_Some, CanReplaceUsedList, ChangesOnlyMap, IsUsedListReplaced, stored_list_blocks, AreUsed, BlockStates, IsInFlight, IsUsedBlock, Free, InFlight, Used, Disk, SameGeometry, disk_block, CallEvent, Slot, Struct, Pair, pairs_blocks, pairs_gstate, address_blocks, IsWellFormedList, all_unmoved_slots, struct_blocks, used_blocks, Contains-occurrence_count, occurrence_count-Contains, no_move_from, Each, occurrence_count, count_append, each_from_counted, each_pieces, each_right, once_from_distinct, SameFileBlocks, file_blocks_same, is_list_same, HoldsAtLosses-read_count, HoldsAtLosses-trans, file_blocks, unmoved_in, HasSameBlocksInFlight, CanEditIn, editable_slot, IsRecoveredWritableImage, IsWritableBeforeMapUpdate, drops_pair_after_removal, removal_written_address, KeptThread, ChangesThreadBlocks, thread_pair, WritesThreadAndFree, IsStorageOfStruct, list_in_storage, IsListOrEmpty, SettlesList, empty_list}
 use Rattle.lfs_model.specs.format.Blocks.{SameExceptBlocks}
-use Rattle.lfs_model.proofs.Histories.{LossLeavesAtWorst-read, StayUnprogrammed-read_count, StayUnprogrammed-trans}
+use Rattle.lfs_model.proofs.Histories.{LossLeavesAtWorst-read, OthersStayUnprogrammed-read_count, OthersStayUnprogrammed-trans}
 use Rattle.lfs_thread.specs.ThreadSteps.{SameGeometryAs}
 use Rattle.lfs_tree.specs.Removals.{CanFreeList}
 use Rattle.lfs_lookup.specs.declared.entry.FileStorage.{FileStorage}
@@ -12,8 +12,8 @@ use Rattle.lfs_tree.proofs.Carried.{behind_below, pair_blocks}
 use Rattle.lfs_tree.proofs.KeptFiles.{among_files}
 
 -- a number that isn't in a list
-pub none_there : (b : ℕ) (xs : List ℕ) → number_occurrences b xs ≤ 0 → Each (λ x. x ≢ b) xs
-none_there b xs never = each_from_counted (λ x. x ≢ b) xs (λ x some e. let k = ap (λ z. number_occurrences z xs) e in absurd (omega arith))
+pub none_there : (b : ℕ) (xs : List ℕ) → occurrence_count b xs ≤ 0 → Each (λ x. x ≢ b) xs
+none_there b xs never = each_from_counted (λ x. x ≢ b) xs (λ x some e. let k = ap (λ z. occurrence_count z xs) e in absurd (omega arith))
 
 -- ---- the blocks of a slot's file
 
@@ -32,41 +32,41 @@ module _ (t : KeptThread) (index id : ℕ) (can : CanEditIn t index id) where
   struct = (editable_slot can).struct
 
   -- no block of a pair is one of them
-  pub apart_from_pairs : (b : ℕ) → 1 ≤ number_occurrences b (struct_blocks t.disk (editable_slot can).struct) → number_occurrences b (pairs_blocks t.pairs) ≡ 0
+  pub apart_from_pairs : (b : ℕ) → 1 ≤ occurrence_count b (struct_blocks t.disk (editable_slot can).struct) → occurrence_count b (pairs_blocks t.pairs) ≡ 0
   apart_from_pairs b some =
-      let l = each_here (λ (s : Slot). number_occurrences b (struct_blocks t.disk s.struct) ≤ number_occurrences b (file_blocks t.disk (all_unmoved_slots t.pairs))) t index id can (among_files b t.disk (all_unmoved_slots t.pairs)) in
+      let l = each_here (λ (s : Slot). occurrence_count b (struct_blocks t.disk s.struct) ≤ occurrence_count b (file_blocks t.disk (all_unmoved_slots t.pairs))) t index id can (among_files b t.disk (all_unmoved_slots t.pairs)) in
       let e = count_append b (pairs_blocks t.pairs) (file_blocks t.disk (all_unmoved_slots t.pairs)) in
       let o = once_from_distinct (used_blocks t.disk t.pairs) can.ready.accepted.owned_once b in
       omega arith
 
-  list_there : IsFormedList t.disk (editable_slot can).struct
-  list_there = each_here (λ (s : Slot). IsFormedList t.disk s.struct) t index id can (recursion_from_All (λ (s : Slot). IsFormedList t.disk s.struct) (all_unmoved_slots t.pairs) can.ready.accepted.lists)
+  list_there : IsWellFormedList t.disk (editable_slot can).struct
+  list_there = each_here (λ (s : Slot). IsWellFormedList t.disk s.struct) t index id can (recursion_from_All (λ (s : Slot). IsWellFormedList t.disk s.struct) (all_unmoved_slots t.pairs) can.ready.accepted.lists)
 
 -- ---- which blocks are written
 
-counted_of : (bs : List ℕ) (at other : ℕ × ℕ) (b : Bool) → (1 ≤ number_occurrences at.0 bs) × (1 ≤ number_occurrences at.1 bs) → (1 ≤ number_occurrences other.0 bs) × (1 ≤ number_occurrences other.1 bs) → (1 ≤ number_occurrences (cond b at other).0 bs) × (1 ≤ number_occurrences (cond b at other).1 bs)
+counted_of : (bs : List ℕ) (at other : ℕ × ℕ) (b : Bool) → (1 ≤ occurrence_count at.0 bs) × (1 ≤ occurrence_count at.1 bs) → (1 ≤ occurrence_count other.0 bs) × (1 ≤ occurrence_count other.1 bs) → (1 ≤ occurrence_count (cond b at other).0 bs) × (1 ≤ occurrence_count (cond b at other).1 bs)
 counted_of bs at other true h k = h
 counted_of bs at other false h k = k
 
-in_pairs : (t : KeptThread) (index first : ℕ) → index < length t.pairs → (1 ≤ number_occurrences (removal_written_address t index first).0 (pairs_blocks t.pairs)) × (1 ≤ number_occurrences (removal_written_address t index first).1 (pairs_blocks t.pairs))
+in_pairs : (t : KeptThread) (index first : ℕ) → index < length t.pairs → (1 ≤ occurrence_count (removal_written_address t index first).0 (pairs_blocks t.pairs)) × (1 ≤ occurrence_count (removal_written_address t index first).1 (pairs_blocks t.pairs))
 in_pairs t index first below =
     let a = pair_blocks t.pairs (index - 1) (omega arith) in
     let b = pair_blocks t.pairs index below in
-    counted_of (pairs_blocks t.pairs) (thread_pair t (index - 1)).at (thread_pair t index).at (drops_emptied_pair t index first)
-    (number_occurrences-Contains (pairs_blocks t.pairs) (thread_pair t (index - 1)).at.0 a.0, number_occurrences-Contains (pairs_blocks t.pairs) (thread_pair t (index - 1)).at.1 a.1)
-    (number_occurrences-Contains (pairs_blocks t.pairs) (thread_pair t index).at.0 b.0, number_occurrences-Contains (pairs_blocks t.pairs) (thread_pair t index).at.1 b.1)
+    counted_of (pairs_blocks t.pairs) (thread_pair t (index - 1)).at (thread_pair t index).at (drops_pair_after_removal t index first)
+    (occurrence_count-Contains (pairs_blocks t.pairs) (thread_pair t (index - 1)).at.0 a.0, occurrence_count-Contains (pairs_blocks t.pairs) (thread_pair t (index - 1)).at.1 a.1)
+    (occurrence_count-Contains (pairs_blocks t.pairs) (thread_pair t index).at.0 b.0, occurrence_count-Contains (pairs_blocks t.pairs) (thread_pair t index).at.1 b.1)
 
 -- those of a pair, and of one in front of it
 pub written_pairs : (t : KeptThread) (index first : ℕ) → index < length t.pairs → Contains (pairs_blocks t.pairs) (removal_written_address t index first).0 × Contains (pairs_blocks t.pairs) (removal_written_address t index first).1
 written_pairs t index first below =
     let k = in_pairs t index first below in
-    (Contains-number_occurrences (pairs_blocks t.pairs) (removal_written_address t index first).0 k.0, Contains-number_occurrences (pairs_blocks t.pairs) (removal_written_address t index first).1 k.1)
+    (Contains-occurrence_count (pairs_blocks t.pairs) (removal_written_address t index first).0 k.0, Contains-occurrence_count (pairs_blocks t.pairs) (removal_written_address t index first).1 k.1)
 
 -- calls that only read, after those that write
 pub writes_then : (a b c : KeptThread) (bs : List ℕ) → ChangesThreadBlocks bs a b → ChangesOnlyMap b c → ChangesThreadBlocks bs a c
 writes_then a b c bs w r = record {
   others = subst (λ (d : Disk). SameExceptBlocks bs a.disk.blocks d.blocks) (sym r.disk) w.others;
-  elsewhere = StayUnprogrammed-trans w.elsewhere (StayUnprogrammed-read_count bs r.reads);
+  elsewhere = OthersStayUnprogrammed-trans w.elsewhere (OthersStayUnprogrammed-read_count bs r.reads);
   shape = subst (SameGeometryAs a.disk) (sym r.disk) w.shape;
   at_worst = HoldsAtLosses-trans w.at_worst (HoldsAtLosses-read_count LossLeavesAtWorst-read r.reads w.others);
 }
@@ -77,7 +77,7 @@ not_both sets b is flies = let k : Used ≡ InFlight = same_Some Used InFlight (
 pub not_free : (sets : BlockStates) (b : ℕ) → slice_get sets b ≡ Some Free → IsInFlight sets b → ⊥
 not_free sets b is flies = let k : Free ≡ InFlight = same_Some Free InFlight (sym is ∙ flies) in absurd (cc)
 
-pub file_writes : (old new : KeptThread) (index id first : ℕ) (can : CanEditIn old index id) → ChangesThreadBlocks (address_blocks (removal_written_address old index first)) old new → WritesThreadFree old new
+pub file_writes : (old new : KeptThread) (index id first : ℕ) (can : CanEditIn old index id) → ChangesThreadBlocks (address_blocks (removal_written_address old index first)) old new → WritesThreadAndFree old new
 file_writes old new index id first can w = record {
   blocks = address_blocks (removal_written_address old index first);
   each = (let k = written_pairs old index first (behind_below old.pairs can.first index can.stands.pair can.stands.rest can.stands.place) in (inl k.0, (inl k.1, tt)));
@@ -92,29 +92,29 @@ pub files_stay : (old mid : KeptThread) (index id first : ℕ) (can : CanEditIn 
 files_stay old mid index id first can w = each_from_counted (λ b. disk_block mid.disk b ≡ disk_block old.disk b) (struct_blocks old.disk (editable_slot can).struct) (λ b some. w.others.others b
     (All-from_recursion (λ c. c ≢ b) (address_blocks (removal_written_address old index first)) (other b some (removal_written_address old index first).0 in_pair.0, (other b some (removal_written_address old index first).1 in_pair.1, tt))))
   where
-    in_pair : (1 ≤ number_occurrences (removal_written_address old index first).0 (pairs_blocks old.pairs)) × (1 ≤ number_occurrences (removal_written_address old index first).1 (pairs_blocks old.pairs))
+    in_pair : (1 ≤ occurrence_count (removal_written_address old index first).0 (pairs_blocks old.pairs)) × (1 ≤ occurrence_count (removal_written_address old index first).1 (pairs_blocks old.pairs))
     in_pair = in_pairs old index first (behind_below old.pairs can.first index can.stands.pair can.stands.rest can.stands.place)
 
-    other : (b : ℕ) → 1 ≤ number_occurrences b (struct_blocks old.disk (editable_slot can).struct) → (c : ℕ) → 1 ≤ number_occurrences c (pairs_blocks old.pairs) → c ≢ b
-    other b some c has e = let k = ap (λ z. number_occurrences z (pairs_blocks old.pairs)) e in let n = apart_from_pairs old index id can b some in absurd (omega arith)
+    other : (b : ℕ) → 1 ≤ occurrence_count b (struct_blocks old.disk (editable_slot can).struct) → (c : ℕ) → 1 ≤ occurrence_count c (pairs_blocks old.pairs) → c ≢ b
+    other b some c has e = let k = ap (λ z. occurrence_count z (pairs_blocks old.pairs)) e in let n = apart_from_pairs old index id can b some in absurd (omega arith)
 
 -- The image no longer has the file of a slot, whose blocks are as they were.
-module _ (old mid : KeptThread) (index id : ℕ) (can : CanEditIn old index id) (contents : FileStorage) (shows : IsStorage contents (editable_slot can).struct) (geometry : SameGeometry old.disk mid.disk)
-    (same : SameFileBlocks old.disk mid.disk (editable_slot can).struct) (ready : IsReadyUnsettled mid (struct_blocks old.disk (editable_slot can).struct) [])
-    (once : (b : ℕ) → number_occurrences b (used_blocks mid.disk mid.pairs) + number_occurrences b (struct_blocks old.disk (editable_slot can).struct) ≤ 1) where
+module _ (old mid : KeptThread) (index id : ℕ) (can : CanEditIn old index id) (contents : FileStorage) (shows : IsStorageOfStruct contents (editable_slot can).struct) (geometry : SameGeometry old.disk mid.disk)
+    (same : SameFileBlocks old.disk mid.disk (editable_slot can).struct) (ready : IsWritableBeforeMapUpdate mid (struct_blocks old.disk (editable_slot can).struct) [])
+    (once : (b : ℕ) → occurrence_count b (used_blocks mid.disk mid.pairs) + occurrence_count b (struct_blocks old.disk (editable_slot can).struct) ≤ 1) where
   list_is : stored_list_blocks mid (list_in_storage contents) ≡ struct_blocks old.disk (editable_slot can).struct
   list_is = go contents shows
     where
-      go : (c : FileStorage) → IsStorage c (editable_slot can).struct → stored_list_blocks mid (list_in_storage c) ≡ struct_blocks old.disk (editable_slot can).struct
+      go : (c : FileStorage) → IsStorageOfStruct c (editable_slot can).struct → stored_list_blocks mid (list_in_storage c) ≡ struct_blocks old.disk (editable_slot can).struct
       go (shown.Inline len) h = ap (struct_blocks old.disk) (sym h.1.0)
       go (shown.List head size) h = ap (struct_blocks mid.disk) (sym h) ∙ file_blocks_same old.disk mid.disk (editable_slot can).struct geometry same
 
   base_there : IsListOrEmpty mid.disk.blocks mid.disk.block_size (list_in_storage contents).head (list_in_storage contents).size
   base_there = go contents shows
     where
-      go : (c : FileStorage) → IsStorage c (editable_slot can).struct → IsListOrEmpty mid.disk.blocks mid.disk.block_size (list_in_storage c).head (list_in_storage c).size
+      go : (c : FileStorage) → IsStorageOfStruct c (editable_slot can).struct → IsListOrEmpty mid.disk.blocks mid.disk.block_size (list_in_storage c).head (list_in_storage c).size
       go (shown.Inline len) h = inl refl
-      go (shown.List head size) h = inr (subst (IsFormedList mid.disk) h (is_list_same old.disk mid.disk (editable_slot can).struct geometry same (list_there old index id can)))
+      go (shown.List head size) h = inr (subst (IsWellFormedList mid.disk) h (is_list_same old.disk mid.disk (editable_slot can).struct geometry same (list_there old index id can)))
 
   pub can_free : CanFreeList mid contents
   can_free = record { gone = struct_blocks old.disk (editable_slot can).struct; ready = ready; once = once; list = base_there; are = list_is }
@@ -131,43 +131,43 @@ beside_is a b r =
     ∙ ap (λ (ps : List Pair). let k : KeptThread = record { disk = a.disk; history = b.history; pairs = ps; map = b.map } in k) r.pairs
 
 module _ (t : KeptThread) (contents : FileStorage) (can : CanFreeList t contents) where
-  pub can_settle : CanSettleLists t (list_in_storage contents) empty_list
+  pub can_settle : CanReplaceUsedList t (list_in_storage contents) empty_list
   can_settle = record {
     was = can.list;
     list = inl refl;
     size = can.ready.size;
     apart = λ b has lists.
-        let a = number_occurrences-Contains (pairs_blocks t.pairs) b has in
-        let l = number_occurrences-Contains can.gone b (subst (λ z. Contains z b) (append-nil (stored_list_blocks t (list_in_storage contents)) ∙ can.are) lists) in
+        let a = occurrence_count-Contains (pairs_blocks t.pairs) b has in
+        let l = occurrence_count-Contains can.gone b (subst (λ z. Contains z b) (append-nil (stored_list_blocks t (list_in_storage contents)) ∙ can.are) lists) in
         let e = count_append b (pairs_blocks t.pairs) (file_blocks t.disk (all_unmoved_slots t.pairs)) in
         let o = can.once b in
         absurd (omega arith);
-    shared = record { used = λ b has none. let k = number_occurrences-Contains [] b none in absurd (omega arith) };
+    shared = record { used = λ b has none. let k = occurrence_count-Contains [] b none in absurd (omega arith) };
   }
 
   -- without a list nothing is to be done
-  pub none_freed : stored_list_blocks t (list_in_storage contents) ≡ [] → IsReadyImage t
+  pub none_freed : stored_list_blocks t (list_in_storage contents) ≡ [] → IsRecoveredWritableImage t
   none_freed none = record {
     accepted = can.ready.accepted;
     writable = can.ready.writable;
     settled = can.ready.settled;
     used = λ b. (
-      (λ h. Contains-number_occurrences (used_blocks t.disk t.pairs) b (let k = number_occurrences-Contains can.ready.used.owned b ((can.ready.used.are b).0 h) in let e = can.ready.used.same b in let n = ap (number_occurrences b) (sym can.are ∙ none) in omega arith)),
-      (λ h. (can.ready.used.are b).1 (Contains-number_occurrences can.ready.used.owned b (let k = number_occurrences-Contains (used_blocks t.disk t.pairs) b h in let e = can.ready.used.same b in omega arith))),
+      (λ h. Contains-occurrence_count (used_blocks t.disk t.pairs) b (let k = occurrence_count-Contains can.ready.used.owned b ((can.ready.used.are b).0 h) in let e = can.ready.used.same b in let n = ap (occurrence_count b) (sym can.are ∙ none) in omega arith)),
+      (λ h. (can.ready.used.are b).1 (Contains-occurrence_count can.ready.used.owned b (let k = occurrence_count-Contains (used_blocks t.disk t.pairs) b h in let e = can.ready.used.same b in omega arith))),
     );
     size = can.ready.size;
     large = can.ready.large;
   }
 
-  module _ (history : List CallEvent) (map : BlockStates) (settled : IsListSettled t (list_in_storage contents) empty_list (with_map t history map))
-      (law : (sets later : BlockStates) (owned used before now gone come : List ℕ) → AreUsed sets owned → ((b : ℕ) → number_occurrences b owned ≤ 1) → ((b : ℕ) → number_occurrences b owned + number_occurrences b come ≡ number_occurrences b used + number_occurrences b gone)
-      → ((b : ℕ) → number_occurrences b now + number_occurrences b gone ≡ number_occurrences b come + number_occurrences b before) → ((b : ℕ) → Contains now b → Contains used b) → SettlesList sets later before now → AreUsed later used) where
+  module _ (history : List CallEvent) (map : BlockStates) (settled : IsUsedListReplaced t (list_in_storage contents) empty_list (with_map t history map))
+      (law : (sets later : BlockStates) (owned used before now gone come : List ℕ) → AreUsed sets owned → ((b : ℕ) → occurrence_count b owned ≤ 1) → ((b : ℕ) → occurrence_count b owned + occurrence_count b come ≡ occurrence_count b used + occurrence_count b gone)
+      → ((b : ℕ) → occurrence_count b now + occurrence_count b gone ≡ occurrence_count b come + occurrence_count b before) → ((b : ℕ) → Contains now b → Contains used b) → SettlesList sets later before now → AreUsed later used) where
     used_now : AreUsed map (used_blocks t.disk t.pairs)
     used_now = law t.map map can.ready.used.owned (used_blocks t.disk t.pairs) (stored_list_blocks t (list_in_storage contents)) (stored_list_blocks t empty_list) can.gone []
         can.ready.used.are (λ b. let e = can.ready.used.same b in let o = can.once b in omega arith) can.ready.used.same
-        (λ b. let e = ap (number_occurrences b) can.are in omega arith) (λ b h. let k = number_occurrences-Contains [] b h in absurd (omega arith)) settled
+        (λ b. let e = ap (occurrence_count b) can.are in omega arith) (λ b h. let k = occurrence_count-Contains [] b h in absurd (omega arith)) settled
 
-    ready_here : IsReadyImage (with_map t history map)
+    ready_here : IsRecoveredWritableImage (with_map t history map)
     ready_here = record {
       accepted = can.ready.accepted;
       writable = can.ready.writable;
@@ -178,26 +178,26 @@ module _ (t : KeptThread) (contents : FileStorage) (can : CanFreeList t contents
     }
 
     -- a block of the list was used, and is free
-    flying_here : SameInFlight t.map map
-    flying_here b = go (cases_lt 0 (number_occurrences b can.gone))
+    flying_here : HasSameBlocksInFlight t.map map
+    flying_here b = go (cases_lt 0 (occurrence_count b can.gone))
       where
-        go : (0 < number_occurrences b can.gone) ⊎ (number_occurrences b can.gone ≤ 0) → IsInFlight map b ↔ IsInFlight t.map b
+        go : (0 < occurrence_count b can.gone) ⊎ (occurrence_count b can.gone ≤ 0) → IsInFlight map b ↔ IsInFlight t.map b
         go (inl some) =
             let e = can.ready.used.same b in
-            let was = (can.ready.used.are b).1 (Contains-number_occurrences can.ready.used.owned b (omega arith)) in
-            let free = settled.freed b (subst (λ z. Contains z b) (sym can.are) (Contains-number_occurrences can.gone b some)) (All-from_recursion (λ x. x ≢ b) [] tt) in
+            let was = (can.ready.used.are b).1 (Contains-occurrence_count can.ready.used.owned b (omega arith)) in
+            let free = settled.freed b (subst (λ z. Contains z b) (sym can.are) (Contains-occurrence_count can.gone b some)) (All-from_recursion (λ x. x ≢ b) [] tt) in
             ((λ flies. absurd (not_free map b free flies)), (λ flies. absurd (not_both t.map b was flies)))
         go (inr never) =
             let same = settled.others b (All-from_recursion (λ x. x ≢ b) (stored_list_blocks t (list_in_storage contents)) (subst (Each (λ x. x ≢ b)) (sym can.are) (none_there b can.gone never))) (All-from_recursion (λ x. x ≢ b) [] tt) in
             ((λ flies. sym same ∙ flies), (λ flies. same ∙ flies))
 
-  module _ (new : KeptThread) (only : ChangesOnlyMap t new) (settled : IsListSettled t (list_in_storage contents) empty_list new)
-      (law : (sets later : BlockStates) (owned used before now gone come : List ℕ) → AreUsed sets owned → ((b : ℕ) → number_occurrences b owned ≤ 1) → ((b : ℕ) → number_occurrences b owned + number_occurrences b come ≡ number_occurrences b used + number_occurrences b gone)
-      → ((b : ℕ) → number_occurrences b now + number_occurrences b gone ≡ number_occurrences b come + number_occurrences b before) → ((b : ℕ) → Contains now b → Contains used b) → SettlesList sets later before now → AreUsed later used) where
-    pub freed_ready : IsReadyImage new
-    freed_ready = subst IsReadyImage (sym (beside_is t new only)) (ready_here new.history new.map settled law)
+  module _ (new : KeptThread) (only : ChangesOnlyMap t new) (settled : IsUsedListReplaced t (list_in_storage contents) empty_list new)
+      (law : (sets later : BlockStates) (owned used before now gone come : List ℕ) → AreUsed sets owned → ((b : ℕ) → occurrence_count b owned ≤ 1) → ((b : ℕ) → occurrence_count b owned + occurrence_count b come ≡ occurrence_count b used + occurrence_count b gone)
+      → ((b : ℕ) → occurrence_count b now + occurrence_count b gone ≡ occurrence_count b come + occurrence_count b before) → ((b : ℕ) → Contains now b → Contains used b) → SettlesList sets later before now → AreUsed later used) where
+    pub freed_ready : IsRecoveredWritableImage new
+    freed_ready = subst IsRecoveredWritableImage (sym (beside_is t new only)) (ready_here new.history new.map settled law)
 
-    pub freed_flying : SameInFlight t.map new.map
+    pub freed_flying : HasSameBlocksInFlight t.map new.map
     freed_flying = flying_here new.history new.map settled law
 
 -- ---- results

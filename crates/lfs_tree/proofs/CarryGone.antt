@@ -1,7 +1,7 @@
 -- An entry at a path that is removed.
 use Rattle.std.proofs.Common.{ℕ, ◌≡◌, ◌≤◌, ◌-◌, ◌∙◌, ◌++◌, true, false, List, [], ◌∷◌, length, Some, None, ◌⊎◌, inl, Result, Ok, Err, refl, sym, ap, subst, arith}
 use Rattle.std.specs.Prelude.{nat_lt, IfErr, OnOk, is_err}
-use Rattle.lfs_tree.proofs.Common.{option_and_then, ltb-false, length-map, same_Some, slice_get_within, AreByteBlocks, ChangesOnlyMap, ThreadReportsFaults, directory_names, tree_removing, Disk, CallEvent, OnlyReadsSince, fault_count, Slot, Struct, Inline, Ctz, Branch, path_or_root, Pair, count_before_root, addresses_blocks, Path, Tree, branch_address, LeadsTo, all_entries, disk_tree, used_blocks, Contains-number_occurrences, number_occurrences-Contains, CompletesOperation, no_move_from, SameInFlight, IsReadyImage, IsReadyUnsettled, removal_written_address, CanRemoveDirectory, IsDirectoryRemoved, KeptThread, ThreadView, ChangesThreadBlocks, thread_pair, WritesThreadFree, CanRemoveEntry, tree_after_call, AppliesInPlace, HasAppliedCall, CanChangeRecovered, AppliesOrFails, SparesOutsideOperation, HasSoundImage, SurvivesEither, HasPathEntry, IsPathSpot, is_entry_found, IsStorage, CanRemoveFound, HasRemovedEntry, SparesInRemoval, uncached_state, LeadsToResult, IsSlotBelow, directory_at_path}
+use Rattle.lfs_tree.proofs.Common.{option_and_then, ltb-false, length-map, same_Some, slice_get_within, AreByteBlocks, ChangesOnlyMap, ThreadReportsFaults, directory_names, tree_removing, Disk, CallEvent, OnlyReadsSince, fault_count, Slot, Struct, Inline, Ctz, Branch, path_or_root, Pair, count_before_root, addresses_blocks, Path, Tree, struct_directory_address, IsDirectoryAtPath, all_entries, disk_tree, used_blocks, Contains-occurrence_count, occurrence_count-Contains, CompletesOperation, no_move_from, HasSameBlocksInFlight, IsRecoveredWritableImage, IsWritableBeforeMapUpdate, removal_written_address, CanRemoveDirectory, IsDirectoryRemoved, KeptThread, ThreadView, ChangesThreadBlocks, thread_pair, WritesThreadAndFree, CanRemoveEntry, tree_after_call, AppliesBeforeRelocation, HasAppliedCall, CanChangeRecovered, AppliesOrFails, KeepsBlocksOutsideOperation, HasSoundImage, PowerLossLeavesEither, HasPathEntry, IsSlotOfPath, is_entry_found, IsStorageOfStruct, CanRemoveFound, HasRemovedEntry, RemovalKeepsUnrelatedBlocks, uncached_state, IsResultOfPath, IsSlotOfChild, directory_at_path}
 use Rattle.lfs_device.specs.declared.error.Error.{Error}
 use Rattle.lfs_device.specs.declared.error.Error.TheVariants.{Io, NoMemory}
 use Rattle.lfs_model.proofs.Orders.{length_in_order}
@@ -27,10 +27,10 @@ use Rattle.lfs_tree.proofs.EmptyDirectories.{at_there, bare_there}
 
 -- ---- what is found
 
-pub entry_on : (t : KeptThread) (path : Path) (f : PathLookup) → HasPathEntry (disk_tree t.disk t.pairs) path → LeadsToResult t path f → IsFoundAt t.disk.order t.pairs path f
+pub entry_on : (t : KeptThread) (path : Path) (f : PathLookup) → HasPathEntry (disk_tree t.disk t.pairs) path → IsResultOfPath t path f → IsFoundAt t.disk.order t.pairs path f
 entry_on t path f v l = go f l (slot_found t path f v l)
   where
-    go : (f : PathLookup) → LeadsToResult t path f → is_entry_found f ≡ true → IsFoundAt t.disk.order t.pairs path f
+    go : (f : PathLookup) → IsResultOfPath t path f → is_entry_found f ≡ true → IsFoundAt t.disk.order t.pairs path f
     go found.Root l e = absurd (cc)
     go found.ParentIsFile l e = absurd (cc)
     go found.ParentIsMissing l e = absurd (cc)
@@ -41,11 +41,11 @@ entry_on t path f v l = go f l (slot_found t path f v l)
 pub entry_to_remove : (t : KeptThread) (path : Path) → CanRemoveEntry (uncached_state t true false) path → HasPathEntry (disk_tree t.disk t.pairs) path
 entry_to_remove t path can = record { entry = can.entry; parents = can.parents; something = can.something }
 
-file_branch : (c : FileStorage) (s : Struct) → IsStorage c s → branch_address s ≡ None
-file_branch (contents.Inline len) s h = ap branch_address h.1.0
-file_branch (contents.List head size) s h = ap branch_address h
+file_branch : (c : FileStorage) (s : Struct) → IsStorageOfStruct c s → struct_directory_address s ≡ None
+file_branch (contents.Inline len) s h = ap struct_directory_address h.1.0
+file_branch (contents.List head size) s h = ap struct_directory_address h
 
-pub branch_is : (s : Struct) (to : ℕ × ℕ) → branch_address s ≡ Some to → s ≡ Branch to
+pub branch_is : (s : Struct) (to : ℕ × ℕ) → struct_directory_address s ≡ Some to → s ≡ Branch to
 branch_is (Inline bytes) to e = absurd (cc)
 branch_is (Ctz head size) to e = absurd (cc)
 branch_is (Branch at) to e = ap Branch (same_Some at to e)
@@ -53,7 +53,7 @@ branch_is (Branch at) to e = ap Branch (same_Some at to e)
 -- ---- what may go
 
 -- a directory without names has no entries
-pub none_entered : (t : KeptThread) (path : Path) → nat_lt 0 (length (directory_names (disk_tree t.disk t.pairs path))) ≡ false → (at : ℕ × ℕ) → LeadsTo t.pairs path at → all_entries t.pairs at ≡ []
+pub none_entered : (t : KeptThread) (path : Path) → nat_lt 0 (length (directory_names (disk_tree t.disk t.pairs path))) ≡ false → (at : ℕ × ℕ) → IsDirectoryAtPath t.pairs path at → all_entries t.pairs at ≡ []
 none_entered t path bare at leads =
     let d = directory_at_path t.disk t.pairs path at leads in
     let none = ltb-false 0 (length (directory_names (disk_tree t.disk t.pairs path))) bare in
@@ -66,10 +66,10 @@ none_entered t path bare at leads =
     empty (x ∷ xs) l = absurd (omega arith)
 
 module _ (t : ThreadView) (root : ℕ) (rests : CanChangeRecovered t root) (path : Path) (large : 1024 ≤ t.kept.disk.block_size) (bytes : AreByteBlocks t.kept.disk.blocks) (can : CanRemoveEntry (uncached_state t.kept true false) path) (h : List CallEvent) where
-  no_entries : (at : ℕ × ℕ) → LeadsTo t.kept.pairs path at → all_entries t.kept.pairs at ≡ []
+  no_entries : (at : ℕ × ℕ) → IsDirectoryAtPath t.kept.pairs path at → all_entries t.kept.pairs at ≡ []
   no_entries at leads = none_entered t.kept path can.empty at leads
 
-  slot_on : (parent : ℕ) (slot : SlotPosition) (ends_above : Path) (name : List ℕ) → path ≡ ends_above ++ name ∷ [] → IsSlotBelow t.kept.pairs ends_above name parent slot → IsPathSpot t.kept.pairs path slot
+  slot_on : (parent : ℕ) (slot : SlotPosition) (ends_above : Path) (name : List ℕ) → path ≡ ends_above ++ name ∷ [] → IsSlotOfChild t.kept.pairs ends_above name parent slot → IsSlotOfPath t.kept.pairs path slot
   slot_on parent slot above name is stands = record { above = above; name = name; first = parent; is = is; stands = stands }
 
   pub can_go : (f : PathLookup) → IsFoundAt t.kept.disk.order t.kept.pairs path f → CanRemoveFound (with_history t.kept h) path f
@@ -91,15 +91,15 @@ module _ (t : ThreadView) (root : ℕ) (rests : CanChangeRecovered t root) (path
       }
   can_go (found.Directory parent slot first) on =
       let there = on.ends.there in
-      let led : LeadsTo t.kept.pairs (on.ends.above ++ on.ends.name ∷ []) there.1.at = there.1.leads in
+      let led : IsDirectoryAtPath t.kept.pairs (on.ends.above ++ on.ends.name ∷ []) there.1.at = there.1.leads in
       let bare = bare_there t.kept.disk t.kept.pairs on.ends.above on.ends.name there.1.at first rests.held.sound.accepted (rests.held.sound.fits refl) (no_move_from t.kept.pairs rests.settled) there.1.leads there.1.begins
-      (no_entries there.1.at (subst (λ p. LeadsTo t.kept.pairs p there.1.at) (sym on.ends.is) there.1.leads)) in
+      (no_entries there.1.at (subst (λ p. IsDirectoryAtPath t.kept.pairs p there.1.at) (sym on.ends.is) there.1.leads)) in
       record {
         take = record {
           can = can_edit t root rests path large bytes slot (slot_on parent slot on.ends.above on.ends.name on.ends.is there.0) h;
           begins = refl;
           to = there.1.at;
-          branch = branch_is there.0.stands.stands.slot.struct there.1.at (sym (ap (option_and_then (λ (f : Slot). branch_address f.struct)) there.0.slot) ∙ there.1.leads);
+          branch = branch_is there.0.stands.stands.slot.struct there.1.at (sym (ap (option_and_then (λ (f : Slot). struct_directory_address f.struct)) there.0.slot) ∙ there.1.leads);
           below = slice_get_within t.kept.pairs first there.1.begins.pair there.1.begins.there;
           at = at_there t.kept.pairs there.1.at first there.1.begins;
           empty = bare.empty;
@@ -110,14 +110,14 @@ module _ (t : ThreadView) (root : ℕ) (rests : CanChangeRecovered t root) (path
 
 -- ---- the result
 
-ready_from : (t : KeptThread) → IsReadyUnsettled t [] [] → IsReadyImage t
+ready_from : (t : KeptThread) → IsWritableBeforeMapUpdate t [] [] → IsRecoveredWritableImage t
 ready_from t r = record {
   accepted = r.accepted;
   writable = r.writable;
   settled = r.settled;
   used = λ b. (
-    (λ h. Contains-number_occurrences (used_blocks t.disk t.pairs) b (let k = number_occurrences-Contains r.used.owned b ((r.used.are b).0 h) in let e = r.used.same b in omega arith)),
-    (λ h. (r.used.are b).1 (Contains-number_occurrences r.used.owned b (let k = number_occurrences-Contains (used_blocks t.disk t.pairs) b h in let e = r.used.same b in omega arith))),
+    (λ h. Contains-occurrence_count (used_blocks t.disk t.pairs) b (let k = occurrence_count-Contains r.used.owned b ((r.used.are b).0 h) in let e = r.used.same b in omega arith)),
+    (λ h. (r.used.are b).1 (Contains-occurrence_count r.used.owned b (let k = occurrence_count-Contains (used_blocks t.disk t.pairs) b h in let e = r.used.same b in omega arith))),
   );
   size = r.size;
   large = r.large;
@@ -132,7 +132,7 @@ directory_gone old new path above name e is = record {
 }
 
 -- a file, whose list is freed afterwards
-pub file_gone : (old mid new : KeptThread) (path above : Path) (name : List ℕ) (struct : Struct) → path ≡ above ++ name ∷ [] → IsFileRemoved old mid above name struct → ChangesOnlyMap mid new → IsReadyImage new → SameInFlight mid.map new.map → HasRemovedEntry old path new
+pub file_gone : (old mid new : KeptThread) (path above : Path) (name : List ℕ) (struct : Struct) → path ≡ above ++ name ∷ [] → IsFileRemoved old mid above name struct → ChangesOnlyMap mid new → IsRecoveredWritableImage new → HasSameBlocksInFlight mid.map new.map → HasRemovedEntry old path new
 file_gone old mid new path above name struct e is only ready flying = record {
   ready = ready;
   flying = λ b. ((λ flies. (is.now.flying b).0 ((flying b).0 flies)), (λ flies. (flying b).1 ((is.now.flying b).1 flies)));
@@ -141,7 +141,7 @@ file_gone old mid new path above name struct e is only ready flying = record {
       (subst (λ (ps : List Pair). CompletesOperation old.disk old.pairs s (ops.Remove given) mid.disk ps) (sym only.pairs) (is.completed s given tree (given_is ∙ e)));
 }
 
-pub directory_writes : (old new : KeptThread) (pair id first gone : ℕ) → CanRemoveDirectory old pair id first gone → ChangesThreadBlocks (addresses_blocks (removal_written_address old pair first) (thread_pair old (gone - 1)).at) old new → WritesThreadFree old new
+pub directory_writes : (old new : KeptThread) (pair id first gone : ℕ) → CanRemoveDirectory old pair id first gone → ChangesThreadBlocks (addresses_blocks (removal_written_address old pair first) (thread_pair old (gone - 1)).at) old new → WritesThreadAndFree old new
 directory_writes old new pair id first gone take w = record {
   blocks = addresses_blocks (removal_written_address old pair first) (thread_pair old (gone - 1)).at;
   each = (
@@ -152,8 +152,8 @@ directory_writes old new pair id first gone take w = record {
   writes = w;
 }
 
-module _ (t : ThreadView) (root : ℕ) (rests : CanChangeRecovered t root) (path : Path) (h : List CallEvent) (c : KeptThread) (reads : OnlyReadsSince t.kept.disk.blocks t.kept.history h) (w : WritesThreadFree (with_history t.kept h) c) where
-  removed_at : (given : List ℕ) → HasRemovedEntry (with_history t.kept h) path c → fault_count c.history ≡ fault_count t.kept.history → path_or_root given ≡ path → AppliesInPlace t.kept (ops.Remove given) c
+module _ (t : ThreadView) (root : ℕ) (rests : CanChangeRecovered t root) (path : Path) (h : List CallEvent) (c : KeptThread) (reads : OnlyReadsSince t.kept.disk.blocks t.kept.history h) (w : WritesThreadAndFree (with_history t.kept h) c) where
+  removed_at : (given : List ℕ) → HasRemovedEntry (with_history t.kept h) path c → fault_count c.history ≡ fault_count t.kept.history → path_or_root given ≡ path → AppliesBeforeRelocation t.kept (ops.Remove given) c
   removed_at given g quiet e = carried t.kept h (ops.Remove given) c
       (record {
         accepted = rests.held.sound.accepted;
@@ -197,35 +197,35 @@ steps_both old mid new x result given is t failed w =
 -- ---- a power loss on the way
 
 -- an entry of a path
-pub removal_survives : (old new : KeptThread) (path above : Path) (name : List ℕ) → path ≡ above ++ name ∷ [] → SurvivesEither old new (tree_removing (above ++ name ∷ []) (disk_tree old.disk old.pairs)) → SurvivesEither old new (tree_removing path (disk_tree old.disk old.pairs))
-removal_survives old new path above name e k = subst (λ p. SurvivesEither old new (tree_removing p (disk_tree old.disk old.pairs))) (sym e) k
+pub removal_survives : (old new : KeptThread) (path above : Path) (name : List ℕ) → path ≡ above ++ name ∷ [] → PowerLossLeavesEither old new (tree_removing (above ++ name ∷ []) (disk_tree old.disk old.pairs)) → PowerLossLeavesEither old new (tree_removing path (disk_tree old.disk old.pairs))
+removal_survives old new path above name e k = subst (λ p. PowerLossLeavesEither old new (tree_removing p (disk_tree old.disk old.pairs))) (sym e) k
 
 -- a file, whose list is freed afterwards
 pub freeing_survives : (old mid new : KeptThread) (path above : Path) (name : List ℕ) (struct : Struct) (bs : List ℕ) → path ≡ above ++ name ∷ [] → ChangesThreadBlocks bs old mid → IsFileRemoved old mid above name struct → ChangesOnlyMap mid new
-    → SurvivesEither old mid (tree_removing (above ++ name ∷ []) (disk_tree old.disk old.pairs)) → SurvivesEither old new (tree_removing path (disk_tree old.disk old.pairs))
+    → PowerLossLeavesEither old mid (tree_removing (above ++ name ∷ []) (disk_tree old.disk old.pairs)) → PowerLossLeavesEither old new (tree_removing path (disk_tree old.disk old.pairs))
 freeing_survives old mid new path above name struct bs e w is only k =
     survives_left old mid new.history (tree_removing path (disk_tree old.disk old.pairs)) (shape_geometry old mid w.shape) w.at_worst is.now.ready.accepted is.now.ready.writable
     (is.now.shows ∙ ap (λ p. tree_removing p (disk_tree old.disk old.pairs)) (sym e)) only.reads (removal_survives old mid path above name e k)
 
 -- ---- all that is said of it
 
-module _ (t : ThreadView) (root : ℕ) (rests : CanChangeRecovered t root) (path : Path) (h : List CallEvent) (new : ThreadView) (reads : OnlyReadsSince t.kept.disk.blocks t.kept.history h) (w : WritesThreadFree (with_history t.kept h) new.kept) where
+module _ (t : ThreadView) (root : ℕ) (rests : CanChangeRecovered t root) (path : Path) (h : List CallEvent) (new : ThreadView) (reads : OnlyReadsSince t.kept.disk.blocks t.kept.history h) (w : WritesThreadAndFree (with_history t.kept h) new.kept) where
   abbrev before : Tree
   before = disk_tree t.kept.disk t.kept.pairs
 
-  pub remove_does : (r : Result (Unit {0}) Error) (given : List ℕ) → path_or_root given ≡ path → fault_count h ≡ fault_count t.kept.history → OnOk r (HasRemovedEntry (with_history t.kept h) path new.kept) → OnOk r (SparesInRemoval (with_history t.kept h) path new.kept)
-      → ReportsFaultsSince h new.kept.history r → OnOk r (new.failed ≡ false) → SurvivesEither (with_history t.kept h) new.kept (tree_removing path before) → AppliesOrFails t (call.Remove path) r new
+  pub remove_does : (r : Result (Unit {0}) Error) (given : List ℕ) → path_or_root given ≡ path → fault_count h ≡ fault_count t.kept.history → OnOk r (HasRemovedEntry (with_history t.kept h) path new.kept) → OnOk r (RemovalKeepsUnrelatedBlocks (with_history t.kept h) path new.kept)
+      → ReportsFaultsSince h new.kept.history r → OnOk r (new.failed ≡ false) → PowerLossLeavesEither (with_history t.kept h) new.kept (tree_removing path before) → AppliesOrFails t (call.Remove path) r new
   remove_does r given named quiet gone spared reported works survives =
       changed t new (HasAppliedCall t.kept (call.Remove path)) (tree_after_call (call.Remove path) before) h w.blocks r quiet reads w.writes reported works (go r gone spared (quiet_reported t.kept new.kept h r quiet reported))
       (survives_behind t root rests h new.kept w.blocks (tree_removing path before) reads w.writes survives)
     where
-      go : (r : Result (Unit {0}) Error) → OnOk r (HasRemovedEntry (with_history t.kept h) path new.kept) → OnOk r (SparesInRemoval (with_history t.kept h) path new.kept) → OnOk r (fault_count new.kept.history ≡ fault_count t.kept.history)
+      go : (r : Result (Unit {0}) Error) → OnOk r (HasRemovedEntry (with_history t.kept h) path new.kept) → OnOk r (RemovalKeepsUnrelatedBlocks (with_history t.kept h) path new.kept) → OnOk r (fault_count new.kept.history ≡ fault_count t.kept.history)
           → OnOk r (HasAppliedCall t.kept (call.Remove path) new.kept × HasSoundImage t.kept (tree_after_call (call.Remove path) before) new.kept)
       go (Err e) gone spared same = tt
       go (Ok x) gone spared same = (
         record {
-          carries = does_remove (λ op. AppliesInPlace t.kept op new.kept) path (λ given e. removed_at t root rests path h new.kept reads w given gone same e);
-          spares = does_remove (λ op. SparesOutsideOperation t.kept op new.kept) path (λ given e none files. spared (record { tree = disk_tree t.kept.disk t.kept.pairs; files = files }) given e);
+          carries = does_remove (λ op. AppliesBeforeRelocation t.kept op new.kept) path (λ given e. removed_at t root rests path h new.kept reads w given gone same e);
+          spares = does_remove (λ op. KeepsBlocksOutsideOperation t.kept op new.kept) path (λ given e none files. spared (record { tree = disk_tree t.kept.disk t.kept.pairs; files = files }) given e);
         },
         remove_stands t.kept new.kept path given named (removed_at t root rests path h new.kept reads w given gone same named) gone.root,
       )

@@ -1,11 +1,11 @@
 -- From the premises that an operation's checks have shown to those of its steps.
 use Rattle.std.proofs.Common.{ℕ, ◌≡◌, ◌≢◌, ◌<◌, ◌∙◌, ◌&&◌, Bool, true, false, zero, suc, [], ◌∷◌, length, Some, refl, sym, ap₂, subst, arith, set, length-set}
 use Rattle.std.specs.Prelude.{slice_get}
-use Rattle.lfs_tree.proofs.Common.{list_all, min-le_right, ltb-false, same_Some, last_name, BlockStates, IsFree, state_in_flight, Free, InFlight, is_component, is_valid_name, profile_name_max, DiskSummary, has_long_name, Path, slice_get-set_other, slice_get-set_same, used_count-AreUsed, HasTwoFree, HasFreeBlocks, KeptThread, HasNeededBlocks, uncached_state, IsSoundState}
+use Rattle.lfs_tree.proofs.Common.{list_all, min-le_right, ltb-false, same_Some, last_name, BlockStates, IsFree, state_in_flight, Free, InFlight, is_component, is_valid_name, profile_name_max, DiskSummary, has_long_name, Path, slice_get-set_other, slice_get-set_same, used_count-AreUsed, HasTwoFreeBlocks, HasFreeBlocks, KeptThread, HasNeededBlocks, uncached_state, IsSoundState}
 use Rattle.std.proofs.lemmas.Bool.{le-leb}
 use Rattle.lfs_model.specs.layers.BlockSets.{is_used}
 use Rattle.lfs_model.proofs.BlockSets.{count_by-set, counts_from_none_free}
-use Rattle.lfs_operations.specs.Changing.{AreTwoFree}
+use Rattle.lfs_operations.specs.Changing.{AreTwoFreeBlocks}
 
 -- ---- room
 
@@ -20,14 +20,14 @@ within [] b e = absurd (cc)
 within (x ∷ sets) zero e = omega arith
 within (x ∷ sets) (suc b) e = let l = within sets b e in omega arith
 
-two_free : (sets : BlockStates) (a b : ℕ) → IsFree sets a → IsFree (set sets a InFlight) b → AreTwoFree sets (a, b)
+two_free : (sets : BlockStates) (a b : ℕ) → IsFree sets a → IsFree (set sets a InFlight) b → AreTwoFreeBlocks sets (a, b)
 two_free sets a b first second = record { apart = apart; first = first; second = sym (slice_get-set_other sets a b InFlight (λ e. apart (sym e))) ∙ second }
   where
     apart : a ≢ b
     apart e = let k = same_Some InFlight Free (sym (slice_get-set_same sets a InFlight (within sets a first)) ∙ subst (λ z. slice_get (set sets a InFlight) z ≡ Some Free) (sym e) second) in absurd (cc)
 
 -- if there is room for two blocks, two are free
-pub no_room : (sets : BlockStates) → HasFreeBlocks 2 sets → (HasTwoFree sets → ⊥) → ⊥
+pub no_room : (sets : BlockStates) → HasFreeBlocks 2 sets → (HasTwoFreeBlocks sets → ⊥) → ⊥
 no_room sets room none = not_none (λ a free. go a free)
   where
     not_none : ((b : ℕ) → IsFree sets b → ⊥) → ⊥

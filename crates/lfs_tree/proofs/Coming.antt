@@ -1,7 +1,7 @@
 -- Finished contents can be committed.
 use Rattle.std.proofs.Common.{ℕ, ◌≡◌, ◌≤◌, ◌<◌, ⊎_elim, nat_eq, get_or, List, [], length, Some, refl, sym, ap, subst, ◌∙◌, arith}
 use Rattle.std.specs.List.{IsDistinct, slice_get}
-use Rattle.lfs_tree.proofs.Common.{All-contains, slice_get-get_or, BlockState, BlockStates, IsFree, IsInFlight, IsUsedBlock, Free, InFlight, Used, inline_limit, IsSkipList, list_bytes, Struct, Ctz, Inline, struct_blocks, Contains-number_occurrences, number_occurrences-Contains, number_occurrences, each_from_counted, once_from_distinct, KeptThread, ContentsForm, IsFinishedList, AreUsedAmong, IsContentsStruct, stored_list_blocks, HaveThreadForm}
+use Rattle.lfs_tree.proofs.Common.{All-contains, slice_get-get_or, BlockState, BlockStates, IsFree, IsInFlight, IsUsedBlock, Free, InFlight, Used, inline_limit, IsSkipList, list_bytes, Struct, Ctz, Inline, struct_blocks, Contains-occurrence_count, occurrence_count-Contains, occurrence_count, each_from_counted, once_from_distinct, KeptThread, ContentsForm, IsFinishedList, AreUsedAmong, IsNewContentsStruct, stored_list_blocks, HaveContentsForm}
 use Rattle.lfs_file.specs.declared.contents.WriterContents.TheVariants.{Finished}
 use Rattle.lfs_file.specs.declared.stored_list.StoredList.{StoredList}
 use Rattle.lfs_file.proofs.Ends.{none_distinct}
@@ -16,18 +16,18 @@ flying_else sets b lt free used = go (get_or sets b Free) (slice_get-get_or sets
     go Used is = absurd (used is)
 
 module _ (t : KeptThread) (s : StoredList) (was : List ℕ) (stored : IsFinishedList t.map t.disk.blocks t.disk.block_size s) (list : IsSkipList t.disk.blocks t.disk.block_size s.head s.size) (owned : AreUsedAmong t.map was (stored_list_blocks t s)) where
-  come_flies : (b : ℕ) → 1 ≤ number_occurrences b (outside was (stored_list_blocks t s)) → IsInFlight t.map b
+  come_flies : (b : ℕ) → 1 ≤ occurrence_count b (outside was (stored_list_blocks t s)) → IsInFlight t.map b
   come_flies b some =
       let both = came b was (stored_list_blocks t s) some in
-      let has = Contains-number_occurrences (stored_list_blocks t s) b both.1 in
+      let has = Contains-occurrence_count (stored_list_blocks t s) b both.1 in
       flying_else t.map b
       (let within = All-contains (λ x. x < length t.disk.blocks) (stored_list_blocks t s) b list.blocks.in_range has in omega (arith, stored.count, within))
       (All-contains (λ x. IsFree t.map x → ⊥) (stored_list_blocks t s) b stored.marked has)
-      (λ used. absurd (let k = number_occurrences-Contains was b (owned.each b has used) in let z = both.0 in omega arith))
+      (λ used. absurd (let k = occurrence_count-Contains was b (owned.each b has used) in let z = both.0 in omega arith))
 
 -- a list
-pub list_comes : (t : KeptThread) (s : StoredList) (bytes : List ℕ) (form : ContentsForm) (was : Struct) → HaveThreadForm t (Finished s) bytes form → s.size ≡ length bytes → inline_limit t.disk.profile t.disk.block_size < length bytes
-    → AreUsedAmong t.map (struct_blocks t.disk was) (stored_list_blocks t s) → IsDistinct nat_eq (struct_blocks t.disk was) → IsContentsStruct t bytes was (Ctz s.head s.size)
+pub list_comes : (t : KeptThread) (s : StoredList) (bytes : List ℕ) (form : ContentsForm) (was : Struct) → HaveContentsForm t (Finished s) bytes form → s.size ≡ length bytes → inline_limit t.disk.profile t.disk.block_size < length bytes
+    → AreUsedAmong t.map (struct_blocks t.disk was) (stored_list_blocks t s) → IsDistinct nat_eq (struct_blocks t.disk was) → IsNewContentsStruct t bytes was (Ctz s.head s.size)
 list_comes t s bytes form was holds size large owned distinct =
     let stored : IsFinishedList t.map t.disk.blocks t.disk.block_size s = subst (λ (n : ℕ). IsFinishedList t.map t.disk.blocks n s) holds.divided.block_size holds.has.stands in
     let list : IsSkipList t.disk.blocks t.disk.block_size s.head s.size = ⊎_elim (λ none. absurd (omega arith)) (λ is. is) stored.base in
@@ -44,7 +44,7 @@ list_comes t s bytes form was holds size large owned distinct =
     }
 
 -- inline
-pub inline_comes : (t : KeptThread) (bytes : List ℕ) (was : Struct) → length bytes ≤ inline_limit t.disk.profile t.disk.block_size → IsContentsStruct t bytes was (Inline bytes)
+pub inline_comes : (t : KeptThread) (bytes : List ℕ) (was : Struct) → length bytes ≤ inline_limit t.disk.profile t.disk.block_size → IsNewContentsStruct t bytes was (Inline bytes)
 inline_comes t bytes was few = record {
   stores = (refl, few);
   list = tt;

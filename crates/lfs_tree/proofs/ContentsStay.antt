@@ -1,7 +1,7 @@
 -- A writer's contents stay if only other blocks change.
 use Rattle.std.proofs.Common.{ℕ, ◌≡◌, ◌≢◌, ◌<◌, ⊎_elim, inl, inr, List, [], ◌∷◌, ◌++◌, drop, length, take, slice_get, sym, ap, ◌∙◌, subst, arith, length-append}
 use Rattle.std.specs.Prelude.{All, Contains}
-use Rattle.lfs_tree.proofs.Common.{All-from_recursion, Contains-append_left, Contains-append_right, Blocks, block_bytes, BlockStates, IsFree, IsInFlight, blocks_to_head, block_count_for, Contains-number_occurrences, number_occurrences-Contains, each_from_counted, Each, recursion_from_All, AreKnownBlocks, GrowingList, unwritten_block, growing_size_with, IsTakenNotPending, IsListOrEmpty, blocks_of_list, CanEndOver, IsFinishedList, bytes_over_base}
+use Rattle.lfs_tree.proofs.Common.{All-from_recursion, Contains-append_left, Contains-append_right, Blocks, block_bytes, BlockStates, IsFree, IsInFlight, blocks_to_head, skip_list_block_count, Contains-occurrence_count, occurrence_count-Contains, each_from_counted, Each, recursion_from_All, AreKnownBlocks, GrowingList, unwritten_block, growing_size_with, IsTakenNotPending, IsListOrEmpty, blocks_of_list, CanEndOver, IsFinishedList, bytes_over_base}
 use Rattle.lfs_model.proofs.Counts.{each_counted}
 use Rattle.lfs_model.proofs.Files.{Same, back_same, bytes_same, chain_same, data_same, list_same}
 use Rattle.lfs_file.specs.Growing.{IsRestAt, SameListLater, growing_bytes, blocks_data, lasting_blocks, rest_block, unwritten_rest_block}
@@ -12,10 +12,10 @@ use Rattle.lfs_file.specs.declared.stored_list.StoredList.{StoredList}
 
 -- what holds of each member
 pub each_of : (P : ℕ → Type 0) (bs : List ℕ) → ((b : ℕ) → Contains bs b → P b) → Each P bs
-each_of P bs has = each_from_counted P bs (λ b some. has b (Contains-number_occurrences bs b some))
+each_of P bs has = each_from_counted P bs (λ b some. has b (Contains-occurrence_count bs b some))
 
 pub of_each : (P : ℕ → Type 0) (bs : List ℕ) → Each P bs → (b : ℕ) → Contains bs b → P b
-of_each P bs each b has = each_counted P bs each b (number_occurrences-Contains bs b has)
+of_each P bs each b has = each_counted P bs each b (occurrence_count-Contains bs b has)
 
 pub all_of : (P : ℕ → Type 0) (bs : List ℕ) → ((b : ℕ) → Contains bs b → P b) → All P bs
 all_of P bs has = All-from_recursion P bs (each_of P bs has)
@@ -59,7 +59,7 @@ module _ (map later : BlockStates) (d e : Blocks) (block_size : ℕ) (s : Stored
   each_same = each_of (λ b. block_bytes e b ≡ block_bytes d b) (blocks_of_list d block_size s.head s.size) stay.same
 
   pub list_stays : blocks_of_list e block_size s.head s.size ≡ blocks_of_list d block_size s.head s.size
-  list_stays = back_same d e (block_count_for block_size s.size) s.head each_same
+  list_stays = back_same d e (skip_list_block_count block_size s.size) s.head each_same
 
   pub base_stays : IsListOrEmpty d block_size s.head s.size → IsListOrEmpty e block_size s.head s.size
   base_stays base = ⊎_elim (λ none. inl none) (λ list. inr (list_same d e block_size s.head s.size stay.count each_same list)) base

@@ -4,7 +4,7 @@ use Rattle.std.specs.Prelude.{IfOk, IfSome}
 use Rattle.lfs_device.specs.declared.error.Error.{Error}
 use Rattle.lfs_tree.proofs.Common.{zero_gstate, pairs_gstate, Path, KeptThread, ThreadView, OnlyReadsThread, IsCreationResult, TreeState, kept_thread}
 use Rattle.lfs_lookup.specs.declared.paths.PathLookup.{PathLookup}
-use Rattle.lfs_tree.specs.declared.creation_paths.CreationFindings.{CreationFindings}
+use Rattle.lfs_tree.specs.declared.creation_paths.CreationLookup.{CreationLookup}
 use Rattle.lfs_tree.proofs.RenamePaths.{leads_since}
 
 -- the result of the look-up, after reads
@@ -12,7 +12,7 @@ target_since : (a b : KeptThread) (path : Path) (o : Option PathLookup) → Only
 target_since a b path None only k = tt
 target_since a b path (Some found) only k = record { settled = ap pairs_gstate only.pairs ∙ k.settled; leads = leads_since a b path found only k.leads }
 
-pub creation_since : (a b : KeptThread) (path : Path) (r : Result CreationFindings Error) → OnlyReadsThread a b → IfOk r (λ found. IfSome found.target (IsCreationResult a path)) → IfOk r (λ found. IfSome found.target (IsCreationResult b path))
+pub creation_since : (a b : KeptThread) (path : Path) (r : Result CreationLookup Error) → OnlyReadsThread a b → IfOk r (λ found. IfSome found.target (IsCreationResult a path)) → IfOk r (λ found. IfSome found.target (IsCreationResult b path))
 creation_since a b path (Err e) only k = tt
 creation_since a b path (Ok x) only k = target_since a b path x.target only k
 

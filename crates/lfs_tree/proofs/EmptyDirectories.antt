@@ -3,7 +3,7 @@ use Rattle.std.proofs.Common.{ℕ, ◌≡◌, ◌≤◌, ◌+◌, ◌-◌, ◌�
 use Rattle.std.proofs.lemmas.List.{drop-drop}
 use Rattle.std.proofs.lemmas.Option.{get_or_from_slice_get}
 use Rattle.std.proofs.Math.Seq.{drop-append_seam}
-use Rattle.lfs_tree.proofs.Common.{Disk, IsPairAt, Name, Slot, same_pair, Pair, pairs_from_root, first_address, pairs_gstate, is_hard_tail, root_address, count_before_root, Path, HasNoEmpties, IsWritable, IsAccepted, LeadsTo, all_entries, Each, HasNoMove, IsDirectory, begins_directory, empty_anchor}
+use Rattle.lfs_tree.proofs.Common.{Disk, IsPairAt, Name, Slot, same_pair, Pair, pairs_from_root, first_address, pairs_gstate, is_hard_tail, root_address, count_before_root, Path, HasNoEmptyPairs, IsWritable, IsAccepted, IsDirectoryAtPath, all_entries, Each, HasNoMove, IsDirectory, begins_directory, empty_anchor}
 use Rattle.lfs_model.specs.session.InDirectory.{HaveNoSuperblock, entry_slots, all_slots}
 use Rattle.lfs_model.specs.format.Slots.{is_superblock}
 use Rattle.lfs_model.specs.format.Thread.{unmoved_entries}
@@ -30,7 +30,7 @@ pub record IsBare (p : Pair) : Type 0 where
   pub alone : is_hard_tail p.content.tail ≡ false
 
 module _ (disk : Disk) (ps : List Pair) (above : Path) (name : Name) (a : ℕ × ℕ) (n : ℕ) (ok : IsAccepted disk ps) (fits : IsWritable disk ps) (none : HasNoMove (pairs_gstate ps))
-    (leads : LeadsTo ps (above ++ name ∷ []) a) (b : IsPairAt ps a n) (empty : all_entries ps a ≡ []) where
+    (leads : IsDirectoryAtPath ps (above ++ name ∷ []) a) (b : IsPairAt ps a n) (empty : all_entries ps a ≡ []) where
   begun : IsDirectory ps a n
   begun = begins_directory disk ps (above ++ name ∷ []) a n ok leads b
 
@@ -68,10 +68,10 @@ module _ (disk : Disk) (ps : List Pair) (above : Path) (name : Name) (a : ℕ ×
   first_bare : (d.first.content.slots ≡ []) × (entry_slots (all_slots d.run) ≡ [])
   first_bare = none_first d.first.content.slots (all_slots d.run) plain.0 shown
 
-  have : HasNoEmpties (is_hard_tail d.first.content.tail) (d.run ++ d.after)
-  have = (have_right None d.before (d.first ∷ d.run ++ d.after) (subst (HasNoEmpties false) d.is fits.no_empty_pair)).1
+  have : HasNoEmptyPairs (is_hard_tail d.first.content.tail) (d.run ++ d.after)
+  have = (have_right None d.before (d.first ∷ d.run ++ d.after) (subst (HasNoEmptyPairs false) d.is fits.no_empty_pair)).1
 
-  no_run : (run : List Pair) → d.run ≡ run → IsRun (d.first ∷ run) → HaveNoSuperblock (run ++ d.after) → entry_slots (all_slots run) ≡ [] → HasNoEmpties (is_hard_tail d.first.content.tail) (run ++ d.after) → is_hard_tail d.first.content.tail ≡ false
+  no_run : (run : List Pair) → d.run ≡ run → IsRun (d.first ∷ run) → HaveNoSuperblock (run ++ d.after) → entry_slots (all_slots run) ≡ [] → HasNoEmptyPairs (is_hard_tail d.first.content.tail) (run ++ d.after) → is_hard_tail d.first.content.tail ≡ false
   no_run [] e is_run clean shows filled = is_run
   no_run (q ∷ run) e is_run clean shows filled = absurd (filled.0 is_run.0 (none_first q.content.slots (all_slots run) clean.0 shows).0)
 

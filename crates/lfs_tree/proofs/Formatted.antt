@@ -2,7 +2,7 @@
 use Rattle.std.proofs.Common.{ℕ, zero, suc, ◌≡◌, ◌⊎◌, inl, inr, ◌<◌, ◌≤◌, Bool, true, false, not, cond, ◌&&◌, List, [], ◌∷◌, ◌++◌, length, Some, None, refl, sym, ap, ap₂, subst, ◌∙◌, arith, set, replicate, nat_eq}
 use Rattle.std.specs.Prelude.{Contains, slice_get, unwrap_or}
 use Rattle.std.specs.Bool.{IsTrue, OnTrue}
-use Rattle.lfs_tree.proofs.Common.{flat_map, option_and_then, length-replicate, same_Some, Blocks, AreInFlight, AreUsed, BlockStates, BlockState, IsFree, ContentChange, has_commit, current_of_two, current_block, is_later, empty_raw_content, Disk, disk_block, block_count, ordered_disk, CallEvent, block_revision, zero_gstate, anchor_address, pairs_blocks, address_blocks, BeginsWith, IsAccepted, superblock_entry, IsWritable, Contains-cons, Contains-head, Contains-tail, KeptThread, kept_in_order, ChangesThreadBlocks, IsFormatted, IsEmptyWritable}
+use Rattle.lfs_tree.proofs.Common.{flat_map, option_and_then, length-replicate, same_Some, Blocks, AreInFlight, AreUsed, BlockStates, BlockState, IsFree, ContentChange, has_commit, later_committed_block, current_block, is_later, empty_raw_content, Disk, disk_block, block_count, disk_with_order, CallEvent, block_revision, zero_gstate, superblock_pair_address, pairs_blocks, address_blocks, HasFirstLogEntry, IsAccepted, superblock_entry, IsWritable, Contains-cons, Contains-head, Contains-tail, KeptThread, kept_in_order, ChangesThreadBlocks, IsFreshlyFormatted, IsEmptyWritable}
 use Rattle.std.specs.List.{IsDistinct}
 use Rattle.std.proofs.lemmas.Bool.{OnTrue_at}
 use Rattle.lfs_device.specs.declared.geometry.Geometry.{Geometry}
@@ -11,11 +11,11 @@ use Rattle.lfs_device.specs.DeviceCalls.{ChangesTheseBlocks}
 use Rattle.lfs_device.specs.DeviceDisk.{disk_of_blocks}
 use Rattle.lfs_model.specs.layers.BlockSets.{Free, InFlight, Used}
 use Rattle.lfs_model.specs.layers.Changes.{content_with_changes}
-use Rattle.lfs_model.specs.format.Content.{complete_content, raw_content}
+use Rattle.lfs_model.specs.format.Content.{decoded_content, raw_content}
 use Rattle.lfs_model.specs.declared.order.NameOrder.{NameOrder}
 use Rattle.lfs_model.specs.tree.Fresh.{fresh_content, fresh_pair, superblock_bytes}
 use Rattle.lfs_model.specs.format.Geometry.{IsValidGeometry}
-use Rattle.lfs_model.specs.format.Thread.{AreLinked}
+use Rattle.lfs_model.specs.format.Thread.{AreLinkedByTails}
 use Rattle.lfs_model.specs.tree.View.{disk_view}
 use Rattle.lfs_model.specs.layers.WrittenContent.{content_entries}
 use Rattle.lfs_model.proofs.Histories.{began}
@@ -89,13 +89,13 @@ marked_both n now last is_free few e free marked =
 made : (disk : Disk) → content_with_changes empty_raw_content (superblock_slot_changes (superblock_bytes disk.profile disk.block_size (block_count disk))) ≡ Some (superblock_content disk)
 made disk = refl
 
-completes : (disk : Disk) → complete_content (superblock_content disk) ≡ Some (fresh_content disk.profile disk.block_size (block_count disk))
+completes : (disk : Disk) → decoded_content (superblock_content disk) ≡ Some (fresh_content disk.profile disk.block_size (block_count disk))
 completes disk = refl
 
-address : (disk : Disk) → 2 ≤ block_count disk → IsPairAddress disk anchor_address
+address : (disk : Disk) → 2 ≤ block_count disk → IsPairAddress disk superblock_pair_address
 address disk few = record { apart = λ e. absurd (omega (arith, e)); first = omega (arith, few); second = omega (arith, few) }
 
-can_be_fresh : (disk : Disk) → IsValidGeometry disk.block_size disk.page (block_count disk) → pair.CanMakeFresh disk anchor_address (superblock_slot_changes (superblock_bytes disk.profile disk.block_size (block_count disk)))
+can_be_fresh : (disk : Disk) → IsValidGeometry disk.block_size disk.page (block_count disk) → pair.CanMakeFresh disk superblock_pair_address (superblock_slot_changes (superblock_bytes disk.profile disk.block_size (block_count disk)))
 can_be_fresh disk g = record {
   address = address disk g.no_fewer;
   new = superblock_content disk;
@@ -105,18 +105,18 @@ can_be_fresh disk g = record {
 }
 
 -- the first block holds, since no log is in the second
-holder_first : (a b : List ℕ) → has_commit a ≡ true → has_commit b ≡ false → current_of_two a b ≡ Some a
+holder_first : (a b : List ℕ) → has_commit a ≡ true → has_commit b ≡ false → later_committed_block a b ≡ Some a
 holder_first a b first second =
     ap₂ (λ p q. cond (not p) (cond q (Some b) None) (cond (q && is_later (block_revision a) (block_revision b)) (Some b) (Some a))) first second
 
 module _ (disk : Disk) (before history : List CallEvent) (h : PairHeader) (g : IsValidGeometry disk.block_size disk.page (block_count disk))
-    (is : pair.IsFreshPair before (superblock_slot_changes (superblock_bytes disk.profile disk.block_size (block_count disk))) disk history anchor_address h) where
+    (is : pair.IsFreshPair before (superblock_slot_changes (superblock_bytes disk.profile disk.block_size (block_count disk))) disk history superblock_pair_address h) where
   new_is : is.new ≡ superblock_content disk
   new_is = same_Some is.new (superblock_content disk) (sym is.made ∙ made disk)
 
-  begins : BeginsWith (current_block disk anchor_address) superblock_entry
+  begins : HasFirstLogEntry (current_block disk superblock_pair_address) superblock_entry
   begins =
-      subst (λ o. BeginsWith o superblock_entry) (sym (holder_first (disk_block disk 0) (disk_block disk 1) is.fresh.anew.has_commit is.fresh.cleared))
+      subst (λ o. HasFirstLogEntry o superblock_entry) (sym (holder_first (disk_block disk 0) (disk_block disk 1) is.fresh.anew.has_commit is.fresh.cleared))
       (ap (λ commits. slice_get (flat_map (λ c. c) commits) 0) is.fresh.anew.commits
       ∙ ap (λ c. slice_get (flat_map (λ c. c) ((content_entries c ++ is.fresh.anew.checksum ∷ []) ∷ [])) 0) new_is)
 
@@ -128,12 +128,12 @@ module _ (disk : Disk) (before history : List CallEvent) (h : PairHeader) (g : I
       is_pair = is.holds.is_pair;
       raw = ap (raw_content disk) is.holds.same ∙ is.holds.content;
       content = fresh_content disk.profile disk.block_size (block_count disk);
-      complete = ap complete_content new_is ∙ completes disk;
+      complete = ap decoded_content new_is ∙ completes disk;
     };
     at = is.holds.same;
     fresh = record {
       geometry = g;
-      content = ap (option_and_then complete_content) is.holds.content ∙ ap complete_content new_is ∙ completes disk;
+      content = ap (option_and_then decoded_content) is.holds.content ∙ ap decoded_content new_is ∙ completes disk;
       first = begins;
     };
     first = subst (λ c. HasOneCommit 1 c (disk_block disk 0)) new_is is.fresh.anew;
@@ -151,23 +151,23 @@ geometry_is : (k : Geometry) (blocks : Blocks) → length blocks ≡ k.block_cou
 geometry_is k blocks count = subst (IsValidGeometry k.block_size k.page) (sym count) k.valid
 
 pub can_root : (k asked : Geometry) (blocks : Blocks) (changes : List ContentChange) (bytes fields : List ℕ) → length blocks ≡ k.block_count → asked ≡ k → changes ≡ superblock_slot_changes bytes → bytes ≡ fields
-    → fields ≡ superblock_bytes asked.profile asked.block_size asked.block_count → pair.CanMakeFresh (disk_of_blocks k blocks) anchor_address changes
+    → fields ≡ superblock_bytes asked.profile asked.block_size asked.block_count → pair.CanMakeFresh (disk_of_blocks k blocks) superblock_pair_address changes
 can_root k asked blocks changes bytes fields count same e f b =
-    subst (pair.CanMakeFresh (disk_of_blocks k blocks) anchor_address) (sym (changes_are k (length blocks) changes bytes fields count e f (b ∙ ap (λ (j : Geometry). superblock_bytes j.profile j.block_size j.block_count) same)))
+    subst (pair.CanMakeFresh (disk_of_blocks k blocks) superblock_pair_address) (sym (changes_are k (length blocks) changes bytes fields count e f (b ∙ ap (λ (j : Geometry). superblock_bytes j.profile j.block_size j.block_count) same)))
     (can_be_fresh (disk_of_blocks k blocks) (geometry_is k blocks count))
 
 pub device_root : (k asked : Geometry) (blocks : Blocks) (before history : List CallEvent) (h : PairHeader) (changes : List ContentChange) (bytes fields : List ℕ) → length blocks ≡ k.block_count → asked ≡ k → changes ≡ superblock_slot_changes bytes → bytes ≡ fields
-    → fields ≡ superblock_bytes asked.profile asked.block_size asked.block_count → pair.IsFreshPair before changes (disk_of_blocks k blocks) history anchor_address h → IsRootHeader (disk_of_blocks k blocks) history h
+    → fields ≡ superblock_bytes asked.profile asked.block_size asked.block_count → pair.IsFreshPair before changes (disk_of_blocks k blocks) history superblock_pair_address h → IsRootHeader (disk_of_blocks k blocks) history h
 device_root k asked blocks before history h changes bytes fields count same e f b is =
     is_root (disk_of_blocks k blocks) before history h (geometry_is k blocks count)
-    (subst (λ z. pair.IsFreshPair before z (disk_of_blocks k blocks) history anchor_address h) (changes_are k (length blocks) changes bytes fields count e f (b ∙ ap (λ (j : Geometry). superblock_bytes j.profile j.block_size j.block_count) same)) is)
+    (subst (λ z. pair.IsFreshPair before z (disk_of_blocks k blocks) history superblock_pair_address h) (changes_are k (length blocks) changes bytes fields count e f (b ∙ ap (λ (j : Geometry). superblock_bytes j.profile j.block_size j.block_count) same)) is)
 
 -- ---- what is kept
 
 pairs_are : (disk : Disk) (history : List CallEvent) (h : PairHeader) → IsRootHeader disk history h → header_pairs disk (h ∷ []) ≡ fresh_pair disk ∷ []
 pairs_are disk history h root =
     ap (λ at. disk_pair_at disk at ∷ []) root.at
-    ∙ ap (λ o. record { at = anchor_address; content = unwrap_or o (record { slots = []; tail = None; move = zero_gstate }) } ∷ []) root.fresh.content
+    ∙ ap (λ o. record { at = superblock_pair_address; content = unwrap_or o (record { slots = []; tail = None; move = zero_gstate }) } ∷ []) root.fresh.content
 
 kept : (disk : Disk) (history : List CallEvent) (h : PairHeader) (sets : BlockStates) → IsRootHeader disk history h → IsFormattedMap (block_count disk) sets → WasKeptOnDisk disk history (h ∷ []) sets
 unfolding IsDistinct
@@ -175,7 +175,7 @@ kept disk history h sets root map = record {
   before = history;
   since = began;
   each = (root.header, tt);
-  links = subst (λ ps. AreLinked (Some anchor_address) ps) (sym (pairs_are disk history h root)) (refl, refl);
+  links = subst (λ ps. AreLinkedByTails (Some superblock_pair_address) ps) (sym (pairs_are disk history h root)) (refl, refl);
   distinct = subst (λ ps. IsDistinct nat_eq (pairs_blocks ps)) (sym (pairs_are disk history h root)) ((refl, tt), (tt, tt));
   size = map.size;
   used = subst (λ ps. AllBlocksUsed sets (pairs_blocks ps)) (sym (pairs_are disk history h root))
@@ -186,7 +186,7 @@ pub empty_kept : (disk : Disk) (history : List CallEvent) (hs : List PairHeader)
 empty_kept disk history hs sets n count thread map =
     subst (λ z. WasKeptOnDisk disk history z sets) (sym thread.only) (kept disk history thread.first sets thread.root (subst (λ k. IsFormattedMap k sets) (sym count) map))
 
-pub empty_formatted : (order : NameOrder) (disk : Disk) (history : List CallEvent) (hs : List PairHeader) (sets : BlockStates) (n : ℕ) → block_count disk ≡ n → IsRootThread disk history hs → IsFormattedMap n sets → IsFormatted (kept_view (ordered_disk order disk) history hs sets)
+pub empty_formatted : (order : NameOrder) (disk : Disk) (history : List CallEvent) (hs : List PairHeader) (sets : BlockStates) (n : ℕ) → block_count disk ≡ n → IsRootThread disk history hs → IsFormattedMap n sets → IsFreshlyFormatted (kept_view (disk_with_order order disk) history hs sets)
 empty_formatted order disk history hs sets n count thread map = record {
   fresh = record { geometry = thread.root.fresh.geometry; content = thread.root.fresh.content; first = thread.root.fresh.first };
   first = thread.root.first;
@@ -197,11 +197,11 @@ empty_formatted order disk history hs sets n count thread map = record {
   size = map.size ∙ sym count;
 }
 
-pub shows_empty : (t : KeptThread) → IsFormatted t → IsEmptyWritable t
+pub shows_empty : (t : KeptThread) → IsFreshlyFormatted t → IsEmptyWritable t
 shows_empty t h = record {
   accepted = subst (IsAccepted t.disk) (sym h.pairs) (accepted t.disk h.fresh);
   writable = subst (IsWritable t.disk) (sym h.pairs) (writable t.disk h.fresh);
-  view = ap (disk_view t.disk) h.pairs ∙ ap (λ tree. record { tree = tree; gstate = zero_gstate; used = address_blocks anchor_address }) (shows t.disk);
+  view = ap (disk_view t.disk) h.pairs ∙ ap (λ tree. record { tree = tree; gstate = zero_gstate; used = address_blocks superblock_pair_address }) (shows t.disk);
 }
 
 -- what was written of the device, in the words of the thread

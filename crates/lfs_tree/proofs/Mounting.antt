@@ -4,7 +4,7 @@ use Rattle.std.specs.List.{IsDistinct}
 use Rattle.std.specs.Prelude.{◌↔◌, IsTrue}
 use Rattle.lfs_device.specs.declared.device.BlockDevice.{Ghosts}
 use Rattle.lfs_device.specs.declared.error.Error.{Error}
-use Rattle.lfs_tree.proofs.Common.{ordered_disk, Disk, block_count, AreInFlight, AreUsed, BlockStates, CallEvent, OnlyReadsSince, fault_count, read_count, Pair, count_before_root, IsAccepted, IsWritable, used_blocks, OnlyReadsSince-trans, KeptThread, ThreadView, disk_of_device, OnlyReadsThread, IsFormatted, IsEmptyWritable, SoundWithRoot, uncached_state, thread_state, ReadsOrReports, IsMountedTree, IsSoundState, HasRead}
+use Rattle.lfs_tree.proofs.Common.{disk_with_order, Disk, block_count, AreInFlight, AreUsed, BlockStates, CallEvent, OnlyReadsSince, fault_count, read_count, Pair, count_before_root, IsAccepted, IsWritable, used_blocks, OnlyReadsSince-trans, KeptThread, ThreadView, disk_of_device, OnlyReadsThread, IsFreshlyFormatted, IsEmptyWritable, IsSoundWithRoot, uncached_state, thread_state, ReadsOrReports, IsMountedTree, IsSoundState, HasRead}
 use Rattle.lfs_device.specs.declared.error.Error.TheVariants.{Io}
 use Rattle.lfs_model.specs.tree.View.{DiskView}
 use Rattle.lfs_model.proofs.BlockSets.{in_flight_count-AreInFlight}
@@ -12,7 +12,7 @@ use Rattle.lfs_model.proofs.Histories.{read_count-since}
 use Rattle.lfs_model.proofs.KeptProfiles.{writable_breaks_none}
 use Rattle.lfs_model.specs.layers.ProfileBreaches.{IsBreachIfAny}
 use Rattle.lfs_model.specs.declared.breaches.ProfileBreach.{ProfileBreach}
-use Rattle.lfs_mount.specs.Accepted.{IsMountedOn}
+use Rattle.lfs_mount.specs.Accepted.{IsMountedUnwritten}
 use Rattle.lfs_model.specs.declared.order.NameOrder.{NameOrder}
 use Rattle.lfs_model.specs.declared.order.NameOrder.TheVariants.{LongerFirst}
 use Rattle.lfs_thread.specs.ThreadDevice.{GivesDeviceBack}
@@ -40,7 +40,7 @@ none_twice : IsDistinct nat_eq []
 unfolding IsDistinct
 none_twice = tt
 
-module _ (disk : Disk) (history : List CallEvent) (a b : ThreadView) (root : ℕ) (writable : Bool) (m : IsMountedOn disk history a) (r : HasRead a b)
+module _ (disk : Disk) (history : List CallEvent) (a b : ThreadView) (root : ℕ) (writable : Bool) (m : IsMountedUnwritten disk history a) (r : HasRead a b)
     (is : root ≡ count_before_root a.kept.pairs) (fits : IsTrue writable ↔ IsWritable a.kept.disk a.kept.pairs) where
   sound_now : IsSoundState (uncached_state b.kept writable false)
   sound_now = sound_read a.kept b.kept writable false false r.only (record {
@@ -51,7 +51,7 @@ module _ (disk : Disk) (history : List CallEvent) (a b : ThreadView) (root : ℕ
     size = m.size ∙ ap (λ (d : Disk). block_count d) (sym m.disk_is);
   })
 
-  pub mounted_rooted : SoundWithRoot b root writable
+  pub mounted_rooted : IsSoundWithRoot b root writable
   mounted_rooted = record { works = r.works; sound = sound_now; root_is = is ∙ ap count_before_root (sym r.only.pairs) }
 
   pub mounted_tree : read_count history < read_count a.kept.history → IsMountedTree disk history (thread_state b writable)
@@ -67,17 +67,17 @@ module _ (disk : Disk) (history : List CallEvent) (a b : ThreadView) (root : ℕ
 
 -- the device is returned with the error of a read
 pub read_back : {D X : Type 0} (g : Ghosts D) (old back : D) (order now : NameOrder) (a b : ThreadView) (r : Result X Error) (e : Error)
-    → IsMountedOn (ordered_disk order (disk_of_device g old)) (g.history old) a → r ≡ Err e → ReadsOrReports a b r → ordered_disk now (disk_of_device g back) ≡ b.kept.disk → g.history back ≡ b.kept.history
+    → IsMountedUnwritten (disk_with_order order (disk_of_device g old)) (g.history old) a → r ≡ Err e → ReadsOrReports a b r → disk_with_order now (disk_of_device g back) ≡ b.kept.disk → g.history back ≡ b.kept.history
     → GivesDeviceBack g old back e
 read_back {X = X} g old back order now a b r e m is read same later = record {
-  disk = ap (ordered_disk LongerFirst) (same ∙ read.only.disk ∙ m.disk_is);
+  disk = ap (disk_with_order LongerFirst) (same ∙ read.only.disk ∙ m.disk_is);
   reads = subst (λ (h : List CallEvent). OnlyReadsSince (g.blocks old) (g.history old) h) (sym later) (OnlyReadsSince-trans m.reads read.only.reads (ap (λ (d : Disk). d.blocks) m.disk_is));
   fault = λ io. (let k = read.reported.fault (is ∙ ap Err io) in let n = m.no_fault in let l = ap fault_count later in omega (arith, k, n, l));
   no_fault = λ other. ap fault_count later ∙ read.reported.no_fault (λ z. other (same_error e Io (sym is ∙ z))) ∙ m.no_fault;
 }
 
 -- a fresh image as a tree
-module _ (t : ThreadView) (works : t.failed ≡ false) (f : IsFormatted t.kept) (s : IsEmptyWritable t.kept) where
+module _ (t : ThreadView) (works : t.failed ≡ false) (f : IsFreshlyFormatted t.kept) (s : IsEmptyWritable t.kept) where
   pub fresh_sound : IsSoundState (uncached_state t.kept true false)
   fresh_sound = record {
     accepted = s.accepted;
@@ -87,5 +87,5 @@ module _ (t : ThreadView) (works : t.failed ≡ false) (f : IsFormatted t.kept) 
     size = f.size;
   }
 
-  pub fresh_rooted : SoundWithRoot t 0 true
+  pub fresh_rooted : IsSoundWithRoot t 0 true
   fresh_rooted = record { works = works; sound = fresh_sound; root_is = sym (ap count_before_root f.pairs) }

@@ -2,7 +2,7 @@
 use Rattle.std.proofs.Common.{ℕ, ◌≡◌, ◌≤◌, ◌∙◌, inl, inr, true, false, List, [], ◌∷◌, length, take, drop, Option, Some, Result, Ok, Err, refl, sym, ap, subst, arith}
 use Rattle.std.proofs.Math.Seq.{take-length}
 use Rattle.std.specs.Prelude.{All, Contains, IfOk}
-use Rattle.lfs_tree.proofs.Common.{flat_map, All-from_recursion, same_Some, file_bytes, is_file, Blocks, AreUsed, BlockStates, IsFree, IsInFlight, IsUsedBlock, in_flight_count, Free, Used, inline_limit, CallEvent, IsSkipList, list_bytes, slot_of, Slot, Struct, Inline, Ctz, pairs_blocks, Path, InlineBytesFit, IsAccepted, IsFormedList, all_unmoved_slots, struct_blocks, disk_tree, used_blocks, few_flying, Contains-number_occurrences, Each, count_append, each_from_counted, each_pieces, contents_list_blocks, HasGeometry, KeptThread, IsOpenedForm, AreThreadContents, slot_blocks, writer_contents_bytes, list_blocks_at, CanOpenSlot, AreOpenedContents, opened_form, SizedLists, HaveBytesInForm, NoneInFlight, contents_form, ContentsForm, IsFinishedList, ThreadView, OnlyReadsThread, LeadsToResult, only_read}
+use Rattle.lfs_tree.proofs.Common.{flat_map, All-from_recursion, same_Some, file_bytes, is_file, Blocks, AreUsed, BlockStates, IsFree, IsInFlight, IsUsedBlock, in_flight_count, Free, Used, inline_limit, CallEvent, IsSkipList, list_bytes, slot_of_path, Slot, Struct, Inline, Ctz, pairs_blocks, Path, InlineBytesFit, IsAccepted, IsWellFormedList, all_unmoved_slots, struct_blocks, disk_tree, used_blocks, few_flying, Contains-occurrence_count, Each, count_append, each_from_counted, each_pieces, contents_list_blocks, HasGeometry, KeptThread, IsOpenedForm, AreThreadContents, slot_blocks, writer_contents_bytes, list_blocks_at, CanOpenFileSlot, AreOpenedContents, opened_form, SizedLists, HaveBytesInForm, NoneInFlight, contents_form, ContentsForm, IsFinishedList, ThreadView, OnlyReadsThread, IsResultOfPath, only_read}
 use Rattle.lfs_device.specs.declared.error.Error.{Error}
 use Rattle.lfs_device.specs.declared.geometry.Geometry.{Geometry}
 use Rattle.lfs_model.proofs.BlockCounts.{in_flight-freed}
@@ -21,7 +21,7 @@ use Rattle.lfs_file.specs.declared.stored_list.StoredList.{StoredList}
 use Rattle.lfs_lookup.specs.declared.paths.PathLookup.{PathLookup}
 use Rattle.lfs_lookup.specs.declared.paths.PathLookup.TheVariants as found
 use Rattle.lfs_lookup.specs.declared.paths.VisiblePathLookup.TheVariants as shown
-use Rattle.lfs_tree.specs.RenameFindings.{lookup_without_parent}
+use Rattle.lfs_tree.specs.RenameLookup.{lookup_without_parent}
 use Rattle.lfs_tree.specs.Stores.{is_file_found}
 use Rattle.lfs_tree.specs.Working.{CanOpenFile}
 use Rattle.lfs_tree.proofs.PutContents.{file_found}
@@ -65,11 +65,11 @@ all_taken xs bytes len l e = e ∙ ap (take len) (no_drop bytes) ∙ ap (λ n. t
 
 -- ---- a list
 
-pub opened_list : (t : KeptThread) (geometry : Geometry) (head size : ℕ) (slot : SlotPosition) (held : Slot) → HasGeometry geometry t.disk → CanOpenSlot t slot (entry.List head size) held
+pub opened_list : (t : KeptThread) (geometry : Geometry) (head size : ℕ) (slot : SlotPosition) (held : Slot) → HasGeometry geometry t.disk → CanOpenFileSlot t slot (entry.List head size) held
     → AreOpenedContents t held.struct (form.Finished size false) (Finished (record { head = head; size = size; in_flight = false }))
 opened_list t geometry head size slot held divided can =
     let is : held.struct ≡ Ctz head size = can.file.shows in
-    let list : IsSkipList t.disk.blocks t.disk.block_size head size = subst (IsFormedList t.disk) is can.file.list in
+    let list : IsSkipList t.disk.blocks t.disk.block_size head size = subst (IsWellFormedList t.disk) is can.file.list in
     let s : StoredList = record { head = head; size = size; in_flight = false } in
     let stands : IsFinishedList t.map t.disk.blocks t.disk.block_size (record { head = head; size = size; in_flight = false }) = record {
       base = inr list;
@@ -96,14 +96,14 @@ pub not_free : (sets : BlockStates) (b : ℕ) → IsUsedBlock sets b → ¬ (IsF
 not_free sets b used free = absurd (let k : Used ≡ Free = same_Some Used Free (sym used ∙ free) in cc)
 
 -- no block of its list is free
-pub marked_there : (t : KeptThread) (path : Path) (held : Slot) → IsAccepted t.disk t.pairs → AreUsed t.map (used_blocks t.disk t.pairs) → slot_of t.pairs path ≡ Some held
+pub marked_there : (t : KeptThread) (path : Path) (held : Slot) → IsAccepted t.disk t.pairs → AreUsed t.map (used_blocks t.disk t.pairs) → slot_of_path t.pairs path ≡ Some held
     → All (λ b. IsUsedBlock t.map b) (struct_blocks t.disk held.struct)
 marked_there t path held ok used at =
     All-from_recursion (λ b. IsUsedBlock t.map b) (struct_blocks t.disk held.struct)
     (slot_has (λ (s : Slot). Each (λ b. IsUsedBlock t.map b) (struct_blocks t.disk s.struct)) t.disk t.pairs ok
     (each_pieces (λ b. IsUsedBlock t.map b) (λ (s : Slot). struct_blocks t.disk s.struct) (all_unmoved_slots t.pairs)
     (each_from_counted (λ b. IsUsedBlock t.map b) (flat_map (λ (s : Slot). struct_blocks t.disk s.struct) (all_unmoved_slots t.pairs))
-    (λ b some. (used b).1 (Contains-number_occurrences (used_blocks t.disk t.pairs) b
+    (λ b some. (used b).1 (Contains-occurrence_count (used_blocks t.disk t.pairs) b
     (let e = count_append b (pairs_blocks t.pairs) (flat_map (λ (s : Slot). struct_blocks t.disk s.struct) (all_unmoved_slots t.pairs)) in omega arith)))))
     tt path held at)
 
@@ -118,7 +118,7 @@ form_opened t path slot (entry.Inline len) f few sized shape e =
     inl (e ∙ ap (λ n. form.InMemory n) l, omega arith)
 form_opened t path slot (entry.List head size) f few sized shape e =
     let k = f.file.shows in
-    let l : size ≡ length (file_bytes (disk_tree t.disk t.pairs path)) = sym (sized head size (subst (IsFormedList t.disk) k f.file.list)) ∙ sym (ap (λ z. length (struct_file_bytes t.disk z)) k) ∙ ap length f.bytes in
+    let l : size ≡ length (file_bytes (disk_tree t.disk t.pairs path)) = sym (sized head size (subst (IsWellFormedList t.disk) k f.file.list)) ∙ sym (ap (λ z. length (struct_file_bytes t.disk z)) k) ∙ ap length f.bytes in
     inr (e ∙ ap (λ n. form.Finished n false) l)
 
 form_of_opened : (t : KeptThread) (s : Struct) (shape : ContentsForm) (r : Result WriterContents Error) (P : ContentsForm → Type 0) → ((f : ContentsForm) → f ≡ shape → P f) → IfOk r (AreOpenedContents t s shape) → IfOk r (λ c. P (contents_form c))
@@ -126,7 +126,7 @@ form_of_opened t s shape (Err x) P of o = tt
 form_of_opened t s shape (Ok c) P of o = of (contents_form c) o.holds.has.form
 
 -- if no file is found, the path has none
-pub not_led : (t : KeptThread) (path : Path) (f : PathLookup) → is_file (disk_tree t.disk t.pairs path) ≡ true → LeadsToResult t path f → ((parent : ℕ) (slot : SlotPosition) (contents : FileStorage) → f ≡ found.File parent slot contents → ⊥) → ⊥
+pub not_led : (t : KeptThread) (path : Path) (f : PathLookup) → is_file (disk_tree t.disk t.pairs path) ≡ true → IsResultOfPath t path f → ((parent : ℕ) (slot : SlotPosition) (contents : FileStorage) → f ≡ found.File parent slot contents → ⊥) → ⊥
 not_led t path f file leads none = go f (file_found t path f file leads) none
   where
     go : (f : PathLookup) → is_file_found f ≡ true → ((parent : ℕ) (slot : SlotPosition) (contents : FileStorage) → f ≡ found.File parent slot contents → ⊥) → ⊥
@@ -134,13 +134,13 @@ not_led t path f file leads none = go f (file_found t path f file leads) none
     go _ e none = absurd (cc)
 
 -- the file that is found
-module _ (t : ThreadView) (root : ℕ) (path : Path) (can : CanOpenFile t root path) (f : PathLookup) (leads : LeadsToResult t.kept path f) (parent : ℕ) (slot : SlotPosition) (contents : FileStorage) (is : f ≡ found.File parent slot contents) where
+module _ (t : ThreadView) (root : ℕ) (path : Path) (can : CanOpenFile t root path) (f : PathLookup) (leads : IsResultOfPath t.kept path f) (parent : ℕ) (slot : SlotPosition) (contents : FileStorage) (is : f ≡ found.File parent slot contents) where
   led : IsFileOf t.kept path slot contents
   led =
       let ok = can.rests.held.sound.accepted in
       file_of_path t.kept path (shown.File slot contents) slot contents ok (shows_found t.kept path f (shown.File slot contents) ok can.rests.settled leads (sym (ap lookup_without_parent is))) refl
 
-  can_be_opened : (h : List CallEvent) → CanOpenSlot (with_history t.kept h) slot contents led.held
+  can_be_opened : (h : List CallEvent) → CanOpenFileSlot (with_history t.kept h) slot contents led.held
   can_be_opened h =
       let sound = can.rests.held.sound in
       let idle = idle_is t.kept can.idle sound.size in
@@ -153,13 +153,13 @@ module _ (t : ThreadView) (root : ℕ) (path : Path) (can : CanOpenFile t root p
   -- ---- after calls that only read
 
   module _ (mid : KeptThread) (read : OnlyReadsThread t.kept mid) where
-    can_open : CanOpenSlot mid slot contents led.held
-    can_open = subst (λ (k : KeptThread). CanOpenSlot k slot contents led.held) (sym (read_is t.kept mid read)) (can_be_opened mid.history)
+    can_open : CanOpenFileSlot mid slot contents led.held
+    can_open = subst (λ (k : KeptThread). CanOpenFileSlot k slot contents led.held) (sym (read_is t.kept mid read)) (can_be_opened mid.history)
 
-    pub can_open_led : (held : Slot) × CanOpenSlot mid slot contents held
+    pub can_open_led : (held : Slot) × CanOpenFileSlot mid slot contents held
     can_open_led = (led.held, can_open)
 
-    module _ (new : KeptThread) (later : OnlyReadsThread mid new) (r : Result WriterContents Error) (opened : (held : Slot) → CanOpenSlot mid slot contents held → IfOk r (AreOpenedContents new held.struct (opened_form contents))) where
+    module _ (new : KeptThread) (later : OnlyReadsThread mid new) (r : Result WriterContents Error) (opened : (held : Slot) → CanOpenFileSlot mid slot contents held → IfOk r (AreOpenedContents new held.struct (opened_form contents))) where
       behind : new ≡ with_history t.kept new.history
       behind = read_is t.kept new (only_read t.kept mid new read later)
 

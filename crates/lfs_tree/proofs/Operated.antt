@@ -3,7 +3,7 @@ use Rattle.std.proofs.Common.{ℕ, ◌≡◌, ◌∙◌, false, true, List, [], 
 use Rattle.std.specs.Prelude.{IfErr, OnOk, is_err, is_some}
 use Rattle.lfs_device.specs.declared.error.Error.{Error}
 use Rattle.lfs_device.specs.declared.error.Error.TheVariants.{Io}
-use Rattle.lfs_tree.proofs.Common.{attributes_with, attributes_without, CallEvent, OnlyReadsSince, fault_count, FlagsOfOpen, Operation, path_or_root, is_recover, renames_itself, disk_tree, DirectoryNode, Path, Tree, tree_creating, tree_removing, tree_renaming, same_path, has_failed_after, KeepsRootNumber, KeptThread, ThreadView, ChangesThreadBlocks, IsOperationCall, tree_after_call, AppliesInPlace, HasFurtherCalls, CanChangeRecovered, ChangesTreeOrFails, HasSoundImage, SurvivesEither, HasThreadCause, tree_with_attributes, uncached_state, tree_summary, ReadsOrReports}
+use Rattle.lfs_tree.proofs.Common.{attributes_with, attributes_without, CallEvent, OnlyReadsSince, fault_count, FlagsOfOpen, Operation, path_or_root, is_recover, renames_itself, disk_tree, DirectoryNode, Path, Tree, tree_creating, tree_removing, tree_renaming, same_path, has_failed_after, KeepsRootPairIndex, KeptThread, ThreadView, ChangesThreadBlocks, IsOperationCall, tree_after_call, AppliesBeforeRelocation, IsLaterOnSameDevice, CanChangeRecovered, ChangesTreeOrFails, HasSoundImage, PowerLossLeavesEither, HasThreadCause, tree_with_attributes, uncached_state, tree_summary, ReadsOrReports}
 use Rattle.lfs_model.specs.session.Operations as ops
 use Rattle.lfs_tree.specs.TreeCalls as call
 use Rattle.lfs_tree.proofs.SameErrors.{same_error}
@@ -56,25 +56,25 @@ plain_clear path kind = does_clear IsPlain path kind (λ given e. (refl, refl))
 -- ---- what one of them leaves
 
 module _ (a c : KeptThread) where
-  stands : (tree : Tree) (op : Operation) → AppliesInPlace a op c → KeepsRootNumber a c → disk_tree c.disk c.pairs ≡ tree → HasSoundImage a tree c
+  stands : (tree : Tree) (op : Operation) → AppliesBeforeRelocation a op c → KeepsRootPairIndex a c → disk_tree c.disk c.pairs ≡ tree → HasSoundImage a tree c
   stands tree op k root shows = record { sound = k.applied.sound; fits = k.applied.fits; recovered = k.applied.recovered; root = root; shows = shows; no_fault = k.applied.no_fault }
 
-  pub mkdir_stands : (path : Path) (given : List ℕ) → path_or_root given ≡ path → AppliesInPlace a (ops.Mkdir given) c → KeepsRootNumber a c → HasSoundImage a (tree_after_call (call.Mkdir path) (disk_tree a.disk a.pairs)) c
+  pub mkdir_stands : (path : Path) (given : List ℕ) → path_or_root given ≡ path → AppliesBeforeRelocation a (ops.Mkdir given) c → KeepsRootPairIndex a c → HasSoundImage a (tree_after_call (call.Mkdir path) (disk_tree a.disk a.pairs)) c
   mkdir_stands path given e k root = stands _ (ops.Mkdir given) k root (k.applied.shows (tree_summary (uncached_state a true false)) [] ∙ ap (λ p. tree_creating p (DirectoryNode [] []) (disk_tree a.disk a.pairs)) e)
 
-  pub create_stands : (path : Path) (given : List ℕ) (flags : FlagsOfOpen) → is_some (disk_tree a.disk a.pairs path) ≡ false → path_or_root given ≡ path → AppliesInPlace a (ops.Open given flags) c → KeepsRootNumber a c → HasSoundImage a (tree_after_call (call.Create path) (disk_tree a.disk a.pairs)) c
+  pub create_stands : (path : Path) (given : List ℕ) (flags : FlagsOfOpen) → is_some (disk_tree a.disk a.pairs path) ≡ false → path_or_root given ≡ path → AppliesBeforeRelocation a (ops.Open given flags) c → KeepsRootPairIndex a c → HasSoundImage a (tree_after_call (call.Create path) (disk_tree a.disk a.pairs)) c
   create_stands path given flags nothing e k root = stands _ (ops.Open given flags) k root (k.applied.shows (tree_summary (uncached_state a true false)) [] ∙ created_shows (disk_tree a.disk a.pairs) path (path_or_root given) e nothing)
 
-  pub remove_stands : (path : Path) (given : List ℕ) → path_or_root given ≡ path → AppliesInPlace a (ops.Remove given) c → KeepsRootNumber a c → HasSoundImage a (tree_after_call (call.Remove path) (disk_tree a.disk a.pairs)) c
+  pub remove_stands : (path : Path) (given : List ℕ) → path_or_root given ≡ path → AppliesBeforeRelocation a (ops.Remove given) c → KeepsRootPairIndex a c → HasSoundImage a (tree_after_call (call.Remove path) (disk_tree a.disk a.pairs)) c
   remove_stands path given e k root = stands _ (ops.Remove given) k root (k.applied.shows (tree_summary (uncached_state a true false)) [] ∙ ap (λ p. tree_removing p (disk_tree a.disk a.pairs)) e)
 
-  pub rename_stands : (from to : Path) (given to_given : List ℕ) → path_or_root given ≡ from → path_or_root to_given ≡ to → AppliesInPlace a (ops.Rename given to_given) c → KeepsRootNumber a c → HasSoundImage a (tree_after_call (call.Rename from to) (disk_tree a.disk a.pairs)) c
+  pub rename_stands : (from to : Path) (given to_given : List ℕ) → path_or_root given ≡ from → path_or_root to_given ≡ to → AppliesBeforeRelocation a (ops.Rename given to_given) c → KeepsRootPairIndex a c → HasSoundImage a (tree_after_call (call.Rename from to) (disk_tree a.disk a.pairs)) c
   rename_stands from to given to_given e f k root = stands _ (ops.Rename given to_given) k root (k.applied.shows (tree_summary (uncached_state a true false)) [] ∙ ap₂ (λ p q. tree_renaming p q (disk_tree a.disk a.pairs)) e f)
 
-  pub set_stands : (path : Path) (kind : ℕ) (bytes given : List ℕ) → path_or_root given ≡ path → AppliesInPlace a (ops.SetAttr given kind bytes) c → KeepsRootNumber a c → HasSoundImage a (tree_after_call (call.SetAttr path kind bytes) (disk_tree a.disk a.pairs)) c
+  pub set_stands : (path : Path) (kind : ℕ) (bytes given : List ℕ) → path_or_root given ≡ path → AppliesBeforeRelocation a (ops.SetAttr given kind bytes) c → KeepsRootPairIndex a c → HasSoundImage a (tree_after_call (call.SetAttr path kind bytes) (disk_tree a.disk a.pairs)) c
   set_stands path kind bytes given e k root = stands _ (ops.SetAttr given kind bytes) k root (k.applied.shows (tree_summary (uncached_state a true false)) [] ∙ ap (λ p. tree_with_attributes p (attributes_with kind bytes) (disk_tree a.disk a.pairs)) e)
 
-  pub clear_stands : (path : Path) (kind : ℕ) (given : List ℕ) → path_or_root given ≡ path → AppliesInPlace a (ops.RemoveAttr given kind) c → KeepsRootNumber a c → HasSoundImage a (tree_after_call (call.RemoveAttr path kind) (disk_tree a.disk a.pairs)) c
+  pub clear_stands : (path : Path) (kind : ℕ) (given : List ℕ) → path_or_root given ≡ path → AppliesBeforeRelocation a (ops.RemoveAttr given kind) c → KeepsRootPairIndex a c → HasSoundImage a (tree_after_call (call.RemoveAttr path kind) (disk_tree a.disk a.pairs)) c
   clear_stands path kind given e k root = stands _ (ops.RemoveAttr given kind) k root (k.applied.shows (tree_summary (uncached_state a true false)) [] ∙ ap (λ p. tree_with_attributes p (attributes_without kind) (disk_tree a.disk a.pairs)) e)
 
 -- ---- errors
@@ -97,7 +97,7 @@ errors_reported {X} a c h (Err e) same t = (let r : Result X Error = Err e in re
 
 -- a change after calls that only read
 pub changed : {X : Type 0} (t new : ThreadView) (Done : KeptThread → Type 0) (after : Tree) (h : List CallEvent) (bs : List ℕ) (r : Result X Error) → fault_count h ≡ fault_count t.kept.history → OnlyReadsSince t.kept.disk.blocks t.kept.history h → ChangesThreadBlocks bs (with_history t.kept h) new.kept
-    → ReportsFaultsSince h new.kept.history r → OnOk r (new.failed ≡ false) → OnOk r (Done new.kept × HasSoundImage t.kept after new.kept) → SurvivesEither t.kept new.kept after → ChangesTreeOrFails t Done after r new
+    → ReportsFaultsSince h new.kept.history r → OnOk r (new.failed ≡ false) → OnOk r (Done new.kept × HasSoundImage t.kept after new.kept) → PowerLossLeavesEither t.kept new.kept after → ChangesTreeOrFails t Done after r new
 changed t new Done after h bs r same reads w reported works both survives = record {
   done = first r both;
   works = works;
@@ -131,5 +131,5 @@ only_read_change {X} t root rests mid Done after r e is k =
     }
 
 -- one that failed
-pub failed_change : {X : Type 0} (t new : ThreadView) (Done : KeptThread → Type 0) (after : Tree) (r : Result X Error) (e : Error) → r ≡ Err e → HasFurtherCalls t.kept new.kept → HasThreadCause t.kept new.kept e → SurvivesEither t.kept new.kept after → ChangesTreeOrFails t Done after r new
+pub failed_change : {X : Type 0} (t new : ThreadView) (Done : KeptThread → Type 0) (after : Tree) (r : Result X Error) (e : Error) → r ≡ Err e → IsLaterOnSameDevice t.kept new.kept → HasThreadCause t.kept new.kept e → PowerLossLeavesEither t.kept new.kept after → ChangesTreeOrFails t Done after r new
 failed_change {X} t new Done after r e is called reported survives = subst (λ (z : Result X Error). ChangesTreeOrFails t Done after z new) (sym is) (record { done = tt; works = tt; stands = tt; called = called; errors = reported; survives = survives })

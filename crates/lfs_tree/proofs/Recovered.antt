@@ -1,7 +1,7 @@
 -- A recovery over a thread, step by step.
 use Rattle.std.proofs.Common.{ℕ, zero, suc, ◌≡◌, ◌≢◌, ◌+◌, ◌≤◌, ◌<◌, ◌⊎◌, ◌∙◌, ◌==◌, inl, inr, Bool, true, false, not, eqb-true, List, [], ◌∷◌, ◌++◌, length, take, get_or, Option, None, Result, Err, refl, sym, ap, ap₂, subst, subst₂, arith, append_assoc, flat_map, length-append}
 use Rattle.std.specs.Prelude.{All, IfErr}
-use Rattle.lfs_tree.proofs.Common.{All-from_recursion, same_Some, ChangesOnlyMap, ThreadReportsFaults, AreUsed, IsInFlight, IsUsedBlock, InFlight, Used, Disk, AllCalls, AllCallsSince, CallEvent, OnlyReadsSince, fault_count, struct_at, continued_address, IsLayoutRecovered, HasEitherTree, SurvivesLossSince, with_blocks, OpenFilesByNumber, Session, Gstate, zero_gstate, is_zero, Pair, pairs_blocks, pairs_from_root, pairs_gstate, count_before_root, Tree, IsAccepted, IsReachedBySome, all_unmoved_slots, struct_blocks, disk_tree, used_blocks, IsWritable, survives_then, arranged_after, arranged_settled, recovered_stays, Contains-number_occurrences, CompletesOperation, no_move_from, recovered_from, number_occurrences, count_append, chain_of_thread, HasNoMove, HoldsAtLosses-read_count, HoldsAtLosses-weaker, LeftByLoss-read, is_unprogrammed_byte-read_count, SameInFlight, IsReadyImage, AreUnreachedNumbers, AreUnreachedFrom, CanDropPairs, HasDroppedRecovered, HasEndedMove, KeptThread, ThreadView, ThreadReportsErrors, OnlyReadsThread, ChangesThreadBlocks, AppliesOperation, HasFurtherCalls, SurvivesEither, HasThreadCause, SoundUnlessFailed, SoundWithRoot, uncached_state, thread_state, HasDroppedUnreached, IsApplied, IsSoundState, KeepsInFlight, TreeState, kept_thread, shown_tree}
+use Rattle.lfs_tree.proofs.Common.{All-from_recursion, same_Some, ChangesOnlyMap, ThreadReportsFaults, AreUsed, IsInFlight, IsUsedBlock, InFlight, Used, Disk, AllCalls, AllCallsSince, CallEvent, OnlyReadsSince, fault_count, struct_at, continued_directory_address, IsLayoutAfterRecovery, HasEitherTree, SurvivesLossSince, with_blocks, OpenFilesByNumber, Session, Gstate, zero_gstate, is_zero, Pair, pairs_blocks, pairs_from_root, pairs_gstate, count_before_root, Tree, IsAccepted, IsReachedDirectory, all_unmoved_slots, struct_blocks, disk_tree, used_blocks, IsWritable, survives_then, arranged_after, arranged_settled, recovered_stays, Contains-occurrence_count, CompletesOperation, no_move_from, recovered_from, occurrence_count, count_append, chain_of_thread, HasNoMove, HoldsAtLosses-read_count, HoldsAtLosses-weaker, LeftByLoss-read, is_unprogrammed_byte-read_count, HasSameBlocksInFlight, IsRecoveredWritableImage, AreUnreachedNumbers, AreUnreachedFrom, CanDropPairs, HasCompletedRecovery, HasEndedMove, KeptThread, ThreadView, ThreadReportsErrors, OnlyReadsThread, ChangesThreadBlocks, AppliesOperation, IsLaterOnSameDevice, PowerLossLeavesEither, HasThreadCause, IsSoundUnlessFailed, IsSoundWithRoot, uncached_state, thread_state, HasDroppedUnreached, IsOperationApplied, IsSoundState, KeepsInFlight, TreeState, kept_thread, visible_tree}
 use Rattle.lfs_device.specs.declared.error.Error.{Error}
 use Rattle.lfs_device.specs.declared.error.Error.TheVariants.{Io, NoMemory}
 use Rattle.lfs_model.specs.session.Operations as ops
@@ -23,9 +23,9 @@ use Rattle.lfs_tree.proofs.KeptFiles.{keeps_same, keeps_then}
 
 numbers_from : (R : ℕ × ℕ → Type 0) (n : ℕ) (from : Option (ℕ × ℕ)) (xs : List Pair) (numbers : List ℕ) → AreUnreachedFrom R n from xs numbers → (j : ℕ) → j < length numbers → get_or numbers j 0 < n + length xs
 numbers_from R n from [] numbers h j low = absurd (let l = ap length h in omega arith)
-numbers_from R n from (x ∷ xs) numbers (inl h) j low = let k = numbers_from R (suc n) (continued_address from x) xs numbers h.1 j low in omega arith
+numbers_from R n from (x ∷ xs) numbers (inl h) j low = let k = numbers_from R (suc n) (continued_directory_address from x) xs numbers h.1 j low in omega arith
 numbers_from R n from (x ∷ xs) numbers (inr h) j low =
-    subst (λ z. get_or z j 0 < n + length (x ∷ xs)) (sym h.1.0) (go j (subst (λ z. j < length z) h.1.0 low) (λ i l. numbers_from R (suc n) (continued_address from x) xs h.0 h.1.1.1 i l))
+    subst (λ z. get_or z j 0 < n + length (x ∷ xs)) (sym h.1.0) (go j (subst (λ z. j < length z) h.1.0 low) (λ i l. numbers_from R (suc n) (continued_directory_address from x) xs h.0 h.1.1.1 i l))
   where
     go : (j : ℕ) → j < length (n ∷ h.0) → ((i : ℕ) → i < length h.0 → get_or h.0 i 0 < suc n + length xs) → get_or (n ∷ h.0) j 0 < n + length (x ∷ xs)
     go zero l next = omega arith
@@ -33,7 +33,7 @@ numbers_from R n from (x ∷ xs) numbers (inr h) j low =
 
 pub numbers_below : (ps : List Pair) (numbers : List ℕ) → AreUnreachedNumbers ps numbers → (j : ℕ) → j < length numbers → get_or numbers j 0 < length ps
 numbers_below ps numbers h j low =
-    let k = numbers_from (IsReachedBySome ps) (count_before_root ps) None (pairs_from_root ps) numbers h j low in
+    let k = numbers_from (IsReachedDirectory ps) (count_before_root ps) None (pairs_from_root ps) numbers h j low in
     let c = chain_of_thread ps in
     let a = ap count_before_root c.0 ∙ c.1 in
     let b = ap length c.0 ∙ length-append (take (count_before_root ps) ps) (pairs_from_root ps) in
@@ -42,17 +42,17 @@ numbers_below ps numbers h j low =
 -- ---- blocks in flight
 
 apart_pairs : (t : KeptThread) → AreUsed t.map (used_blocks t.disk t.pairs) → (b : ℕ) → IsInFlight t.map b → All (λ c. c ≢ b) (pairs_blocks t.pairs)
-apart_pairs t used b flies = All-from_recursion (λ c. c ≢ b) (pairs_blocks t.pairs) (none_there b (pairs_blocks t.pairs) (let none = go (number_occurrences b (pairs_blocks t.pairs)) refl in omega arith))
+apart_pairs t used b flies = All-from_recursion (λ c. c ≢ b) (pairs_blocks t.pairs) (none_there b (pairs_blocks t.pairs) (let none = go (occurrence_count b (pairs_blocks t.pairs)) refl in omega arith))
   where
-    go : (n : ℕ) → number_occurrences b (pairs_blocks t.pairs) ≡ n → n ≡ 0
+    go : (n : ℕ) → occurrence_count b (pairs_blocks t.pairs) ≡ n → n ≡ 0
     go zero e = refl
     go (suc n) e =
         let k = count_append b (pairs_blocks t.pairs) (flat_map (λ s. struct_blocks t.disk s.struct) (all_unmoved_slots t.pairs)) in
-        let here : IsUsedBlock t.map b = (used b).1 (Contains-number_occurrences (used_blocks t.disk t.pairs) b (omega arith)) in
+        let here : IsUsedBlock t.map b = (used b).1 (Contains-occurrence_count (used_blocks t.disk t.pairs) b (omega arith)) in
         let wrong : InFlight ≡ Used = same_Some InFlight Used (sym flies ∙ here) in
         absurd (cc)
 
-leaves_same : (a c : KeptThread) → AreUsed a.map (used_blocks a.disk a.pairs) → SameInFlight a.map c.map → ChangesThreadBlocks (pairs_blocks a.pairs) a c → KeepsInFlight (uncached_state a true false) (uncached_state c true false)
+leaves_same : (a c : KeptThread) → AreUsed a.map (used_blocks a.disk a.pairs) → HasSameBlocksInFlight a.map c.map → ChangesThreadBlocks (pairs_blocks a.pairs) a c → KeepsInFlight (uncached_state a true false) (uncached_state c true false)
 leaves_same a c used same w = record {
   stay = λ b flies. (same b).1 flies;
   none_comes = λ b flies. (same b).0 flies;
@@ -90,7 +90,7 @@ can_drop t m numbers can large r reported = subst (λ z. CanDropPairs z numbers)
 })
 
 -- the lists are freed after the drop
-pub freed : (old mid new : KeptThread) (numbers : List ℕ) → IsAccepted old.disk old.pairs → AreUsed old.map (used_blocks old.disk old.pairs) → HasNoMove (pairs_gstate old.pairs) → HasDroppedRecovered old numbers mid → ChangesThreadBlocks (pairs_blocks old.pairs) old mid → ChangesOnlyMap mid new → IsReadyImage new → SameInFlight mid.map new.map
+pub freed : (old mid new : KeptThread) (numbers : List ℕ) → IsAccepted old.disk old.pairs → AreUsed old.map (used_blocks old.disk old.pairs) → HasNoMove (pairs_gstate old.pairs) → HasCompletedRecovery old numbers mid → ChangesThreadBlocks (pairs_blocks old.pairs) old mid → ChangesOnlyMap mid new → IsRecoveredWritableImage new → HasSameBlocksInFlight mid.map new.map
     → HasDroppedUnreached old new
 freed old mid new numbers accepted used none r w only ready flying = record {
   ready = ready;
@@ -98,7 +98,7 @@ freed old mid new numbers accepted used none r w only ready flying = record {
   shows = ap₂ (λ (disk : Disk) (ps : List Pair). disk_tree disk ps) only.disk only.pairs ∙ r.shows;
   completed = λ s tree. subst₂ (λ (disk : Disk) (ps : List Pair). CompletesOperation old.disk old.pairs s ops.Recover disk ps) (sym only.disk) (sym only.pairs) (r.completed s tree);
   fewer = λ b.
-      let e = ap₂ (λ (disk : Disk) (ps : List Pair). number_occurrences b (used_blocks disk ps)) only.disk only.pairs in
+      let e = ap₂ (λ (disk : Disk) (ps : List Pair). occurrence_count b (used_blocks disk ps)) only.disk only.pairs in
       let u = count_used b mid.disk mid.pairs (no_move_from mid.pairs r.ready.settled) in
       let v = count_used b old.disk old.pairs none in
       let k = r.fewer b in let l = r.lost b in
@@ -134,10 +134,10 @@ some_since events old new e = record { events = events; extends = e; each = all_
 pub reading_survives : (t : KeptThread) (h : List CallEvent) → IsAccepted t.disk t.pairs → IsWritable t.disk t.pairs → OnlyReadsSince t.disk.blocks t.history h → SurvivesLossSince t.disk t.history h (disk_tree t.disk t.pairs) (disk_tree t.disk t.pairs)
 reading_survives t h ok fits reads clean = HoldsAtLosses-read_count LeftByLoss-read reads (record { pairs = t.pairs; accepted = ok; writable = fits; tree = inl refl })
 
-pub read_survives : (t m : KeptThread) → CanDropUnreached t → OnlyReadsThread t m → SurvivesEither t m (disk_tree t.disk t.pairs)
+pub read_survives : (t m : KeptThread) → CanDropUnreached t → OnlyReadsThread t m → PowerLossLeavesEither t m (disk_tree t.disk t.pairs)
 read_survives t m can r = reading_survives t m.history can.accepted can.writable r.reads
 
-pub drop_survives : (t m d : KeptThread) → CanDropUnreached t → OnlyReadsThread t m → ChangesThreadBlocks (pairs_blocks m.pairs) m d → SurvivesLossSince m.disk m.history d.history (disk_tree m.disk m.pairs) (disk_tree m.disk m.pairs) → SurvivesEither t d (disk_tree t.disk t.pairs)
+pub drop_survives : (t m d : KeptThread) → CanDropUnreached t → OnlyReadsThread t m → ChangesThreadBlocks (pairs_blocks m.pairs) m d → SurvivesLossSince m.disk m.history d.history (disk_tree m.disk m.pairs) (disk_tree m.disk m.pairs) → PowerLossLeavesEither t d (disk_tree t.disk t.pairs)
 drop_survives t m d can r w k =
     survives_then t.disk t.history m.history d.history (disk_tree t.disk t.pairs) (disk_tree t.disk t.pairs) r.reads w.at_worst (read_survives t m can r)
     (subst₂ (λ (disk : Disk) (ps : List Pair). SurvivesLossSince disk m.history d.history (disk_tree disk ps) (disk_tree disk ps)) r.disk r.pairs k)
@@ -154,14 +154,14 @@ end_survives a b h w shows calls called first second =
 
 -- ---- calls
 
-pub called_writing : (a b : KeptThread) (bs : List ℕ) → ChangesThreadBlocks bs a b → HasFurtherCalls a b
+pub called_writing : (a b : KeptThread) (bs : List ℕ) → ChangesThreadBlocks bs a b → IsLaterOnSameDevice a b
 called_writing a b bs w = record {
   geometry = record { block_size = w.shape.block_size; page = w.shape.page; order = w.shape.order; profile = w.shape.profile; count = w.shape.count };
   calls = w.at_worst.events;
   called = w.at_worst.extends;
 }
 
-pub called_then : (a b c : KeptThread) → HasFurtherCalls a b → HasFurtherCalls b c → HasFurtherCalls a c
+pub called_then : (a b c : KeptThread) → IsLaterOnSameDevice a b → IsLaterOnSameDevice b c → IsLaterOnSameDevice a c
 called_then a b c f g = record {
   geometry = record {
     block_size = g.geometry.block_size ∙ f.geometry.block_size;
@@ -176,20 +176,20 @@ called_then a b c f g = record {
 
 -- ---- the whole
 
-pub can_end : (t : ThreadView) (root : ℕ) → SoundWithRoot t root true → CanEndMove t.kept
+pub can_end : (t : ThreadView) (root : ℕ) → IsSoundWithRoot t root true → CanEndMove t.kept
 can_end t root r = record { accepted = r.sound.accepted; writable = r.sound.fits refl; used = r.sound.used; size = r.sound.size }
 
 pub can_drop_then : (a b : KeptThread) → HasEndedMove a b → CanDropUnreached b
 can_drop_then a b e = record { accepted = e.taken.follows.accepted; writable = e.taken.writable; used = e.used; size = e.size; none = e.none }
 
-pub recovered_whole : (t : ThreadView) (root : ℕ) (b c : KeptThread) → SoundWithRoot t root true → (pairs_gstate t.kept.pairs ≡ zero_gstate → ⊥) → HasEndedMove t.kept b → ChangesThreadBlocks (pairs_blocks t.kept.pairs) t.kept b → HasDroppedUnreached b c → HasFurtherCalls b c
+pub recovered_whole : (t : ThreadView) (root : ℕ) (b c : KeptThread) → IsSoundWithRoot t root true → (pairs_gstate t.kept.pairs ≡ zero_gstate → ⊥) → HasEndedMove t.kept b → ChangesThreadBlocks (pairs_blocks t.kept.pairs) t.kept b → HasDroppedUnreached b c → IsLaterOnSameDevice b c
     → fault_count c.history ≡ fault_count t.kept.history → AppliesOperation t.kept ops.Recover c
 recovered_whole t root b c rooted left e w d called quiet =
     let a = t.kept in
     let all = called_then a b c (called_writing a b (pairs_blocks a.pairs) w) called in
     let completed : (files : OpenFilesByNumber) → CompletesOperation b.disk b.pairs (record { tree = disk_tree a.disk a.pairs; files = files }) ops.Recover c.disk c.pairs
     = λ files. d.completed (record { tree = disk_tree a.disk a.pairs; files = files }) (sym e.taken.follows.shows) in
-    let stays : (files : OpenFilesByNumber) → IsLayoutRecovered a.disk a.pairs (record { tree = disk_tree a.disk a.pairs; files = files }) ops.Recover c.disk c.pairs
+    let stays : (files : OpenFilesByNumber) → IsLayoutAfterRecovery a.disk a.pairs (record { tree = disk_tree a.disk a.pairs; files = files }) ops.Recover c.disk c.pairs
     = λ files.
     let s : Session = record { tree = disk_tree a.disk a.pairs; files = files } in
     let k = completed files in
@@ -249,7 +249,7 @@ reports_given {Y = Y} a c given e f is same t = subst (λ (r : Result Y Error). 
 
 -- ---- if nothing is left to recover
 
-pub recovered_already : (t : TreeState) → t.failed ≡ false → t.writable ≡ true → IsSoundState t → pairs_gstate t.pairs ≡ zero_gstate → IsApplied t ops.Recover t
+pub recovered_already : (t : TreeState) → t.failed ≡ false → t.writable ≡ true → IsSoundState t → pairs_gstate t.pairs ≡ zero_gstate → IsOperationApplied t ops.Recover t
 recovered_already t works writable sound settled = record {
   works = works;
   sound = sound;
@@ -262,7 +262,7 @@ recovered_already t works writable sound settled = record {
   recovered = recovered_from t.disk t.pairs sound.accepted settled;
   shows = λ around files. refl;
   arranged = λ called files.
-      let s : Session = record { tree = shown_tree t; files = files } in
+      let s : Session = record { tree = visible_tree t; files = files } in
       nothing_moves t.disk t.pairs s ops.Recover [] t.disk t.pairs (record { block_size = refl; page = refl; order = refl; profile = refl; count = refl }) sound.accepted
       (arranged_settled t.disk t.pairs s ops.Recover t.disk t.pairs sound.accepted (sound.fits writable) settled (recovered_stays t.disk t.pairs s sound.accepted (sound.fits writable) settled));
   itself = λ e. absurd (cc);
@@ -273,7 +273,7 @@ recovered_already t works writable sound settled = record {
   taken = omega arith;
 }
 
-pub none_survives : (t : TreeState) (after : Tree) → SurvivesLossSince t.disk t.history t.history (shown_tree t) after
+pub none_survives : (t : TreeState) (after : Tree) → SurvivesLossSince t.disk t.history t.history (visible_tree t) after
 none_survives t after clean = record { events = []; extends = refl; each = tt }
 
 -- a state in which nothing is set
@@ -297,7 +297,7 @@ pub something_set : (g : Gstate) → is_zero g ≡ false → g ≡ zero_gstate �
 something_set g e is = let k = sym e ∙ ap is_zero is in absurd (cc)
 
 -- what works is sound
-pub held_sound : (thread : ThreadView) (root : ℕ) (writable : Bool) (now : TreeState) → SoundUnlessFailed thread root writable → thread_state thread writable ≡ now → now.failed ≡ false → IsSoundState now
+pub held_sound : (thread : ThreadView) (root : ℕ) (writable : Bool) (now : TreeState) → IsSoundUnlessFailed thread root writable → thread_state thread writable ≡ now → now.failed ≡ false → IsSoundState now
 held_sound thread root writable now kept view works =
     let s = (kept (ap (λ (s : TreeState). s.failed) view ∙ works)).sound in
     subst IsSoundState view (record { accepted = s.accepted; fits = s.fits; is_kept = s.is_kept; used = s.used; size = s.size })

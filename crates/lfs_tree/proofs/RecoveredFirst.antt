@@ -1,6 +1,6 @@
 -- An operation after a recovery is one on the image from before it.
 use Rattle.std.proofs.Common.{ℕ, suc, ◌≡◌, ◌+◌, ◌≤◌, ◌⊎◌, ◌∙◌, ◌&&◌, inl, inr, true, false, not, cond, List, [], ◌∷◌, length, Option, Some, None, refl, sym, ap, ap₂, subst, arith}
-use Rattle.lfs_tree.proofs.Common.{sum_by-cons, same_Some, node_attributes_of, is_file, last_name, directory_names, same_path, Blocks, attributes_with, Name, BlockStates, BlockState, IsInFlight, in_flight_count, state_in_flight, Free, InFlight, Used, SameGeometry, charge_limit, profile_name_max, IsUnreachedOrRemoved, IsLayoutRecovered, Operation, HasEitherTree, with_blocks, is_recover, renames_itself, Session, has_long_name, Attributes, entry_charge, zero_gstate, Pair, pairs_gstate, count_before_root, Path, Tree, disk_tree, used_blocks, survives_then, Contains-number_occurrences, number_occurrences-Contains, used_count-AreUsed, number_occurrences, HoldsAtLosses-weaker, HasEndedMove, KeepsRootNumber, KeptThread, ThreadView, CanAddEntry, CanRemoveEntry, CanRemoveAttr, CanRenamePath, CanSetAttr, HasNeededBlocks, AppliesInPlace, AppliesOperation, HasFurtherCalls, SparesOutsideOperation, HasSoundImage, SurvivesEither, HasThreadCause, SoundWithRoot, OpenFilesByNumber, uncached_state, KeepsListBytes, HasDroppedUnreached, HasRecovered, IsSoundState, tree_summary, kept_thread}
+use Rattle.lfs_tree.proofs.Common.{sum_by-cons, same_Some, node_attributes_of, is_file, last_name, directory_names, same_path, Blocks, attributes_with, Name, BlockStates, BlockState, IsInFlight, in_flight_count, state_in_flight, Free, InFlight, Used, SameGeometry, half_pair_capacity, profile_name_max, IsUnreachedOrRemoved, IsLayoutAfterRecovery, Operation, HasEitherTree, with_blocks, is_recover, renames_itself, Session, has_long_name, Attributes, reserved_entry_size, zero_gstate, Pair, pairs_gstate, count_before_root, Path, Tree, disk_tree, used_blocks, survives_then, Contains-occurrence_count, occurrence_count-Contains, used_count-AreUsed, occurrence_count, HoldsAtLosses-weaker, HasEndedMove, KeepsRootPairIndex, KeptThread, ThreadView, CanAddEntry, CanRemoveEntry, CanRemoveAttr, CanRenamePath, CanSetAttr, HasNeededBlocks, AppliesBeforeRelocation, AppliesOperation, IsLaterOnSameDevice, KeepsBlocksOutsideOperation, HasSoundImage, PowerLossLeavesEither, HasThreadCause, IsSoundWithRoot, OpenFilesByNumber, uncached_state, KeepsListBytes, HasDroppedUnreached, HasRecovered, IsSoundState, tree_summary, kept_thread}
 use Rattle.std.specs.Prelude.{is_none, is_some, nat_lt}
 use Rattle.lfs_device.specs.declared.error.Error.{Error}
 use Rattle.lfs_model.specs.session.TreeEdits.{is_directory}
@@ -10,7 +10,7 @@ use Rattle.lfs_model.proofs.Unmoved.{nothing_moves}
 use Rattle.lfs_tree.proofs.RecoveredTwice.{recovers_through}
 use Rattle.lfs_model.specs.declared.limits.Profile.{Profile}
 use Rattle.lfs_model.specs.session.Operations as ops
-use Rattle.lfs_model.specs.session.Session.{exceeds_charge, parents_refusal}
+use Rattle.lfs_model.specs.session.Session.{exceeds_half_pair, parents_refusal}
 use Rattle.lfs_model.proofs.BlockCounts.{few_used}
 use Rattle.lfs_operations.specs.EndingMove.{KeepsRecoveryLayouts}
 use Rattle.lfs_model.proofs.RecoveryLayouts.{AreKin, stand_kin}
@@ -20,10 +20,10 @@ use Rattle.lfs_tree.proofs.Recovered.{called_then, leaves_then, recovered_alread
 -- ---- the recovery
 
 -- no more blocks are used
-fewer_used : (c : KeptThread) (used : List ℕ) → IsSoundState (uncached_state c true false) → ((b : ℕ) → number_occurrences b (used_blocks c.disk c.pairs) ≤ number_occurrences b used) → length (used_blocks c.disk c.pairs) ≤ length used
+fewer_used : (c : KeptThread) (used : List ℕ) → IsSoundState (uncached_state c true false) → ((b : ℕ) → occurrence_count b (used_blocks c.disk c.pairs) ≤ occurrence_count b used) → length (used_blocks c.disk c.pairs) ≤ length used
 fewer_used c used sound fewer =
     let e = used_count-AreUsed c.map (used_blocks c.disk c.pairs) sound.accepted.owned_once sound.used in
-    let f = few_used used c.map (λ b is. Contains-number_occurrences used b (let k = number_occurrences-Contains (used_blocks c.disk c.pairs) b ((sound.used b).0 is) in let l = fewer b in omega arith)) in
+    let f = few_used used c.map (λ b is. Contains-occurrence_count used b (let k = occurrence_count-Contains (used_blocks c.disk c.pairs) b ((sound.used b).0 is) in let l = fewer b in omega arith)) in
     omega arith
 
 pub settled_whole : (a b c : KeptThread) → (pairs_gstate a.pairs ≡ zero_gstate → ⊥) → HasEndedMove a b → HasDroppedUnreached b c → AppliesOperation a ops.Recover c → HasRecovered a c
@@ -37,11 +37,11 @@ settled_whole a b c left e d carries =
       same = λ none. absurd (left none);
     }
 
-pub settled_stands : (a c : KeptThread) → HasRecovered a c → KeepsRootNumber a c → HasSoundImage a (disk_tree a.disk a.pairs) c
+pub settled_stands : (a c : KeptThread) → HasRecovered a c → KeepsRootPairIndex a c → HasSoundImage a (disk_tree a.disk a.pairs) c
 settled_stands a c f root = record { sound = f.carries.sound; fits = f.carries.fits; recovered = f.carries.recovered; root = root; shows = f.carries.shows (tree_summary (uncached_state a true false)) []; no_fault = f.carries.no_fault }
 
 -- nothing was left
-pub settled_already : (t : ThreadView) (root : ℕ) → SoundWithRoot t root true → pairs_gstate t.kept.pairs ≡ zero_gstate → HasRecovered t.kept t.kept
+pub settled_already : (t : ThreadView) (root : ℕ) → IsSoundWithRoot t root true → pairs_gstate t.kept.pairs ≡ zero_gstate → HasRecovered t.kept t.kept
 settled_already t root r e = record {
   carries = recovered_already (uncached_state t.kept true false) refl refl r.sound e;
   leads_on = λ s disk qs h. h;
@@ -55,7 +55,7 @@ kin_itself : (ps : List Pair) → AreKin ps ps
 kin_itself [] = tt
 kin_itself (p ∷ ps) = (record { at = refl; slots = refl; hard = refl }, kin_itself ps)
 
-arranged_through : (a b c : KeptThread) (s : Session) (op : Operation) → SameGeometry a.disk b.disk → KeepsRecoveryLayouts a b → IsLayoutRecovered b.disk b.pairs s op c.disk c.pairs → IsLayoutRecovered a.disk a.pairs s op c.disk c.pairs
+arranged_through : (a b c : KeptThread) (s : Session) (op : Operation) → SameGeometry a.disk b.disk → KeepsRecoveryLayouts a b → IsLayoutAfterRecovery b.disk b.pairs s op c.disk c.pairs → IsLayoutAfterRecovery a.disk a.pairs s op c.disk c.pairs
 arranged_through a b c s op g leads k = record {
   middle = k.middle;
   between = k.between;
@@ -105,7 +105,7 @@ fewer_flying (x ∷ xs) (y ∷ ys) h =
     omega arith
 
 -- the tree from before is one of both
-pub survives_before : (a c : KeptThread) (after : Tree) → SurvivesEither a c (disk_tree a.disk a.pairs) → SurvivesEither a c after
+pub survives_before : (a c : KeptThread) (after : Tree) → PowerLossLeavesEither a c (disk_tree a.disk a.pairs) → PowerLossLeavesEither a c after
 survives_before a c after k clean = HoldsAtLosses-weaker (λ left x. record { pairs = x.pairs; accepted = x.accepted; writable = x.writable; tree = go left x.pairs x.tree }) (k clean)
   where
     go : (left : Blocks) (ps : List Pair) → (disk_tree (with_blocks left a.disk) ps ≡ disk_tree a.disk a.pairs) ⊎ (disk_tree (with_blocks left a.disk) ps ≡ disk_tree a.disk a.pairs)
@@ -113,28 +113,28 @@ survives_before a c after k clean = HoldsAtLosses-weaker (λ left x. record { pa
     go left ps (inl e) = inl e
     go left ps (inr e) = inl e
 
-called_by : (a b : KeptThread) (op : Operation) → AppliesOperation a op b → HasFurtherCalls a b
+called_by : (a b : KeptThread) (op : Operation) → AppliesOperation a op b → IsLaterOnSameDevice a b
 called_by a b op k = record { geometry = k.geometry; calls = k.calls; called = k.called }
 
 module _ (a b : KeptThread) (f : HasRecovered a b) where
   pub tree_is : disk_tree b.disk b.pairs ≡ disk_tree a.disk a.pairs
   tree_is = f.carries.shows (tree_summary (uncached_state a true false)) []
 
-  pub called_after : (c : KeptThread) → HasFurtherCalls b c → HasFurtherCalls a c
+  pub called_after : (c : KeptThread) → IsLaterOnSameDevice b c → IsLaterOnSameDevice a c
   called_after c k = called_then a b c (called_by a b ops.Recover f.carries) k
 
-  pub carried_after : (c : KeptThread) (op : Operation) → renames_itself op ≡ false → is_recover op ≡ false → AppliesInPlace b op c → AppliesInPlace a op c
+  pub carried_after : (c : KeptThread) (op : Operation) → renames_itself op ≡ false → is_recover op ≡ false → AppliesBeforeRelocation b op c → AppliesBeforeRelocation a op c
   carried_after c op apart other made = record { applied = applied; stays = stays }
     where
       k : AppliesOperation b op c
       k = made.applied
 
-      all : HasFurtherCalls a c
+      all : IsLaterOnSameDevice a c
       all = called_after c (called_by b c op k)
 
-      stays : (files : OpenFilesByNumber) → IsLayoutRecovered a.disk a.pairs (record { tree = disk_tree a.disk a.pairs; files = files }) op c.disk c.pairs
+      stays : (files : OpenFilesByNumber) → IsLayoutAfterRecovery a.disk a.pairs (record { tree = disk_tree a.disk a.pairs; files = files }) op c.disk c.pairs
       stays files = arranged_through a b c (record { tree = disk_tree a.disk a.pairs; files = files }) op f.carries.geometry f.leads_on
-          (subst (λ t. IsLayoutRecovered b.disk b.pairs (record { tree = t; files = files }) op c.disk c.pairs) tree_is (made.stays files))
+          (subst (λ t. IsLayoutAfterRecovery b.disk b.pairs (record { tree = t; files = files }) op c.disk c.pairs) tree_is (made.stays files))
 
       applied : AppliesOperation a op c
       applied = record {
@@ -157,15 +157,15 @@ module _ (a b : KeptThread) (f : HasRecovered a b) where
         taken = (let t = k.taken in let r = f.room in omega arith);
       }
 
-  pub spares_after : (c : KeptThread) (op : Operation) → SparesOutsideOperation b op c → SparesOutsideOperation a op c
-  spares_after c op k none = subst (λ (z : KeptThread). SparesOutsideOperation z op c) (f.same none) k none
+  pub spares_after : (c : KeptThread) (op : Operation) → KeepsBlocksOutsideOperation b op c → KeepsBlocksOutsideOperation a op c
+  spares_after c op k none = subst (λ (z : KeptThread). KeepsBlocksOutsideOperation z op c) (f.same none) k none
 
   -- ---- a power loss
 
   left_on : (blocks : Blocks) → with_blocks blocks b.disk ≡ with_blocks blocks a.disk
   left_on blocks = λ j. record { block_size = f.carries.geometry.block_size j; page = f.carries.geometry.page j; order = f.carries.geometry.order j; profile = f.carries.geometry.profile j; blocks = blocks }
 
-  pub survives_after : (c : KeptThread) (change : Tree → Tree) → HasFurtherCalls b c → SurvivesEither a b (disk_tree a.disk a.pairs) → SurvivesEither b c (change (disk_tree b.disk b.pairs)) → SurvivesEither a c (change (disk_tree a.disk a.pairs))
+  pub survives_after : (c : KeptThread) (change : Tree → Tree) → IsLaterOnSameDevice b c → PowerLossLeavesEither a b (disk_tree a.disk a.pairs) → PowerLossLeavesEither b c (change (disk_tree b.disk b.pairs)) → PowerLossLeavesEither a c (change (disk_tree a.disk a.pairs))
   survives_after c change called first second =
       survives_then a.disk a.history b.history c.history (disk_tree a.disk a.pairs) (change (disk_tree a.disk a.pairs)) (some_since f.carries.calls a.history b.history f.carries.called) (some_since called.calls b.history c.history called.called)
       (survives_before a b (change (disk_tree a.disk a.pairs)) first)
@@ -173,10 +173,10 @@ module _ (a b : KeptThread) (f : HasRecovered a b) where
 
   -- ---- what its checks have shown
 
-  charge_is : (name : Name) (attributes : Attributes) → exceeds_charge (tree_summary (uncached_state b true false)) name attributes ≡ exceeds_charge (tree_summary (uncached_state a true false)) name attributes
+  charge_is : (name : Name) (attributes : Attributes) → exceeds_half_pair (tree_summary (uncached_state b true false)) name attributes ≡ exceeds_half_pair (tree_summary (uncached_state a true false)) name attributes
   charge_is name attributes =
-      ap₂ (λ (size page : ℕ). nat_lt (charge_limit size page) (entry_charge b.disk.profile size name attributes)) f.carries.geometry.block_size f.carries.geometry.page
-      ∙ ap (λ (profile : Profile). nat_lt (charge_limit a.disk.block_size a.disk.page) (entry_charge profile a.disk.block_size name attributes)) f.carries.geometry.profile
+      ap₂ (λ (size page : ℕ). nat_lt (half_pair_capacity size page) (reserved_entry_size b.disk.profile size name attributes)) f.carries.geometry.block_size f.carries.geometry.page
+      ∙ ap (λ (profile : Profile). nat_lt (half_pair_capacity a.disk.block_size a.disk.page) (reserved_entry_size profile a.disk.block_size name attributes)) f.carries.geometry.profile
 
   long_is : (path : Path) → has_long_name (tree_summary (uncached_state b true false)) path ≡ has_long_name (tree_summary (uncached_state a true false)) path
   long_is path = ap (λ (profile : Profile). nat_lt (profile_name_max profile) (length (last_name path))) f.carries.geometry.profile
@@ -185,7 +185,7 @@ module _ (a b : KeptThread) (f : HasRecovered a b) where
   room_is need room =
       let few = fewer_flying b.map a.map f.carries.flight.none_comes in
       let used = f.room in
-      let number_occurrences = f.carries.geometry.count in
+      let occurrence_count = f.carries.geometry.count in
       omega (arith, room)
 
   pub add_after : (path : Path) (need : ℕ) → CanAddEntry (uncached_state a true false) path need → CanAddEntry (uncached_state b true false) path need
@@ -217,7 +217,7 @@ module _ (a b : KeptThread) (f : HasRecovered a b) where
     parents = subst (λ t. parents_refusal t [] path ≡ None) (sym tree_is) can.parents;
     something = subst (λ (t : Tree). is_none (t path) ≡ false) (sym tree_is) can.something;
     len = can.len;
-    fits = subst (λ (t : Tree). exceeds_charge (tree_summary (uncached_state b true false)) (last_name path) (attributes_with kind bytes (node_attributes_of (t path))) ≡ false) (sym tree_is)
+    fits = subst (λ (t : Tree). exceeds_half_pair (tree_summary (uncached_state b true false)) (last_name path) (attributes_with kind bytes (node_attributes_of (t path))) ≡ false) (sym tree_is)
         (charge_is (last_name path) (attributes_with kind bytes (node_attributes_of (disk_tree a.disk a.pairs path))) ∙ can.fits);
     room = room_is 2 can.room;
   }
@@ -246,7 +246,7 @@ module _ (a b : KeptThread) (f : HasRecovered a b) where
     directory = subst (λ (t : Tree). (not (same_path from to) && is_directory (t from) && is_file (t to)) ≡ false) (sym tree_is) can.directory;
     file = subst (λ (t : Tree). (not (same_path from to) && is_file (t from) && is_directory (t to)) ≡ false) (sym tree_is) can.file;
     empty = subst (λ (t : Tree). (not (same_path from to) && nat_lt 0 (length (directory_names (t to)))) ≡ false) (sym tree_is) can.empty;
-    fits = subst (λ (t : Tree). (not (same_path from to) && exceeds_charge (tree_summary (uncached_state b true false)) (last_name to) (node_attributes_of (t from))) ≡ false) (sym tree_is)
+    fits = subst (λ (t : Tree). (not (same_path from to) && exceeds_half_pair (tree_summary (uncached_state b true false)) (last_name to) (node_attributes_of (t from))) ≡ false) (sym tree_is)
         (ap (λ x. not (same_path from to) && x) (charge_is (last_name to) (node_attributes_of (disk_tree a.disk a.pairs from))) ∙ can.fits);
     room = room_is 2 can.room;
   }

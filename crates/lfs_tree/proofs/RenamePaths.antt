@@ -1,23 +1,23 @@
 -- The look-ups of a rename's two paths.
 use Rattle.std.proofs.Common.{ℕ, ◌≡◌, ◌≤◌, ◌+◌, ◌∙◌, ◌++◌, List, [], ◌∷◌, Option, Some, None, Result, Ok, Err, sym, ap, subst, arith}
 use Rattle.std.specs.Prelude.{IfOk, IfSome, sum_by}
-use Rattle.lfs_tree.proofs.Common.{sum_by-append, sum_by-cons, Disk, directory_pair_count, ancestor_paths, CallEvent, read_count, Name, slot_of, zero_gstate, Pair, pairs_gstate, Path, IsAccepted, disk_tree, KeptThread, ThreadView, OnlyReadsThread, LeadsToPair, IsSlotBelow, LeadsToResult, AreRenameResults, rename_parents, TreeState, kept_thread}
+use Rattle.lfs_tree.proofs.Common.{sum_by-append, sum_by-cons, Disk, directory_pair_count, ancestor_paths, CallEvent, read_count, Name, slot_of_path, zero_gstate, Pair, pairs_gstate, Path, IsAccepted, disk_tree, KeptThread, ThreadView, OnlyReadsThread, LeadsToPair, IsSlotOfChild, IsResultOfPath, AreRenameResults, rename_parents, TreeState, kept_thread}
 use Rattle.lfs_device.specs.declared.error.Error.{Error}
 use Rattle.lfs_lookup.specs.AtPath.{IsLookupResult}
-use Rattle.lfs_lookup.specs.LookupPaths.{IsUnhiddenSpot, IsUnhiddenResult}
+use Rattle.lfs_lookup.specs.LookupPaths.{IsVisibleSlot, IsVisibleLookupResult}
 use Rattle.lfs_lookup.specs.declared.paths.PathLookup.{PathLookup}
 use Rattle.lfs_lookup.specs.declared.paths.PathLookup.TheVariants as found
 use Rattle.lfs_lookup.specs.declared.paths.VisiblePathLookup.{VisiblePathLookup}
 use Rattle.lfs_lookup.specs.declared.search.SlotPosition.{SlotPosition}
 use Rattle.lfs_lookup.proofs.Entered.{hiding_none}
-use Rattle.lfs_tree.specs.RenameFindings.{lookup_without_parent}
-use Rattle.lfs_tree.specs.declared.rename_paths.RenameFindings.{RenameFindings}
+use Rattle.lfs_tree.specs.RenameLookup.{lookup_without_parent}
+use Rattle.lfs_tree.specs.declared.rename_paths.RenameLookup.{RenameLookup}
 use Rattle.lfs_tree.specs.declared.rename_paths.RenameTargets.{RenameTargets}
 use Rattle.lfs_tree.proofs.Carried.{read_is, with_history}
 
 -- ---- the results of the look-ups, after reads
 
-leads_on : (t : KeptThread) (h : List CallEvent) (path : Path) (f : PathLookup) → LeadsToResult t path f → LeadsToResult (with_history t h) path f
+leads_on : (t : KeptThread) (h : List CallEvent) (path : Path) (f : PathLookup) → IsResultOfPath t path f → IsResultOfPath (with_history t h) path f
 leads_on t h path found.Root l = record { parents = l.parents; there = l.there }
 leads_on t h path found.ParentIsFile l = record { parents = l.parents; there = l.there }
 leads_on t h path found.ParentIsMissing l = record { parents = l.parents; there = l.there }
@@ -25,8 +25,8 @@ leads_on t h path (found.Nothing parent place) l = record { parents = l.parents;
 leads_on t h path (found.Directory parent slot first) l = record { parents = l.parents; there = l.there }
 leads_on t h path (found.File parent slot contents) l = record { parents = l.parents; there = l.there }
 
-pub leads_since : (a b : KeptThread) (path : Path) (f : PathLookup) → OnlyReadsThread a b → LeadsToResult a path f → LeadsToResult b path f
-leads_since a b path f only l = subst (λ z. LeadsToResult z path f) (sym (read_is a b only)) (leads_on a b.history path f l)
+pub leads_since : (a b : KeptThread) (path : Path) (f : PathLookup) → OnlyReadsThread a b → IsResultOfPath a path f → IsResultOfPath b path f
+leads_since a b path f only l = subst (λ z. IsResultOfPath z path f) (sym (read_is a b only)) (leads_on a b.history path f l)
 
 targets_since : (a b : KeptThread) (from to : Path) (r : RenameTargets) → OnlyReadsThread a b → AreRenameResults a from to r → AreRenameResults b from to r
 targets_since a b from to r only k = record {
@@ -40,7 +40,7 @@ pub same_tree : (a b : KeptThread) → OnlyReadsThread a b → disk_tree b.disk 
 same_tree a b only = ap (λ (d : Disk). disk_tree d b.pairs) only.disk ∙ ap (λ (ps : List Pair). disk_tree a.disk ps) only.pairs
 
 -- so do those of what was found, if they are known
-pub found_since : (a b : KeptThread) (from to : Path) (r : Result RenameFindings Error) → OnlyReadsThread a b → IfOk r (λ found. IfSome found.targets (AreRenameResults a from to)) → IfOk r (λ found. IfSome found.targets (AreRenameResults b from to))
+pub found_since : (a b : KeptThread) (from to : Path) (r : Result RenameLookup Error) → OnlyReadsThread a b → IfOk r (λ found. IfSome found.targets (AreRenameResults a from to)) → IfOk r (λ found. IfSome found.targets (AreRenameResults b from to))
 found_since a b from to (Err e) only k = tt
 found_since a b from to (Ok x) only k = go x.targets k
   where
@@ -59,7 +59,7 @@ known_behind old mid t from to (Some x) idle is k = subst (λ z. AreRenameResult
 not_deleted : (id : ℕ) → ◌≡◌ {A = Option ℕ} None (Some id) → ⊥
 not_deleted id k = absurd (cc)
 
-abbrev spot_of_shown_entry : (ps : List Pair) (path above : Path) (name : Name) (parent : ℕ) (slot : SlotPosition) → path ≡ above ++ name ∷ [] → IsSlotBelow ps above name parent slot → IsUnhiddenSpot ps None path slot
+abbrev spot_of_shown_entry : (ps : List Pair) (path above : Path) (name : Name) (parent : ℕ) (slot : SlotPosition) → path ≡ above ++ name ∷ [] → IsSlotOfChild ps above name parent slot → IsVisibleSlot ps None path slot
 spot_of_shown_entry ps path above name parent slot e s = record {
   above = above;
   name = name;
@@ -68,19 +68,19 @@ spot_of_shown_entry ps path above name parent slot e s = record {
   on = s.on;
   stands = s.stands;
   kept = λ k. not_deleted slot.id k;
-  slot = ap (slot_of ps) e ∙ s.slot;
+  slot = ap (slot_of_path ps) e ∙ s.slot;
 }
 
-shows_to : (t : KeptThread) (path : Path) (f : PathLookup) → LeadsToResult t path f → IsUnhiddenResult t None path (lookup_without_parent f)
+shows_to : (t : KeptThread) (path : Path) (f : PathLookup) → IsResultOfPath t path f → IsVisibleLookupResult t None path (lookup_without_parent f)
 shows_to t path found.Root l = l.there
 shows_to t path found.ParentIsFile l = l.parents
 shows_to t path found.ParentIsMissing l = l.parents
-shows_to t path (found.Nothing parent place) l = (l.parents, ap (slot_of t.pairs) l.there.is ∙ l.there.there.nothing)
+shows_to t path (found.Nothing parent place) l = (l.parents, ap (slot_of_path t.pairs) l.there.is ∙ l.there.there.nothing)
 shows_to t path (found.Directory parent slot first) l =
     (l.parents, (spot_of_shown_entry t.pairs path l.there.above l.there.name parent slot l.there.is l.there.there.0, subst (λ (p : Path). LeadsToPair t.pairs p first) (sym l.there.is) l.there.there.1))
 shows_to t path (found.File parent slot contents) l = (l.parents, (spot_of_shown_entry t.pairs path l.there.above l.there.name parent slot l.there.is l.there.there.0, l.there.there.1))
 
-pub shows_found : (t : KeptThread) (path : Path) (f : PathLookup) (s : VisiblePathLookup) → IsAccepted t.disk t.pairs → pairs_gstate t.pairs ≡ zero_gstate → LeadsToResult t path f → s ≡ lookup_without_parent f → IsLookupResult t path s
+pub shows_found : (t : KeptThread) (path : Path) (f : PathLookup) (s : VisiblePathLookup) → IsAccepted t.disk t.pairs → pairs_gstate t.pairs ≡ zero_gstate → IsResultOfPath t path f → s ≡ lookup_without_parent f → IsLookupResult t path s
 shows_found t path f s ok settled l is =
     subst (λ z. IsLookupResult t path z) (sym is) (record { moved = None; hides = (hiding_none t (record { accepted = ok; settled = settled })).hides; shows = shows_to t path f l })
 

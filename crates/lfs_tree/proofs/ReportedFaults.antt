@@ -3,20 +3,20 @@ use Rattle.std.proofs.Common.{ℕ, ◌≡◌, ◌<◌, ◌⊎◌, inl, inr, ◌�
 use Rattle.std.specs.Prelude.{IfErr, IsErrOf}
 use Rattle.lfs_device.specs.declared.error.Error.{Error}
 use Rattle.lfs_device.specs.declared.error.Error.TheVariants.{Io, NoMemory, NoSpace}
-use Rattle.lfs_tree.proofs.Common.{Disk, block_count, CallEvent, OnlyReadsSince, fault_count, HasFreeBlocks, KeptThread, ThreadReportsErrors, OnlyReadsThread, ChangesThreadBlocks, HasFurtherCalls, HasThreadCause}
+use Rattle.lfs_tree.proofs.Common.{Disk, block_count, CallEvent, OnlyReadsSince, fault_count, HasFreeBlocks, KeptThread, ThreadReportsErrors, OnlyReadsThread, ChangesThreadBlocks, IsLaterOnSameDevice, HasThreadCause}
 use Rattle.lfs_operations.specs.Changing.{ReportsSpaceErrors}
 use Rattle.lfs_tree.proofs.CarryRooms.{no_room}
 use Rattle.lfs_tree.proofs.SameErrors.{same_error}
 use Rattle.lfs_tree.proofs.Carried.{with_history}
 
-pub called_by_reading : (a b : KeptThread) → OnlyReadsThread a b → HasFurtherCalls a b
+pub called_by_reading : (a b : KeptThread) → OnlyReadsThread a b → IsLaterOnSameDevice a b
 called_by_reading a b r = record {
   geometry = record { block_size = ap (λ (d : Disk). d.block_size) r.disk; page = ap (λ (d : Disk). d.page) r.disk; order = ap (λ (d : Disk). d.order) r.disk; profile = ap (λ (d : Disk). d.profile) r.disk; count = ap (λ (d : Disk). block_count d) r.disk };
   calls = r.reads.events;
   called = r.reads.extends;
 }
 
-pub called_by_writing : (a : KeptThread) (h : List CallEvent) (c : KeptThread) (bs : List ℕ) → OnlyReadsSince a.disk.blocks a.history h → ChangesThreadBlocks bs (with_history a h) c → HasFurtherCalls a c
+pub called_by_writing : (a : KeptThread) (h : List CallEvent) (c : KeptThread) (bs : List ℕ) → OnlyReadsSince a.disk.blocks a.history h → ChangesThreadBlocks bs (with_history a h) c → IsLaterOnSameDevice a c
 called_by_writing a h c bs reads w = record {
   geometry = record { block_size = w.shape.block_size; page = w.shape.page; order = w.shape.order; profile = w.shape.profile; count = w.shape.count };
   calls = w.at_worst.events ++ reads.events;

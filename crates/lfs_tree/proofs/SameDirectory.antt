@@ -1,7 +1,7 @@
 -- Slots of one pair are of one directory.
 use Rattle.std.proofs.Common.{ℕ, zero, suc, ◌≡◌, ◌+◌, ◌-◌, ◌<◌, ◌≤◌, ◌∙◌, true, false, List, [], ◌∷◌, ◌++◌, length, take, get_or, refl, sym, ap, subst, arith}
 use Rattle.std.proofs.lemmas.List.{get_or-append-add, get_or_append_left}
-use Rattle.lfs_tree.proofs.Common.{same_Some, Disk, IsPairAt, IsDirectoryPair, HasHardTail, same_pair, Pair, is_hard_tail, count_before_root, Path, IsAccepted, LeadsTo, Each, chain_of_thread, pair_back, pair_on, IsDirectory, begins_directory}
+use Rattle.lfs_tree.proofs.Common.{same_Some, Disk, IsPairAt, IsDirectoryPair, HasHardTail, same_pair, Pair, is_hard_tail, count_before_root, Path, IsAccepted, IsDirectoryAtPath, Each, chain_of_thread, pair_back, pair_on, IsDirectory, begins_directory}
 use Rattle.lfs_model.proofs.Listings.{Ends}
 
 -- whether the pair of an index continues in the next one
@@ -55,7 +55,7 @@ behind_up : (ps : List Pair) (first index : ℕ) (pair : Pair) (rest : List Pair
 behind_up ps first index pair rest b = let k = b.begins in let n = b.number in omega (arith, k, n)
 
 -- two directories of which the pair is
-pub same_first : (disk : Disk) (ps : List Pair) (P Q : Path) (a b : ℕ × ℕ) (first other index : ℕ) (pair pair' : Pair) (rest rest' : List Pair) → IsAccepted disk ps → LeadsTo ps P a → IsPairAt ps a first → LeadsTo ps Q b → IsPairAt ps b other
+pub same_first : (disk : Disk) (ps : List Pair) (P Q : Path) (a b : ℕ × ℕ) (first other index : ℕ) (pair pair' : Pair) (rest rest' : List Pair) → IsAccepted disk ps → IsDirectoryAtPath ps P a → IsPairAt ps a first → IsDirectoryAtPath ps Q b → IsPairAt ps b other
     → IsDirectoryPair ps first index pair rest → IsDirectoryPair ps other index pair' rest' → first ≡ other
 same_first disk ps P Q a b first other index pair pair' rest rest' ok leads begins leads' begins' h k =
     let d = begins_directory disk ps P a first ok leads begins in
@@ -72,7 +72,7 @@ same_first disk ps P Q a b first other index pair pair' rest rest' ok leads begi
     equal (suc m) (suc n) f g = ap suc (equal m n (λ l. f (omega (arith, l))) (λ l. g (omega (arith, l))))
 
 -- and so one path leads to it
-pub same_above : (disk : Disk) (ps : List Pair) (P Q : Path) (a b : ℕ × ℕ) (first other : ℕ) → IsAccepted disk ps → LeadsTo ps P a → IsPairAt ps a first → LeadsTo ps Q b → IsPairAt ps b other → first ≡ other → P ≡ Q
+pub same_above : (disk : Disk) (ps : List Pair) (P Q : Path) (a b : ℕ × ℕ) (first other : ℕ) → IsAccepted disk ps → IsDirectoryAtPath ps P a → IsPairAt ps a first → IsDirectoryAtPath ps Q b → IsPairAt ps b other → first ≡ other → P ≡ Q
 same_above disk ps P Q a b first other ok leads begins leads' begins' e =
     let k = subst (IsPairAt ps b) (sym e) begins' in
     let same = same_Some begins.pair k.pair (sym begins.there ∙ k.there) in

@@ -4,13 +4,13 @@ use Rattle.std.specs.Prelude.{Contains, OnOk}
 use Rattle.lfs_device.specs.DeviceCalls.{ReadsOnly}
 use Rattle.lfs_device.specs.declared.device.BlockDevice.{Ghosts}
 use Rattle.lfs_device.specs.declared.error.Error.{Error}
-use Rattle.lfs_tree.proofs.Common.{Blocks, HasBlockSizes, block_bytes, BlockStates, is_unprogrammed_byte-read_count, KeepsPairBlocks, BelongToThread, KeptThread, IsListOrEmpty, blocks_of_list, SettlesList, CanSettleLists, IsListSettled, stored_list_blocks}
+use Rattle.lfs_tree.proofs.Common.{Blocks, HasBlockSizes, block_bytes, BlockStates, is_unprogrammed_byte-read_count, KeepsPairBlocks, BelongToThread, KeptThread, IsListOrEmpty, blocks_of_list, SettlesList, CanReplaceUsedList, IsUsedListReplaced, stored_list_blocks}
 use Rattle.lfs_file.specs.SettledMaps.{CanSettleList, KeepsOtherStates, AreSharedUsed}
 use Rattle.lfs_file.specs.declared.stored_list.StoredList.{StoredList}
 use Rattle.lfs_tree.proofs.Standing.{blocks_here, size_here}
 
 module _ {D : Type 0} (g : Ghosts D) (t : KeptThread) (device : D) (map : BlockStates) (shows : BelongToThread g t device map)
-    (shape : HasBlockSizes (g.geometry device).block_size (g.geometry device).block_count (g.blocks device)) (before stored : StoredList) (can : CanSettleLists t before stored) where
+    (shape : HasBlockSizes (g.geometry device).block_size (g.geometry device).block_count (g.blocks device)) (before stored : StoredList) (can : CanReplaceUsedList t before stored) where
   pub list_here : (s : StoredList) → blocks_of_list (g.blocks device) (g.geometry device).block_size s.head s.size ≡ stored_list_blocks t s
   list_here s = ap (λ (d : Blocks). blocks_of_list d (g.geometry device).block_size s.head s.size) (blocks_here g t device map shows shape)
       ∙ ap (λ (n : ℕ). blocks_of_list t.disk.blocks n s.head s.size) (size_here g t device map shows shape)
@@ -51,7 +51,7 @@ module _ {D : Type 0} (g : Ghosts D) (t : KeptThread) (device : D) (map : BlockS
 
   pub settled_after : (new : KeptThread) (later_map : BlockStates) → later_map ≡ new.map → (r : Result (Unit {0}) Error)
       → OnOk r (SettlesList map later_map (blocks_of_list (g.blocks device) (g.geometry device).block_size before.head before.size) (blocks_of_list (g.blocks device) (g.geometry device).block_size stored.head stored.size))
-      → OnOk r (IsListSettled t before stored new)
+      → OnOk r (IsUsedListReplaced t before stored new)
   settled_after new later_map is (Ok u) settled =
       subst (λ (m : BlockStates). SettlesList t.map m (stored_list_blocks t before) (stored_list_blocks t stored)) is
       (subst (λ (m : BlockStates). SettlesList m later_map (stored_list_blocks t before) (stored_list_blocks t stored)) shows.map

@@ -1,7 +1,7 @@
 -- An entry that gets another path: what is found for it, and what may be done.
 use Rattle.std.proofs.Common.{ℕ, ◌≡◌, ◌≤◌, ◌∙◌, ◌&&◌, ◌++◌, not, Bool, true, false, List, [], ◌∷◌, Option, Some, None, Result, Ok, Err, refl, sym, ap, ap₂, subst}
 use Rattle.std.specs.Prelude.{OnOk, is_some}
-use Rattle.lfs_tree.proofs.Common.{list_all, option_and_then, ltb-false, slice_get_within, AreByteBlocks, last_name, tree_renaming, without_prefix, same_path, charge_limit, CallEvent, OnlyReadsSince, fault_count, BelongsAt, Name, is_component, is_valid_name, Slot, entry_charge, path_or_root, is_root_path, Pair, pairs_gstate, count_before_root, Path, Tree, branch_address, LeadsTo, disk_tree, no_move_from, last_is, KeptThread, ThreadView, OnlyReadsThread, WritesThreadFree, CanRenamePath, tree_after_call, AppliesInPlace, HasAppliedCall, CanChangeRecovered, AppliesOrFails, IsNamedResult, SparesOutsideOperation, HasSoundImage, SurvivesEither, HasPathEntry, uncached_state, tree_summary, LeadsToPair, LeadsToResult, IsSlotBelow, CanMoveEntry, CanMoveOntoFound, CanMoveOntoFile, CanMoveOntoDirectory, CanMoveTo, IsStorage, Struct, struct_blocks, HasMovedEntry, ThreadWorksOrReports, HasRead}
+use Rattle.lfs_tree.proofs.Common.{list_all, option_and_then, ltb-false, slice_get_within, AreByteBlocks, last_name, tree_renaming, without_prefix, same_path, half_pair_capacity, CallEvent, OnlyReadsSince, fault_count, IsInsertionPosition, Name, is_component, is_valid_name, Slot, reserved_entry_size, path_or_root, is_root_path, Pair, pairs_gstate, count_before_root, Path, Tree, struct_directory_address, IsDirectoryAtPath, disk_tree, no_move_from, last_is, KeptThread, ThreadView, OnlyReadsThread, WritesThreadAndFree, CanRenamePath, tree_after_call, AppliesBeforeRelocation, HasAppliedCall, CanChangeRecovered, AppliesOrFails, IsLookupWithName, KeepsBlocksOutsideOperation, HasSoundImage, PowerLossLeavesEither, HasPathEntry, uncached_state, tree_summary, LeadsToPair, IsResultOfPath, IsSlotOfChild, CanMoveEntry, CanMoveOntoFound, CanMoveOntoFile, CanMoveOntoDirectory, CanMoveEntryTo, IsStorageOfStruct, Struct, struct_blocks, HasMovedEntry, WorksOrReportsIo, HasRead}
 use Rattle.lfs_device.specs.declared.error.Error.{Error}
 use Rattle.lfs_model.specs.session.TreeEdits.{is_beneath}
 use Rattle.lfs_model.specs.session.Operations as ops
@@ -27,11 +27,11 @@ use Rattle.lfs_tree.proofs.Mounting.{sound_read}
 
 -- ---- what is found
 
-source_is : (ps : List Pair) (path above : Path) (name : Name) (parent : ℕ) (slot : SlotPosition) (source : RenameSource) → path ≡ above ++ name ∷ [] → IsSlotBelow ps above name parent slot → source ≡ record { slot = slot; first = parent } → IsSourceAt ps path source
+source_is : (ps : List Pair) (path above : Path) (name : Name) (parent : ℕ) (slot : SlotPosition) (source : RenameSource) → path ≡ above ++ name ∷ [] → IsSlotOfChild ps above name parent slot → source ≡ record { slot = slot; first = parent } → IsSourceAt ps path source
 source_is ps path above name parent slot source e s h =
     subst (IsSourceAt ps path) (sym h) (record { slot = record { above = above; name = name; first = parent; is = e; stands = s }; first_is = refl })
 
-pub source_for : (t : KeptThread) (path : Path) (f : PathLookup) (source : RenameSource) → LeadsToResult t path f → IsFoundSource f source → IsSourceAt t.pairs path source
+pub source_for : (t : KeptThread) (path : Path) (f : PathLookup) (source : RenameSource) → IsResultOfPath t path f → IsFoundSource f source → IsSourceAt t.pairs path source
 source_for t path found.Root source l h = absurd h
 source_for t path found.ParentIsFile source l h = absurd h
 source_for t path found.ParentIsMissing source l h = absurd h
@@ -41,9 +41,9 @@ source_for t path (found.File parent slot contents) source l h = source_is t.pai
 
 -- ---- what may be done
 
-file_branch : (c : FileStorage) (s : Struct) → IsStorage c s → branch_address s ≡ None
-file_branch (shown.Inline len) s h = ap branch_address h.1.0
-file_branch (shown.List head size) s h = ap branch_address h
+file_branch : (c : FileStorage) (s : Struct) → IsStorageOfStruct c s → struct_directory_address s ≡ None
+file_branch (shown.Inline len) s h = ap struct_directory_address h.1.0
+file_branch (shown.List head size) s h = ap struct_directory_address h
 
 pub entry_to_rename : (t : KeptThread) (from to : Path) → CanRenamePath (uncached_state t true false) from to → HasPathEntry (disk_tree t.disk t.pairs) from
 entry_to_rename t from to can = record { entry = can.entry; parents = can.parents; something = can.something }
@@ -71,7 +71,7 @@ module _ (t : ThreadView) (root : ℕ) (rests : CanChangeRecovered t root) (from
 
   pub fits_there : IsWritableEntry t.kept.disk.profile t.kept.disk.block_size t.kept.disk.page (record is.slot.stands.stands.stands.slot { name = last_name to })
   fits_there = record {
-    charge = subst (λ a. entry_charge t.kept.disk.profile t.kept.disk.block_size (last_name to) a ≤ charge_limit t.kept.disk.block_size t.kept.disk.page) (attributes_are t root rests from large bytes source.slot is.slot h)
+    charge = subst (λ a. reserved_entry_size t.kept.disk.profile t.kept.disk.block_size (last_name to) a ≤ half_pair_capacity t.kept.disk.block_size t.kept.disk.page) (attributes_are t root rests from large bytes source.slot is.slot h)
         (ltb-false _ _ (checked_apart (same_path from to) _ other can.fits));
     inline = inline_fits t root rests from large bytes source.slot is.slot h;
   }
@@ -92,7 +92,7 @@ module _ (t : ThreadView) (root : ℕ) (rests : CanChangeRecovered t root) (from
     room = room_for t.kept 2 rests.held.sound can.room;
   }
 
-  pub shift_to : (parent : ℕ) (place : SlotPosition) (name : Name) → IsNamedResult t.kept to (found.Nothing parent place) name → CanMoveTo false (with_history t.kept h) from to source place name
+  pub shift_to : (parent : ℕ) (place : SlotPosition) (name : Name) → IsLookupWithName t.kept to (found.Nothing parent place) name → CanMoveEntryTo false (with_history t.kept h) from to source place name
   unfolding can_shift
   shift_to parent place name target =
       let there = target.leads.there in
@@ -101,13 +101,13 @@ module _ (t : ThreadView) (root : ℕ) (rests : CanChangeRecovered t root) (from
         can = can_shift there.above parent name target.named (there.is ∙ ap (λ n. there.above ++ n ∷ []) (sym same)) there.there.on;
         gone = [];
         target = record {
-          belongs = subst (λ n. BelongsAt t.kept.disk.order t.kept.pairs parent n place.pair place.id) (sym same) there.there.belongs;
+          belongs = subst (λ n. IsInsertionPosition t.kept.disk.order t.kept.pairs parent n place.pair place.id) (sym same) there.there.belongs;
           is_name = subst (λ n. is_valid_name n ≡ true) (sym target.named) named;
           none = refl;
         };
       }
 
-  pub shift_onto : (parent : ℕ) (slot : SlotPosition) (contents : FileStorage) (name : Name) → IsNamedResult t.kept to (found.File parent slot contents) name → CanMoveOntoFile (with_history t.kept h) from to source slot contents name
+  pub shift_onto : (parent : ℕ) (slot : SlotPosition) (contents : FileStorage) (name : Name) → IsLookupWithName t.kept to (found.File parent slot contents) name → CanMoveOntoFile (with_history t.kept h) from to source slot contents name
   unfolding can_shift
   shift_onto parent slot contents name target =
       let there = target.leads.there in
@@ -122,28 +122,28 @@ module _ (t : ThreadView) (root : ℕ) (rests : CanChangeRecovered t root) (from
         shows = there.there.1;
       })
 
-  pub shift_over : (parent : ℕ) (slot : SlotPosition) (first : ℕ) (name : Name) → IsNamedResult t.kept to (found.Directory parent slot first) name → CanMoveOntoDirectory (with_history t.kept h) from to source slot first name
+  pub shift_over : (parent : ℕ) (slot : SlotPosition) (first : ℕ) (name : Name) → IsLookupWithName t.kept to (found.Directory parent slot first) name → CanMoveOntoDirectory (with_history t.kept h) from to source slot first name
   unfolding can_shift
   shift_over parent slot first name target =
       let there = target.leads.there in
       let stood = there.there.0 in
       let on = there.there.1 in
       let same : last_name to ≡ there.name = ap last_name there.is ∙ last_is there.above there.name in
-      let none = none_entered t.kept to (checked_apart (same_path from to) _ other can.empty) on.at (subst (λ p. LeadsTo t.kept.pairs p on.at) (sym there.is) on.leads) in
+      let none = none_entered t.kept to (checked_apart (same_path from to) _ other can.empty) on.at (subst (λ p. IsDirectoryAtPath t.kept.pairs p on.at) (sym there.is) on.leads) in
       let bare = bare_there t.kept.disk t.kept.pairs there.above there.name on.at first rests.held.sound.accepted (rests.held.sound.fits refl) (no_move_from t.kept.pairs rests.settled) on.leads on.begins none in
       subst (λ n. CanMoveOntoDirectory (with_history t.kept h) from to source slot first n) (sym (target.named ∙ same))
       (record {
         can = can_shift there.above parent there.name (sym same) there.is stood.on;
         target = stood.stands;
         at = on.at;
-        branch = branch_is stood.stands.stands.slot.struct on.at (sym (ap (option_and_then (λ (s : Slot). branch_address s.struct)) stood.slot) ∙ on.leads);
+        branch = branch_is stood.stands.stands.slot.struct on.at (sym (ap (option_and_then (λ (s : Slot). struct_directory_address s.struct)) stood.slot) ∙ on.leads);
         below = slice_get_within t.kept.pairs first on.begins.pair on.begins.there;
         there = at_there t.kept.pairs on.at first on.begins;
         empty = bare.empty;
         alone = bare.alone;
       })
 
-  pub shift_found : (f : PathLookup) (name : Name) → IsNamedResult t.kept to f name → CanMoveOntoFound (with_history t.kept h) from to source f name
+  pub shift_found : (f : PathLookup) (name : Name) → IsLookupWithName t.kept to f name → CanMoveOntoFound (with_history t.kept h) from to source f name
   shift_found found.Root name target = let k = sym can.target ∙ ap is_root_path target.leads.there in absurd (cc)
   shift_found found.ParentIsFile name target = let k = sym can.target_parents ∙ target.leads.parents in absurd (cc)
   shift_found found.ParentIsMissing name target = let k = sym can.target_parents ∙ target.leads.parents in absurd (cc)
@@ -153,8 +153,8 @@ module _ (t : ThreadView) (root : ℕ) (rests : CanChangeRecovered t root) (from
 
 -- ---- the result
 
-module _ (t : ThreadView) (root : ℕ) (rests : CanChangeRecovered t root) (from to : Path) (other : same_path from to ≡ false) (h : List CallEvent) (c : KeptThread) (reads : OnlyReadsSince t.kept.disk.blocks t.kept.history h) (w : WritesThreadFree (with_history t.kept h) c) where
-  shifted_at : (given to_given : List ℕ) → HasMovedEntry (with_history t.kept h) from to c → fault_count c.history ≡ fault_count t.kept.history → path_or_root given ≡ from → path_or_root to_given ≡ to → AppliesInPlace t.kept (ops.Rename given to_given) c
+module _ (t : ThreadView) (root : ℕ) (rests : CanChangeRecovered t root) (from to : Path) (other : same_path from to ≡ false) (h : List CallEvent) (c : KeptThread) (reads : OnlyReadsSince t.kept.disk.blocks t.kept.history h) (w : WritesThreadAndFree (with_history t.kept h) c) where
+  shifted_at : (given to_given : List ℕ) → HasMovedEntry (with_history t.kept h) from to c → fault_count c.history ≡ fault_count t.kept.history → path_or_root given ≡ from → path_or_root to_given ≡ to → AppliesBeforeRelocation t.kept (ops.Rename given to_given) c
   shifted_at given to_given is quiet e f = carried t.kept h (ops.Rename given to_given) c
       (record {
         accepted = rests.held.sound.accepted;
@@ -170,13 +170,13 @@ module _ (t : ThreadView) (root : ℕ) (rests : CanChangeRecovered t root) (from
         no_fault = quiet;
       }) (ap₂ same_path e f ∙ other) refl
 
-module _ (t : ThreadView) (root : ℕ) (rests : CanChangeRecovered t root) (from to : Path) (other : same_path from to ≡ false) (h : List CallEvent) (new : ThreadView) (reads : OnlyReadsSince t.kept.disk.blocks t.kept.history h) (w : WritesThreadFree (with_history t.kept h) new.kept) where
+module _ (t : ThreadView) (root : ℕ) (rests : CanChangeRecovered t root) (from to : Path) (other : same_path from to ≡ false) (h : List CallEvent) (new : ThreadView) (reads : OnlyReadsSince t.kept.disk.blocks t.kept.history h) (w : WritesThreadAndFree (with_history t.kept h) new.kept) where
   abbrev before : Tree
   before = disk_tree t.kept.disk t.kept.pairs
 
   -- all that is said of it
   pub rename_does : (r : Result (Unit {0}) Error) (given to_given : List ℕ) → path_or_root given ≡ from → path_or_root to_given ≡ to → fault_count h ≡ fault_count t.kept.history → OnOk r (HasMovedEntry (with_history t.kept h) from to new.kept)
-      → ReportsFaultsSince h new.kept.history r → OnOk r (new.failed ≡ false) → SurvivesEither (with_history t.kept h) new.kept (tree_renaming from to before) → AppliesOrFails t (call.Rename from to) r new
+      → ReportsFaultsSince h new.kept.history r → OnOk r (new.failed ≡ false) → PowerLossLeavesEither (with_history t.kept h) new.kept (tree_renaming from to before) → AppliesOrFails t (call.Rename from to) r new
   rename_does r given to_given named to_named quiet shifted reported works survives =
       changed t new (HasAppliedCall t.kept (call.Rename from to)) (tree_after_call (call.Rename from to) before) h w.blocks r quiet reads w.writes reported works (go r shifted (quiet_reported t.kept new.kept h r quiet reported))
       (survives_behind t root rests h new.kept w.blocks (tree_renaming from to before) reads w.writes survives)
@@ -186,8 +186,8 @@ module _ (t : ThreadView) (root : ℕ) (rests : CanChangeRecovered t root) (from
       go (Err e) shifted same = tt
       go (Ok x) shifted same = (
         record {
-          carries = does_rename (λ op. AppliesInPlace t.kept op new.kept) from to (λ given to_given e f. shifted_at t root rests from to other h new.kept reads w given to_given shifted same e f);
-          spares = does_rename (λ op. SparesOutsideOperation t.kept op new.kept) from to (λ given to_given e f none files. shifted.alone (record { tree = disk_tree t.kept.disk t.kept.pairs; files = files }) given to_given e f);
+          carries = does_rename (λ op. AppliesBeforeRelocation t.kept op new.kept) from to (λ given to_given e f. shifted_at t root rests from to other h new.kept reads w given to_given shifted same e f);
+          spares = does_rename (λ op. KeepsBlocksOutsideOperation t.kept op new.kept) from to (λ given to_given e f none files. shifted.alone (record { tree = disk_tree t.kept.disk t.kept.pairs; files = files }) given to_given e f);
         },
         rename_stands t.kept new.kept from to given to_given named to_named (shifted_at t root rests from to other h new.kept reads w given to_given shifted same named to_named) shifted.root,
       )
@@ -204,14 +204,14 @@ rests_still t mid root rests only works = record {
 
 -- a move after calls that only read
 pub move_does : (t mid new : ThreadView) (root : ℕ) → CanChangeRecovered t root → (from to : Path) → same_path from to ≡ false → HasRead t mid → (given to_given : List ℕ) × (path_or_root given ≡ from) × (path_or_root to_given ≡ to) → (r : Result (Unit {0}) Error)
-    → OnOk r (HasMovedEntry mid.kept from to new.kept) → ThreadWorksOrReports mid new r → WritesThreadFree mid.kept new.kept → SurvivesEither mid.kept new.kept (tree_renaming from to (disk_tree mid.kept.disk mid.kept.pairs)) → AppliesOrFails t (call.Rename from to) r new
+    → OnOk r (HasMovedEntry mid.kept from to new.kept) → WorksOrReportsIo mid new r → WritesThreadAndFree mid.kept new.kept → PowerLossLeavesEither mid.kept new.kept (tree_renaming from to (disk_tree mid.kept.disk mid.kept.pairs)) → AppliesOrFails t (call.Rename from to) r new
 move_does t mid new root rests from to other read paths r shifted told w survives =
     let is = read_is t.kept mid.kept read.only in
-    rename_does t root rests from to other mid.kept.history new read.only.reads (subst (λ k. WritesThreadFree k new.kept) is w) r paths.0 paths.1 paths.2 paths.3 read.same
+    rename_does t root rests from to other mid.kept.history new read.only.reads (subst (λ k. WritesThreadAndFree k new.kept) is w) r paths.0 paths.1 paths.2 paths.3 read.same
     (subst (λ k. OnOk r (HasMovedEntry k from to new.kept)) is shifted) (record { errors = told.errors; fault = told.fault; no_fault = told.no_fault }) told.works
-    (subst (λ k. SurvivesEither k new.kept (tree_renaming from to (disk_tree k.disk k.pairs))) is survives)
+    (subst (λ k. PowerLossLeavesEither k new.kept (tree_renaming from to (disk_tree k.disk k.pairs))) is survives)
 
-leads_back : (t : KeptThread) (h : List CallEvent) (path : Path) (f : PathLookup) → LeadsToResult (with_history t h) path f → LeadsToResult t path f
+leads_back : (t : KeptThread) (h : List CallEvent) (path : Path) (f : PathLookup) → IsResultOfPath (with_history t h) path f → IsResultOfPath t path f
 leads_back t h path found.Root l = record { parents = l.parents; there = l.there }
 leads_back t h path found.ParentIsFile l = record { parents = l.parents; there = l.there }
 leads_back t h path found.ParentIsMissing l = record { parents = l.parents; there = l.there }
@@ -220,7 +220,7 @@ leads_back t h path (found.Directory parent slot first) l = record { parents = l
 leads_back t h path (found.File parent slot contents) l = record { parents = l.parents; there = l.there }
 
 -- the result of a look-up after calls that only read
-pub target_back : (a b : KeptThread) (path : Path) (f : PathLookup) (name : Name) → OnlyReadsThread a b → IsNamedResult b path f name → IsNamedResult a path f name
+pub target_back : (a b : KeptThread) (path : Path) (f : PathLookup) (name : Name) → OnlyReadsThread a b → IsLookupWithName b path f name → IsLookupWithName a path f name
 target_back a b path f name only target =
-    let k = subst (λ z. IsNamedResult z path f name) (read_is a b only) target in
+    let k = subst (λ z. IsLookupWithName z path f name) (read_is a b only) target in
     record { leads = leads_back a b.history path f k.leads; named = k.named }

@@ -1,6 +1,6 @@
 -- An entry that is renamed within its pair.
 use Rattle.std.proofs.Common.{ℕ, Bool, true, false, List, ◌≡◌, ◌≢◌, ◌∙◌, ◌++◌, [], ◌∷◌, append-nil, Some, None, sym, ap, subst}
-use Rattle.lfs_tree.proofs.Common.{without_prefix, IsDirectoryPair, IsTargetPlace, Name, Pair, Path, KeptThread, CanMoveEntry}
+use Rattle.lfs_tree.proofs.Common.{without_prefix, IsDirectoryPair, IsRenameTargetPosition, Name, Pair, Path, KeptThread, CanMoveEntry}
 use Rattle.lfs_model.proofs.Paths.{rest_itself}
 use Rattle.lfs_tree.specs.declared.renames_at.RenameSource.{RenameSource}
 use Rattle.lfs_lookup.specs.declared.search.SlotPosition.{SlotPosition}
@@ -12,7 +12,7 @@ pub record IsPairOf (ps : List Pair) (first index : ℕ) : Type 0 where
   pub rest : List Pair
   pub place : IsDirectoryPair ps first index pair rest
 
-pub pair_of_target : (replaces sync : Bool) (t : KeptThread) (first : ℕ) (name : Name) (index id : ℕ) (gone : List ℕ) → IsTargetPlace replaces sync t first name index id gone → IsPairOf t.pairs first index
+pub pair_of_target : (replaces sync : Bool) (t : KeptThread) (first : ℕ) (name : Name) (index id : ℕ) (gone : List ℕ) → IsRenameTargetPosition replaces sync t first name index id gone → IsPairOf t.pairs first index
 pair_of_target false sync t first name index id gone h = record { pair = h.belongs.pair; rest = _; place = h.belongs.place }
 pair_of_target true sync t first name index id gone h = record { pair = h.there.pair; rest = _; place = h.there.place }
 

@@ -3,25 +3,25 @@ use Rattle.std.proofs.Common.{ℕ, ◌≡◌, ◌≤◌, ◌⊎◌, ◌∙◌, i
 use Rattle.std.specs.Prelude.{IfErr, IfOk, IfSome, is_err}
 use Rattle.lfs_device.specs.declared.error.Error.{Error}
 use Rattle.lfs_device.specs.declared.error.Error.TheVariants.{Io, NoMemory}
-use Rattle.lfs_model.specs.session.History.{LeftByLatest}
-use Rattle.lfs_model.specs.session.Moved.{IsMoved}
-use Rattle.lfs_operations.specs.Changing.{WritesThreadTwo}
-use Rattle.lfs_operations.specs.Making.{ReportsMaking}
-use Rattle.lfs_operations.specs.Wear.{CanRelocate, HasPlanBlocks, HasRelocated, MovesByPlan, ShowsSameFiles}
-use Rattle.lfs_operations.specs.declared.wear.MovePlan.{MovePlan}
-use Rattle.lfs_tree.proofs.Common.{All-from_recursion, AllByRecursion, Blocks, CallEvent, IsFree, IsReadyImage, IsSoundState, KeptThread, SameFileBlocks, SameGeometry, Slot, SoundUnlessFailed, SurvivesLossSince, ThreadView, TreeState, all_unmoved_slots, disk_block, disk_tree, each_append, each_from_counted, each_pieces, each_weaker, kept_thread, pairs_blocks, pairs_gstate, shown_tree, struct_blocks, thread_state}
-use Rattle.lfs_tree.specs.Wear.{CanSpreadWear, HasMovedPair, SpreadsAfter, SpreadsOrFails}
+use Rattle.lfs_model.specs.session.History.{LeftByLatestCall}
+use Rattle.lfs_model.specs.session.Moved.{IsOnePairRelocated}
+use Rattle.lfs_operations.specs.Changing.{WritesThreadAndTwoFree}
+use Rattle.lfs_operations.specs.Making.{ReportsDirectoryCreation}
+use Rattle.lfs_operations.specs.Wear.{CanRelocate, HasDistinctPlanBlocks, HasRelocated, RelocatesByPlan, KeepsTreeAndFiles}
+use Rattle.lfs_operations.specs.declared.wear.RelocationPlan.{RelocationPlan}
+use Rattle.lfs_tree.proofs.Common.{All-from_recursion, AllByRecursion, Blocks, CallEvent, IsFree, IsRecoveredWritableImage, IsSoundState, KeptThread, SameFileBlocks, SameGeometry, Slot, IsSoundUnlessFailed, SurvivesLossSince, ThreadView, TreeState, all_unmoved_slots, disk_block, disk_tree, each_append, each_from_counted, each_pieces, each_weaker, kept_thread, pairs_blocks, pairs_gstate, visible_tree, struct_blocks, thread_state}
+use Rattle.lfs_tree.specs.Wear.{CanRelocateByPlan, HasRelocatedWornPair, RelocatesUnlessChangeFailed, RelocatesOrFails}
 use Rattle.lfs_tree.proofs.Carried.{IsPairsOrFree, all_pairs, apart_flying}
 use Rattle.lfs_tree.proofs.Recovered.{held_sound, none_survives}
 use Rattle.lfs_tree.proofs.SameErrors.{same_error}
 
 -- what a device's laws say of the newest call, seen from a thread
-pub newest_of : (one other : List CallEvent) (first last : Blocks) → first ≡ last → one ≡ other → LeftByLatest one first → LeftByLatest other last
-newest_of one other first last blocks calls newest = subst (λ (bs : Blocks). LeftByLatest other bs) blocks (subst (λ (h : List CallEvent). LeftByLatest h first) calls newest)
+pub newest_of : (one other : List CallEvent) (first last : Blocks) → first ≡ last → one ≡ other → LeftByLatestCall one first → LeftByLatestCall other last
+newest_of one other first last blocks calls newest = subst (λ (bs : Blocks). LeftByLatestCall other bs) blocks (subst (λ (h : List CallEvent). LeftByLatestCall h first) calls newest)
 
 -- ---- nothing moves
 
-pub shows_itself : (t : KeptThread) → IsReadyImage t → ShowsSameFiles t t
+pub shows_itself : (t : KeptThread) → IsRecoveredWritableImage t → KeepsTreeAndFiles t t
 shows_itself t ready = record {
   ready = ready;
   shows = refl;
@@ -31,7 +31,7 @@ shows_itself t ready = record {
   flying = λ b. ((λ flies. flies), (λ flies. flies));
 }
 
-pub spreads_nothing : (now : TreeState) (plan : Option MovePlan) → IsReadyImage (kept_thread now) → IsSoundState now → now.failed ≡ false → now.writable ≡ true → LeftByLatest now.history now.disk.blocks → (let r : Result (Unit {0}) Error = Ok tt in SpreadsOrFails now plan r now)
+pub spreads_nothing : (now : TreeState) (plan : Option RelocationPlan) → IsRecoveredWritableImage (kept_thread now) → IsSoundState now → now.failed ≡ false → now.writable ≡ true → LeftByLatestCall now.history now.disk.blocks → (let r : Result (Unit {0}) Error = Ok tt in RelocatesOrFails now plan r now)
 spreads_nothing now plan ready sound works may newest = record {
   newest = newest;
   done = record {
@@ -48,23 +48,23 @@ spreads_nothing now plan ready sound works may newest = record {
   };
   broken = tt;
   errors = tt;
-  survives = none_survives now (shown_tree now);
+  survives = none_survives now (visible_tree now);
 }
 
 -- if the change itself didn't fail
-pub spreads_behind : (now : TreeState) (plan : Option MovePlan) (done result : Result (Unit {0}) Error) (u : Unit {0}) (new : TreeState) → done ≡ Ok u → SpreadsOrFails now plan result new → SpreadsAfter now plan done result new
-spreads_behind now plan done result u new is k = subst (λ d. SpreadsAfter now plan d result new) (sym is) k
+pub spreads_behind : (now : TreeState) (plan : Option RelocationPlan) (done result : Result (Unit {0}) Error) (u : Unit {0}) (new : TreeState) → done ≡ Ok u → RelocatesOrFails now plan result new → RelocatesUnlessChangeFailed now plan done result new
+spreads_behind now plan done result u new is k = subst (λ d. RelocatesUnlessChangeFailed now plan d result new) (sym is) k
 
 -- ---- a move
 
-module _ (t : ThreadView) (root : ℕ) (writable : Bool) (now : TreeState) (kept : SoundUnlessFailed t root writable) (view : thread_state t writable ≡ now) (plan : Option MovePlan) (can : CanSpreadWear now plan) where
+module _ (t : ThreadView) (root : ℕ) (writable : Bool) (now : TreeState) (kept : IsSoundUnlessFailed t root writable) (view : thread_state t writable ≡ now) (plan : Option RelocationPlan) (can : CanRelocateByPlan now plan) where
   works_here : t.failed ≡ false
   works_here = ap (λ (s : TreeState). s.failed) view ∙ can.works
 
   may_here : writable ≡ true
   may_here = ap (λ (s : TreeState). s.writable) view ∙ can.writable
 
-  pub ready_here : 1024 ≤ t.kept.disk.block_size → IsReadyImage t.kept
+  pub ready_here : 1024 ≤ t.kept.disk.block_size → IsRecoveredWritableImage t.kept
   ready_here large =
       let s = (kept works_here).sound in
       record {
@@ -76,22 +76,22 @@ module _ (t : ThreadView) (root : ℕ) (writable : Bool) (now : TreeState) (kept
         large = large;
       }
 
-  pub nothing_here : 1024 ≤ t.kept.disk.block_size → LeftByLatest t.kept.history t.kept.disk.blocks → (let r : Result (Unit {0}) Error = Ok tt in SpreadsOrFails now plan r now)
+  pub nothing_here : 1024 ≤ t.kept.disk.block_size → LeftByLatestCall t.kept.history t.kept.disk.blocks → (let r : Result (Unit {0}) Error = Ok tt in RelocatesOrFails now plan r now)
   nothing_here large newest =
-      spreads_nothing now plan (subst (λ (s : TreeState). IsReadyImage (kept_thread s)) view (ready_here large)) (held_sound t root writable now kept view can.works) can.works can.writable
-      (subst (λ (s : TreeState). LeftByLatest s.history s.disk.blocks) view newest)
+      spreads_nothing now plan (subst (λ (s : TreeState). IsRecoveredWritableImage (kept_thread s)) view (ready_here large)) (held_sound t root writable now kept view can.works) can.works can.writable
+      (subst (λ (s : TreeState). LeftByLatestCall s.history s.disk.blocks) view newest)
 
-  module _ (given : MovePlan) (planned : plan ≡ Some given) where
+  module _ (given : RelocationPlan) (planned : plan ≡ Some given) where
     pub can_relocate : 1024 ≤ t.kept.disk.block_size → CanRelocate t root given
     can_relocate large = record {
       works = works_here;
       ready = ready_here large;
       root_is = (kept works_here).root_is;
-      blocks = subst (λ (s : TreeState). HasPlanBlocks s.map given) (sym view) (subst (λ p. IfSome p (HasPlanBlocks now.map)) planned can.blocks);
+      blocks = subst (λ (s : TreeState). HasDistinctPlanBlocks s.map given) (sym view) (subst (λ p. IfSome p (HasDistinctPlanBlocks now.map)) planned can.blocks);
     }
 
-    module _ (new : ThreadView) (r : Result ℕ Error) (done : IfOk r (HasRelocated t.kept given new.kept)) (told : ReportsMaking t new r) (writes : WritesThreadTwo t.kept new.kept)
-        (survives : SurvivesLossSince t.kept.disk t.kept.history new.kept.history (disk_tree t.kept.disk t.kept.pairs) (disk_tree t.kept.disk t.kept.pairs)) (newest : LeftByLatest t.kept.history t.kept.disk.blocks) where
+    module _ (new : ThreadView) (r : Result ℕ Error) (done : IfOk r (HasRelocated t.kept given new.kept)) (told : ReportsDirectoryCreation t new r) (writes : WritesThreadAndTwoFree t.kept new.kept)
+        (survives : SurvivesLossSince t.kept.disk t.kept.history new.kept.history (disk_tree t.kept.disk t.kept.pairs) (disk_tree t.kept.disk t.kept.pairs)) (newest : LeftByLatestCall t.kept.history t.kept.disk.blocks) where
       geometry : SameGeometry t.kept.disk new.kept.disk
       geometry = let s = writes.writes.shape in record { block_size = s.block_size; page = s.page; order = s.order; profile = s.profile; count = s.count }
 
@@ -99,9 +99,9 @@ module _ (t : ThreadView) (root : ℕ) (writable : Bool) (now : TreeState) (kept
       each = each_append (IsPairsOrFree t.kept) (pairs_blocks t.kept.pairs) writes.fresh (all_pairs t.kept) (each_weaker (IsFree t.kept.map) (IsPairsOrFree t.kept) (λ c f. inr f) writes.fresh writes.free)
 
       -- seen from the tree
-      pub relocated_ok : (root_now : ℕ) → r ≡ Ok root_now → (let s : Result (Unit {0}) Error = Ok tt in SpreadsOrFails now plan s (thread_state new writable))
+      pub relocated_ok : (root_now : ℕ) → r ≡ Ok root_now → (let s : Result (Unit {0}) Error = Ok tt in RelocatesOrFails now plan s (thread_state new writable))
       relocated_ok root_now is =
-          subst (λ (s : TreeState). let z : Result (Unit {0}) Error = Ok tt in SpreadsOrFails s plan z (thread_state new writable)) view (record {
+          subst (λ (s : TreeState). let z : Result (Unit {0}) Error = Ok tt in RelocatesOrFails s plan z (thread_state new writable)) view (record {
             newest = newest;
             done = record {
               works = told.failed ∙ ap is_err is;
@@ -128,13 +128,13 @@ module _ (t : ThreadView) (root : ℕ) (writable : Bool) (now : TreeState) (kept
           h : HasRelocated t.kept given new.kept root_now
           h = subst (λ z. IfOk z (HasRelocated t.kept given new.kept)) is done
 
-          spread : (new.kept ≡ t.kept) ⊎ (IsMoved t.kept.disk t.kept.pairs new.kept.disk new.kept.pairs × MovesByPlan t.kept given new.kept) → (new.kept ≡ t.kept) ⊎ HasMovedPair (thread_state t writable) plan (thread_state new writable)
+          spread : (new.kept ≡ t.kept) ⊎ (IsOnePairRelocated t.kept.disk t.kept.pairs new.kept.disk new.kept.pairs × RelocatesByPlan t.kept given new.kept) → (new.kept ≡ t.kept) ⊎ HasRelocatedWornPair (thread_state t writable) plan (thread_state new writable)
           spread (inl same) = inl same
           spread (inr m) = inr (record { given = given; planned = planned; moved = m.0; writes = m.1; few = h.few })
 
-      pub relocated_failed : (e : Error) → r ≡ Err e → (let s : Result (Unit {0}) Error = Err e in SpreadsOrFails now plan s (thread_state new writable))
+      pub relocated_failed : (e : Error) → r ≡ Err e → (let s : Result (Unit {0}) Error = Err e in RelocatesOrFails now plan s (thread_state new writable))
       relocated_failed e is =
-          subst (λ (s : TreeState). let z : Result (Unit {0}) Error = Err e in SpreadsOrFails s plan z (thread_state new writable)) view (record {
+          subst (λ (s : TreeState). let z : Result (Unit {0}) Error = Err e in RelocatesOrFails s plan z (thread_state new writable)) view (record {
             newest = newest;
             done = tt;
             broken = record { failed = told.failed ∙ ap is_err is; geometry = geometry; calls = writes.writes.at_worst.events; called = writes.writes.at_worst.extends };
@@ -147,7 +147,7 @@ module _ (t : ThreadView) (root : ℕ) (writable : Bool) (now : TreeState) (kept
           })
 
       -- the root directory begins with the pair of the returned index
-      pub relocated_held : (root_now : ℕ) → r ≡ Ok root_now → SoundUnlessFailed new root_now writable
+      pub relocated_held : (root_now : ℕ) → r ≡ Ok root_now → IsSoundUnlessFailed new root_now writable
       relocated_held root_now is works = record {
         works = works;
         sound = (let h : HasRelocated t.kept given new.kept root_now = subst (λ z. IfOk z (HasRelocated t.kept given new.kept)) is done in
@@ -155,5 +155,5 @@ module _ (t : ThreadView) (root : ℕ) (writable : Bool) (now : TreeState) (kept
         root_is = (let h : HasRelocated t.kept given new.kept root_now = subst (λ z. IfOk z (HasRelocated t.kept given new.kept)) is done in h.root_is);
       }
 
-      pub failed_held : (e : Error) → r ≡ Err e → SoundUnlessFailed new root writable
+      pub failed_held : (e : Error) → r ≡ Err e → IsSoundUnlessFailed new root writable
       failed_held e is works = absurd (let k = sym works ∙ told.failed ∙ ap is_err is in cc)

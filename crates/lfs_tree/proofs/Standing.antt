@@ -4,7 +4,7 @@ use Rattle.std.specs.Prelude.{IfOk}
 use Rattle.lfs_device.specs.declared.error.Error.{Error}
 use Rattle.lfs_device.specs.declared.device.BlockDevice.{Ghosts}
 use Rattle.lfs_device.specs.declared.geometry.Geometry.{Geometry}
-use Rattle.lfs_tree.proofs.Common.{Blocks, HasBlockSizes, BlockStates, used_count, Disk, inline_limit, HasGeometry, BelongToThread, KeptThread, HaveBytesInForm, AreSoundContents, finish_room, contents_form, ContentsForm, AreUsedAmong, contents_blocks, CanFinish, CanTruncate, CanWrite, HaveThreadForm, AreOnThread, contents_list_blocks}
+use Rattle.lfs_tree.proofs.Common.{Blocks, HasBlockSizes, BlockStates, used_count, Disk, inline_limit, HasGeometry, BelongToThread, KeptThread, HaveBytesInForm, AreSoundContents, finish_room, contents_form, ContentsForm, AreUsedAmong, contents_blocks, CanWriteRemainingDraft, CanTruncate, CanWriteToContents, HaveContentsForm, AreContentsOnDisk, contents_list_blocks}
 use Rattle.lfs_file.specs.Contents.{CanFinishContents, CanTruncateContents, CanWriteContents, HasTruncationRoom, HasWriteRoom, memory_limit}
 use Rattle.lfs_file.specs.declared.contents.WriterContents.{WriterContents}
 use Rattle.lfs_file.proofs.ContentsGeometries.{geometry_is}
@@ -26,14 +26,14 @@ module _ {D : Type 0} (g : Ghosts D) (t : KeptThread) (device : D) (map : BlockS
   pub geometry_here : (x : Geometry) → HasGeometry x t.disk → g.geometry device ≡ x
   geometry_here x of_disk = geometry_is (g.geometry device) x (size_here ∙ sym of_disk.block_size) (divided_here.page ∙ sym of_disk.page) (divided_here.profile ∙ sym of_disk.profile) (divided_here.count ∙ sym of_disk.count)
 
-  pub stands_here : (contents : WriterContents) → AreOnThread t contents → AreSoundContents map (g.blocks device) (g.geometry device) contents
+  pub stands_here : (contents : WriterContents) → AreContentsOnDisk t contents → AreSoundContents map (g.blocks device) (g.geometry device) contents
   stands_here contents is =
       subst (λ (m : BlockStates). AreSoundContents m (g.blocks device) (g.geometry device) contents) (sym shows.map)
       (subst (λ (d : Blocks). AreSoundContents t.map d (g.geometry device) contents) (sym blocks_here)
       (subst (λ (x : Geometry). AreSoundContents t.map t.disk.blocks x contents) (sym (geometry_here is.geometry is.divided)) is.stands))
 
   -- contents after a call
-  pub holds_here : (x : Geometry) (contents : WriterContents) (bytes : List ℕ) (form : ContentsForm) → x ≡ g.geometry device → HaveBytesInForm map (g.blocks device) x contents bytes form → HaveThreadForm t contents bytes form
+  pub holds_here : (x : Geometry) (contents : WriterContents) (bytes : List ℕ) (form : ContentsForm) → x ≡ g.geometry device → HaveBytesInForm map (g.blocks device) x contents bytes form → HaveContentsForm t contents bytes form
   holds_here x contents bytes form is has = record {
     geometry = g.geometry device;
     divided = divided_here;
@@ -43,7 +43,7 @@ module _ {D : Type 0} (g : Ghosts D) (t : KeptThread) (device : D) (map : BlockS
   }
 
   -- a write of the contents
-  pub write_here : (contents : WriterContents) (place count : ℕ) → CanWrite t contents place count → CanWriteContents map (g.blocks device) (g.geometry device) contents place count
+  pub write_here : (contents : WriterContents) (place count : ℕ) → CanWriteToContents t contents place count → CanWriteContents map (g.blocks device) (g.geometry device) contents place count
   write_here contents place count can = record {
     stands = stands_here contents can.stands;
     fits = subst (λ (k : ℕ). HasWriteRoom map (g.geometry device).block_size (contents_form contents) k place count) (sym limit_here)
@@ -65,7 +65,7 @@ module _ {D : Type 0} (g : Ghosts D) (t : KeptThread) (device : D) (map : BlockS
       limit = inline_limit t.disk.profile t.disk.block_size
 
   -- the end of a draft
-  pub finish_here : (contents : WriterContents) → CanFinish t contents → CanFinishContents map (g.blocks device) (g.geometry device) contents
+  pub finish_here : (contents : WriterContents) → CanWriteRemainingDraft t contents → CanFinishContents map (g.blocks device) (g.geometry device) contents
   finish_here contents can = record {
     stands = stands_here contents can.stands;
     room = subst (λ (n : ℕ). used_count map + finish_room n (contents_form contents) ≤ length map) (sym size_here)
@@ -76,11 +76,11 @@ module _ {D : Type 0} (g : Ghosts D) (t : KeptThread) (device : D) (map : BlockS
 pub holds_after : {D : Type 0} (g : Ghosts D) (old new : KeptThread) (d e : D) (m n : BlockStates) → BelongToThread g old d m → BelongToThread g new e n → HasBlockSizes (g.geometry d).block_size (g.geometry d).block_count (g.blocks d)
     → HasBlockSizes (g.geometry e).block_size (g.geometry e).block_count (g.blocks e) → g.geometry e ≡ g.geometry d → (bytes : Blocks → ℕ → List ℕ) (form : ℕ → ContentsForm) (r : Result WriterContents Error)
     → IfOk r (λ c. HaveBytesInForm n (g.blocks e) (g.geometry d) c (bytes (g.blocks d) (g.geometry d).block_size) (form (memory_limit (g.geometry d))))
-    → IfOk r (λ c. HaveThreadForm new c (bytes old.disk.blocks old.disk.block_size) (form (inline_limit old.disk.profile old.disk.block_size)))
+    → IfOk r (λ c. HaveContentsForm new c (bytes old.disk.blocks old.disk.block_size) (form (inline_limit old.disk.profile old.disk.block_size)))
 holds_after g old new d e m n before after shape later geometry bytes form (Ok c) has =
-    subst (λ (k : ℕ). HaveThreadForm new c (bytes old.disk.blocks old.disk.block_size) (form k)) (limit_here g old d m before shape)
-    (subst (λ (x : Blocks). HaveThreadForm new c (bytes x old.disk.block_size) (form (memory_limit (g.geometry d)))) (blocks_here g old d m before shape)
-    (subst (λ (k : ℕ). HaveThreadForm new c (bytes (g.blocks d) k) (form (memory_limit (g.geometry d)))) (size_here g old d m before shape)
+    subst (λ (k : ℕ). HaveContentsForm new c (bytes old.disk.blocks old.disk.block_size) (form k)) (limit_here g old d m before shape)
+    (subst (λ (x : Blocks). HaveContentsForm new c (bytes x old.disk.block_size) (form (memory_limit (g.geometry d)))) (blocks_here g old d m before shape)
+    (subst (λ (k : ℕ). HaveContentsForm new c (bytes (g.blocks d) k) (form (memory_limit (g.geometry d)))) (size_here g old d m before shape)
     (holds_here g new e n after later (g.geometry d) c (bytes (g.blocks d) (g.geometry d).block_size) (form (memory_limit (g.geometry d))) (sym geometry) has)))
 holds_after g old new d e m n before after shape later geometry bytes form (Err x) has = tt
 

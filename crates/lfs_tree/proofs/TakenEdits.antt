@@ -1,11 +1,11 @@
 -- How many blocks an operation allocates: for its edits, and in all.
 use Rattle.std.proofs.Common.{ℕ, ◌≡◌, ◌≤◌, ◌+◌, ◌*◌, ◌∙◌, inr, List, [], ◌∷◌, ◌++◌, length, Option, Some, None, refl, sym, ap, subst, arith, flat_map, length-append}
 use Rattle.std.specs.Prelude.{sum_by}
-use Rattle.lfs_tree.proofs.Common.{recursion_from_All, sum_by-append, sum_by-cons, last_name, attributes_with, attributes_without, Disk, FitsPair, IsUnreachedOrRemoved, IsLayoutRecovered, IsLayout, Name, Operation, Session, slot_of, pair_with_slots, pairs_without_moved, FitsInPair, Slot, slot_size, path_or_root, Pair, pairs_gstate, count_before_root, Node, Path, Tree, Each, each_append, each_left, each_right, IsWritable, SameGeometry, used_blocks}
+use Rattle.lfs_tree.proofs.Common.{recursion_from_All, sum_by-append, sum_by-cons, last_name, attributes_with, attributes_without, Disk, IsFittingPair, IsUnreachedOrRemoved, IsLayoutAfterRecovery, IsLayoutAfterOperation, Name, Operation, Session, slot_of_path, pair_with_slots, pairs_without_moved, FitsInPair, Slot, slot_size, path_or_root, Pair, pairs_gstate, count_before_root, Node, Path, Tree, Each, each_append, each_left, each_right, IsWritable, SameGeometry, used_blocks}
 use Rattle.lfs_model.specs.session.Operations as ops
 use Rattle.lfs_model.specs.session.SlotEdits.{RemovesSlot, AddsFile, EditsSlots, ReplacesSlots, AddsDirectory, MovesSlot, ReplacesSlot, directory_slot, file_slot}
 use Rattle.lfs_model.proofs.RawSlots.{fewer_attributes}
-use Rattle.lfs_tree.specs.KeptFiles.{operation_room}
+use Rattle.lfs_tree.specs.KeptFiles.{max_allocated_blocks}
 use Rattle.lfs_tree.proofs.TakenBlocks.{FitBut, all_few, all_fit, fit_unmoved, list_length, lists_append, lists_in, lists_of, parts_fit, some_fit, total, total_append, total_unmoved, used_total}
 
 -- ---- slots that are replaced by others
@@ -45,21 +45,21 @@ module _ (disk : Disk) (olds news : List Slot) (old new : List Pair) (s : Replac
       let d = length-append s.before (now ∷ s.after) in
       omega arith
 
-  front_fits : Each (FitsPair disk) old → Each (FitsPair disk) s.before
-  front_fits h = each_left (FitsPair disk) s.before (s.pair ∷ s.after) (subst (Each (FitsPair disk)) s.was h)
+  front_fits : Each (IsFittingPair disk) old → Each (IsFittingPair disk) s.before
+  front_fits h = each_left (IsFittingPair disk) s.before (s.pair ∷ s.after) (subst (Each (IsFittingPair disk)) s.was h)
 
-  rest_fits : Each (FitsPair disk) old → FitsPair disk s.pair × Each (FitsPair disk) s.after
-  rest_fits h = each_right (FitsPair disk) s.before (s.pair ∷ s.after) (subst (Each (FitsPair disk)) s.was h)
+  rest_fits : Each (IsFittingPair disk) old → IsFittingPair disk s.pair × Each (IsFittingPair disk) s.after
+  rest_fits h = each_right (IsFittingPair disk) s.before (s.pair ∷ s.after) (subst (Each (IsFittingPair disk)) s.was h)
 
   -- one pair may have to be split
-  pub splice_cut : Each (FitsPair disk) old → FitBut disk 1 new
+  pub splice_cut : Each (IsFittingPair disk) old → FitBut disk 1 new
   splice_cut h = subst (FitBut disk 1) (sym s.is) (some_fit disk 1 s.before (now ∷ s.after) (front_fits h) (inr (0, (refl, all_fit disk 0 s.after (rest_fits h).1))))
 
   -- or none, if the new slot is no larger
-  pub splice_fits : sum_by slot_size news ≤ sum_by slot_size olds → length news ≤ length olds → Each (FitsPair disk) old → Each (FitsPair disk) new
-  splice_fits less few h = subst (Each (FitsPair disk)) (sym s.is) (each_append (FitsPair disk) s.before (now ∷ s.after) (front_fits h) (here, (rest_fits h).1))
+  pub splice_fits : sum_by slot_size news ≤ sum_by slot_size olds → length news ≤ length olds → Each (IsFittingPair disk) old → Each (IsFittingPair disk) new
+  splice_fits less few h = subst (Each (IsFittingPair disk)) (sym s.is) (each_append (IsFittingPair disk) s.before (now ∷ s.after) (front_fits h) (here, (rest_fits h).1))
     where
-      here : FitsPair disk now
+      here : IsFittingPair disk now
       here = record {
         size = (let a = sums_was slot_size in let b = sums_now slot_size in let k = (rest_fits h).0.size in omega arith);
         count = (let a = count_was in let b = count_now in let k = (rest_fits h).0.count in omega arith);
@@ -81,7 +81,7 @@ module _ (disk : Disk) where
   abbrev size : ℕ
   size = disk.block_size
 
-  stays_drafted : (old fresh drafts : List Pair) → Each (FitsPair disk) old → (fresh ≡ []) × (drafts ≡ old) → IsDrafted disk old fresh drafts 0
+  stays_drafted : (old fresh drafts : List Pair) → Each (IsFittingPair disk) old → (fresh ≡ []) × (drafts ≡ old) → IsDrafted disk old fresh drafts 0
   stays_drafted old fresh drafts h (none, same) = record {
     cuts = 0;
     few = subst (FitBut disk 0) (sym same) (all_fit disk 0 old h);
@@ -93,7 +93,7 @@ module _ (disk : Disk) where
   more_drafted old fresh drafts n m le d = record { cuts = d.cuts; few = d.few; same = d.same; taken = (let t = d.taken in omega arith) }
 
   -- some slots are replaced by others with no more blocks
-  spliced_drafted : (old fresh drafts : List Pair) (olds news : List Slot) → Each (FitsPair disk) old → fresh ≡ [] → ReplacesSlots olds news old drafts → lists_in size news ≤ lists_in size olds → IsDrafted disk old fresh drafts 2
+  spliced_drafted : (old fresh drafts : List Pair) (olds news : List Slot) → Each (IsFittingPair disk) old → fresh ≡ [] → ReplacesSlots olds news old drafts → lists_in size news ≤ lists_in size olds → IsDrafted disk old fresh drafts 2
   spliced_drafted old fresh drafts olds news h none s le = record {
     cuts = 1;
     few = splice_cut disk olds news old drafts s h;
@@ -102,7 +102,7 @@ module _ (disk : Disk) where
   }
 
   -- and are no larger
-  shrunk_drafted : (old fresh drafts : List Pair) (olds news : List Slot) → Each (FitsPair disk) old → fresh ≡ [] → ReplacesSlots olds news old drafts → lists_in size news ≤ lists_in size olds
+  shrunk_drafted : (old fresh drafts : List Pair) (olds news : List Slot) → Each (IsFittingPair disk) old → fresh ≡ [] → ReplacesSlots olds news old drafts → lists_in size news ≤ lists_in size olds
       → sum_by slot_size news ≤ sum_by slot_size olds → length news ≤ length olds → IsDrafted disk old fresh drafts 0
   shrunk_drafted old fresh drafts olds news h none s le less few = record {
     cuts = 0;
@@ -114,11 +114,11 @@ module _ (disk : Disk) where
   one_list : (f : Slot → ℕ) (s : Slot) → sum_by f (s ∷ []) ≡ f s
   one_list f s = let e = sum_by-cons f s [] in omega arith
 
-  created : (node : Option Node) (name : Name) (old fresh drafts : List Pair) → Each (FitsPair disk) old → fresh ≡ [] → AddsFile node name old drafts → IsDrafted disk old fresh drafts 2
+  created : (node : Option Node) (name : Name) (old fresh drafts : List Pair) → Each (IsFittingPair disk) old → fresh ≡ [] → AddsFile node name old drafts → IsDrafted disk old fresh drafts 2
   created None name old fresh drafts h none s = spliced_drafted old fresh drafts [] (file_slot name ∷ []) h none s (let e = one_list (λ (x : Slot). list_length size x.struct) (file_slot name) in omega arith)
   created (Some node) name old fresh drafts h none same = more_drafted old fresh drafts 0 2 (omega arith) (stays_drafted old fresh drafts h (none, same))
 
-  made : (name : Name) (fresh old drafts : List Pair) → Each (FitsPair disk) old → AddsDirectory name fresh old drafts → IsDrafted disk old fresh drafts 4
+  made : (name : Name) (fresh old drafts : List Pair) → Each (IsFittingPair disk) old → AddsDirectory name fresh old drafts → IsDrafted disk old fresh drafts 4
   made name [] old drafts h m = absurd m
   made name (p ∷ []) old drafts h m = record {
     cuts = 1;
@@ -132,17 +132,17 @@ module _ (disk : Disk) where
   }
   made name (p ∷ q ∷ fresh) old drafts h m = absurd m
 
-  cleared : (o : Option Slot) (left rest : List Pair) → Each (FitsPair disk) left → RemovesSlot o left rest → Each (FitsPair disk) rest × ((length rest ≡ length left) × (lists_of size rest ≤ lists_of size left))
-  cleared None left rest h same = (subst (Each (FitsPair disk)) (sym same) h, (ap length same, let a = ap (lists_of size) same in omega arith))
+  cleared : (o : Option Slot) (left rest : List Pair) → Each (IsFittingPair disk) left → RemovesSlot o left rest → Each (IsFittingPair disk) rest × ((length rest ≡ length left) × (lists_of size rest ≤ lists_of size left))
+  cleared None left rest h same = (subst (Each (IsFittingPair disk)) (sym same) h, (ap length same, let a = ap (lists_of size) same in omega arith))
   cleared (Some u) left rest h s = (
     splice_fits disk (u ∷ []) [] left rest s (omega arith) (omega arith) h,
     (splice_length disk (u ∷ []) [] left rest s, let a = splice_lists disk (u ∷ []) [] left rest s in omega arith),
   )
 
-  moved : (ps : List Pair) (from to : Path) (old fresh drafts : List Pair) → Each (FitsPair disk) old → fresh ≡ [] → MovesSlot ps from to old drafts → IsDrafted disk old fresh drafts 2
+  moved : (ps : List Pair) (from to : Path) (old fresh drafts : List Pair) → Each (IsFittingPair disk) old → fresh ≡ [] → MovesSlot ps from to old drafts → IsDrafted disk old fresh drafts 2
   moved ps from to old fresh drafts h none (u, left, rest, (at, taken, clears, placed)) =
       let gone = splice_fits disk (u ∷ []) [] old left taken (omega arith) (omega arith) h in
-      let c = cleared (slot_of ps to) left rest gone clears in
+      let c = cleared (slot_of_path ps to) left rest gone clears in
       record {
         cuts = 1;
         few = splice_cut disk [] (record u { name = last_name to } ∷ []) rest drafts placed c.0;
@@ -158,7 +158,7 @@ module _ (disk : Disk) where
             omega arith);
       }
 
-  set : (ps : List Pair) (path : Path) (kind : ℕ) (bytes : List ℕ) (old fresh drafts : List Pair) → Each (FitsPair disk) old → fresh ≡ []
+  set : (ps : List Pair) (path : Path) (kind : ℕ) (bytes : List ℕ) (old fresh drafts : List Pair) → Each (IsFittingPair disk) old → fresh ≡ []
       → ReplacesSlot (λ u v. v ≡ record u { attributes = attributes_with kind bytes u.attributes }) ps path old drafts → IsDrafted disk old fresh drafts 2
   set ps path kind bytes old fresh drafts h none (u, v, (at, is, s)) = spliced_drafted old fresh drafts (u ∷ []) (v ∷ []) h none s (
       let f = λ (x : Slot). list_length size x.struct in
@@ -167,7 +167,7 @@ module _ (disk : Disk) where
       let i = ap f is in
       omega arith)
 
-  unset : (ps : List Pair) (path : Path) (kind : ℕ) (old fresh drafts : List Pair) → Each (FitsPair disk) old → fresh ≡ []
+  unset : (ps : List Pair) (path : Path) (kind : ℕ) (old fresh drafts : List Pair) → Each (IsFittingPair disk) old → fresh ≡ []
       → ReplacesSlot (λ u v. v ≡ record u { attributes = attributes_without kind u.attributes }) ps path old drafts → IsDrafted disk old fresh drafts 0
   unset ps path kind old fresh drafts h none (u, v, (at, is, s)) = shrunk_drafted old fresh drafts (u ∷ []) (v ∷ []) h none s (
       let f = λ (x : Slot). list_length size x.struct in
@@ -184,7 +184,7 @@ module _ (disk : Disk) where
   abbrev asked_in : Tree → Session
   asked_in tree = record { tree = tree; files = [] }
 
-  drafted : (new : Disk) (ps : List Pair) (tree : Tree) (op : Operation) (fresh old drafts : List Pair) → Each (FitsPair disk) old → EditsSlots new ps (asked_in tree) op fresh old drafts → IsDrafted disk old fresh drafts (operation_room op)
+  drafted : (new : Disk) (ps : List Pair) (tree : Tree) (op : Operation) (fresh old drafts : List Pair) → Each (IsFittingPair disk) old → EditsSlots new ps (asked_in tree) op fresh old drafts → IsDrafted disk old fresh drafts (max_allocated_blocks op)
   drafted new ps tree (ops.Open path flags) fresh old drafts h e = created (tree (path_or_root path)) (last_name (path_or_root path)) old fresh drafts h e.0 e.1
   drafted new ps tree (ops.Mkdir path) fresh old drafts h e = made (last_name (path_or_root path)) fresh old drafts h e
   drafted new ps tree (ops.Remove path) fresh old drafts h e = shrunk_drafted old fresh drafts (e.1 ∷ []) [] h e.0 e.2.1 (omega arith) (omega arith) (omega arith)
@@ -208,8 +208,8 @@ module _ (disk : Disk) where
 
   -- ---- the whole
 
-  module _ (new : Disk) (ps qs : List Pair) (tree : Tree) (op : Operation) (laid : IsLayout disk ps (asked_in tree) op new qs) (h : Each (FitsPair disk) ps) where
-    fit_here : Each (FitsPair disk) (pairs_without_moved ps)
+  module _ (new : Disk) (ps qs : List Pair) (tree : Tree) (op : Operation) (laid : IsLayoutAfterOperation disk ps (asked_in tree) op new qs) (h : Each (IsFittingPair disk) ps) where
+    fit_here : Each (IsFittingPair disk) (pairs_without_moved ps)
     fit_here = fit_unmoved disk (pairs_gstate ps) ps h
 
     parts_total : total size qs ≡ total size (flat_map (λ part. part) laid.parts) + total size laid.fresh
@@ -221,7 +221,7 @@ module _ (disk : Disk) where
         let e = total_append disk laid.front laid.back in
         omega arith
 
-    pub taken_laid_out : total size qs ≤ total size (pairs_without_moved ps) + operation_room op
+    pub taken_laid_out : total size qs ≤ total size (pairs_without_moved ps) + max_allocated_blocks op
     taken_laid_out =
         let d = drafted new ps tree op laid.fresh (pairs_without_moved ps) laid.drafts fit_here laid.edits in
         let few = all_few disk (IsUnreachedOrRemoved ps op) (count_before_root ps) None laid.drafts laid.parts laid.stand d.cuts d.few in
@@ -231,21 +231,21 @@ module _ (disk : Disk) where
         omega arith
 
   -- a recovery adds no pair, and cuts none
-  pub recovered_fit : (new : Disk) (ps qs : List Pair) (tree : Tree) → IsLayout disk ps (asked_in tree) ops.Recover new qs → Each (FitsPair disk) qs
+  pub recovered_fit : (new : Disk) (ps qs : List Pair) (tree : Tree) → IsLayoutAfterOperation disk ps (asked_in tree) ops.Recover new qs → Each (IsFittingPair disk) qs
   recovered_fit new ps qs tree laid =
       let parts = parts_fit disk (IsUnreachedOrRemoved ps ops.Recover) (count_before_root ps) None laid.drafts laid.parts laid.stand in
-      let joined = subst (Each (FitsPair disk)) laid.joined parts in
+      let joined = subst (Each (IsFittingPair disk)) laid.joined parts in
       let none = laid.edits.0 in
-      subst (Each (FitsPair disk)) (sym (laid.is ∙ ap (λ (z : List Pair). laid.front ++ (z ++ laid.back)) none)) joined
+      subst (Each (IsFittingPair disk)) (sym (laid.is ∙ ap (λ (z : List Pair). laid.front ++ (z ++ laid.back)) none)) joined
 
-  pub taken_arranged : (new : Disk) (ps qs : List Pair) (tree : Tree) (op : Operation) → IsLayoutRecovered disk ps (asked_in tree) op new qs → Each (FitsPair disk) ps → total size qs ≤ total size (pairs_without_moved ps) + operation_room op
+  pub taken_arranged : (new : Disk) (ps qs : List Pair) (tree : Tree) (op : Operation) → IsLayoutAfterRecovery disk ps (asked_in tree) op new qs → Each (IsFittingPair disk) ps → total size qs ≤ total size (pairs_without_moved ps) + max_allocated_blocks op
   taken_arranged new ps qs tree op a h =
       let first = taken_laid_out a.middle ps a.between tree ops.Recover a.recovery h in
       let second = taken_laid_out new a.between qs tree op a.operation (recovered_fit a.middle ps a.between tree a.recovery) in
       let between = total_unmoved disk (pairs_gstate a.between) a.between in
       omega arith
 
-pub room_taken : (disk new : Disk) (ps qs : List Pair) (tree : Tree) (op : Operation) → IsWritable disk ps → SameGeometry disk new → IsLayoutRecovered disk ps (record { tree = tree; files = [] }) op new qs → length (used_blocks new qs) ≤ length (used_blocks disk ps) + operation_room op
+pub room_taken : (disk new : Disk) (ps qs : List Pair) (tree : Tree) (op : Operation) → IsWritable disk ps → SameGeometry disk new → IsLayoutAfterRecovery disk ps (record { tree = tree; files = [] }) op new qs → length (used_blocks new qs) ≤ length (used_blocks disk ps) + max_allocated_blocks op
 room_taken disk new ps qs tree op fits geometry laid =
     let taken = taken_arranged disk new ps qs tree op laid (recursion_from_All (λ (p : Pair). FitsInPair disk.block_size disk.page p.content) ps fits.pairs) in
     let before = used_total disk ps in

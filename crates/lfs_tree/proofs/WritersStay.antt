@@ -1,7 +1,7 @@
 -- The contents of an open writer over a file that an operation keeps.
 use Rattle.std.proofs.Common.{ℕ, ◌≡◌, ◌≤◌, ◌<◌, ◌⊎◌, ⊎_elim, inl, inr, false, List, [], ◌++◌, length, get_or, slice_get, Some, refl, sym, ap, ◌∙◌, subst, arith}
 use Rattle.std.specs.Prelude.{Contains}
-use Rattle.lfs_tree.proofs.Common.{Contains-append_cases, slice_get-get_or, GrowingList, unwritten_block, growing_size_with, contents_list_blocks, Blocks, block_bytes, BlockStates, BlockState, IsFree, IsInFlight, IsUsedBlock, in_flight_count, Free, InFlight, Used, SameGeometry, blocks_to_head, block_count_for, Operation, Path, few_flying, KeepsFileAt, AreTreeContents, writer_contents_bytes, IsApplied, IsSoundState, KeepsInFlight, TreeState, without_cache, kept_thread, IsTakenNotPending, IsListOrEmpty, blocks_of_list, AreSoundContents, contents_bytes, contents_form, CanEndOver, bytes_over_base, contents_blocks}
+use Rattle.lfs_tree.proofs.Common.{Contains-append_cases, slice_get-get_or, GrowingList, unwritten_block, growing_size_with, contents_list_blocks, Blocks, block_bytes, BlockStates, BlockState, IsFree, IsInFlight, IsUsedBlock, in_flight_count, Free, InFlight, Used, SameGeometry, blocks_to_head, skip_list_block_count, Operation, Path, few_flying, KeepsFileAt, AreTreeContents, writer_contents_bytes, IsOperationApplied, IsSoundState, KeepsInFlight, TreeState, without_cache, kept_thread, IsTakenNotPending, IsListOrEmpty, blocks_of_list, AreSoundContents, contents_bytes, contents_form, CanEndOver, bytes_over_base, contents_blocks}
 use Rattle.lfs_device.specs.declared.geometry.Geometry.{Geometry}
 use Rattle.lfs_file.specs.Growing.{lasting_blocks as blocks_kept, growing_size}
 use Rattle.lfs_model.specs.layers.Keeping.{vacates_path}
@@ -61,7 +61,7 @@ stands_flying map d now (InHand hand) is =
     let few = begun_flying map d now.block_size hand.list hand.base hand.shared list.begun in
     let many = list.many in
     let e : growing_size_with now.block_size hand.list ≡ growing_size hand.list = ap (λ (k : Geometry). growing_size_with k.block_size hand.list) is.geometry in
-    let f = ap (block_count_for now.block_size) e in
+    let f = ap (skip_list_block_count now.block_size) e in
     omega arith
 
 -- ---- no block of theirs is free
@@ -155,7 +155,7 @@ module _ (old new : TreeState) (path : Path) (c : WriterContents) (over : AreTre
   pub bytes_held_stay : writer_contents_bytes (kept_thread new) c ≡ writer_contents_bytes (kept_thread old) c
   bytes_held_stay = ap (λ n. contents_bytes new.disk.blocks n c) (geometry.block_size ∙ sym over.stands.divided.block_size) ∙ still.1.1 ∙ ap (λ n. contents_bytes old.disk.blocks n c) over.stands.divided.block_size
 
-pub contents_stay : (old new : TreeState) (op : Operation) (path : Path) (c : WriterContents) → AreTreeContents old path c → IsSoundState old → IsApplied old op new → vacates_path op path ≡ false
+pub contents_stay : (old new : TreeState) (op : Operation) (path : Path) (c : WriterContents) → AreTreeContents old path c → IsSoundState old → IsOperationApplied old op new → vacates_path op path ≡ false
     → AreTreeContents new path c × (writer_contents_bytes (kept_thread new) c ≡ writer_contents_bytes (kept_thread old) c)
 contents_stay old new op path c over sound k away =
     let keeps = k.keeps path over.file away in

@@ -5,7 +5,7 @@ use Rattle.lfs_model.specs.format.Disk.{Disk, disk_block}
 use Rattle.lfs_model.specs.layers.Keeping.{struct_at}
 use Rattle.lfs_model.specs.session.Operations as ops
 use Rattle.lfs_model.specs.session.Operations.{Operation}
-use Rattle.lfs_model.specs.session.SlotEdits.{slot_of}
+use Rattle.lfs_model.specs.session.SlotEdits.{slot_of_path}
 use Rattle.lfs_model.specs.format.Slots.{Slot}
 use Rattle.lfs_model.specs.format.Thread.{Pair}
 use Rattle.lfs_model.specs.tree.Tree.{Path, Tree}
@@ -13,12 +13,12 @@ use Rattle.lfs_model.specs.tree.Shown.{all_unmoved_slots, struct_blocks, disk_tr
 use Rattle.lfs_thread.specs.Kept.{KeptThread}
 
 -- how many blocks an operation may allocate: two for a pair that is split, and two for a new directory's own pair
-abbrev pub operation_room : Operation → ℕ
-operation_room (ops.Mkdir path) = 4
-operation_room (ops.Open path flags) = 2
-operation_room (ops.Rename from to) = 2
-operation_room (ops.SetAttr path kind bytes) = 2
-operation_room _ = 0
+abbrev pub max_allocated_blocks : Operation → ℕ
+max_allocated_blocks (ops.Mkdir path) = 4
+max_allocated_blocks (ops.Open path flags) = 2
+max_allocated_blocks (ops.Rename from to) = 2
+max_allocated_blocks (ops.SetAttr path kind bytes) = 2
+max_allocated_blocks _ = 0
 
 -- the blocks of the list that a slot names
 abbrev pub slot_blocks : Disk → Option Slot → List ℕ
@@ -27,7 +27,7 @@ slot_blocks disk (Some s) = struct_blocks disk s.struct
 
 -- the blocks of the list of the file at a path
 abbrev pub list_blocks_at : KeptThread → Path → List ℕ
-list_blocks_at t path = slot_blocks t.disk (slot_of t.pairs path)
+list_blocks_at t path = slot_blocks t.disk (slot_of_path t.pairs path)
 
 -- the path still has a file with the same struct, and its list has the same blocks, with the same bytes
 pub record KeepsFileAt (old new : KeptThread) (path : Path) : Type 0 where

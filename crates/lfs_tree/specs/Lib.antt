@@ -16,7 +16,7 @@ pub mod Stores
 pub mod Orphans
 pub mod Recoveries
 pub mod TreeReads
-pub mod RenameFindings
+pub mod RenameLookup
 pub mod ThreadContents
 pub mod SettledFiles
 pub mod StructChanges

@@ -5,8 +5,8 @@ use Rattle.lfs_tree.specs.SettledFiles.{stored_list_blocks}
 use Rattle.lfs_model.specs.format.Content.{RawSlot, decoded_struct}
 use Rattle.lfs_model.specs.format.Slots.{Slot, Struct, Inline, Ctz, Branch}
 use Rattle.lfs_model.specs.tree.Shown.{used_blocks}
-use Rattle.lfs_model.specs.layers.Steps.{number_occurrences}
-use Rattle.lfs_operations.specs.Ready.{IsReadyUnsettled}
+use Rattle.lfs_model.specs.layers.Steps.{occurrence_count}
+use Rattle.lfs_operations.specs.Ready.{IsWritableBeforeMapUpdate}
 use Rattle.lfs_thread.specs.Kept.{KeptThread}
 use Rattle.lfs_file.specs.Bases.{IsListOrEmpty}
 use Rattle.lfs_file.specs.declared.stored_list.StoredList.{StoredList}
@@ -36,6 +36,6 @@ blocks_of_lists t lists = flat_map (stored_list_blocks t) lists
 
 -- The image no longer has the files of these lists. The lists are still on the disk, and their blocks still marked as used.
 pub record CanFreeLists (t : KeptThread) (lists : List StoredList) : Type 0 where
-  pub ready : IsReadyUnsettled t (blocks_of_lists t lists) []
-  pub once : (b : ℕ) → number_occurrences b (used_blocks t.disk t.pairs) + number_occurrences b (blocks_of_lists t lists) ≤ 1
+  pub ready : IsWritableBeforeMapUpdate t (blocks_of_lists t lists) []
+  pub once : (b : ℕ) → occurrence_count b (used_blocks t.disk t.pairs) + occurrence_count b (blocks_of_lists t lists) ≤ 1
   pub stand : AllByRecursion (λ list. IsListOrEmpty t.disk.blocks t.disk.block_size list.head list.size) lists

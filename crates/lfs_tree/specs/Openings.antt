@@ -3,7 +3,7 @@ use Rattle.std.specs.Prelude.{All, false}
 use Rattle.lfs_model.specs.layers.BlockSets.{IsFree}
 use Rattle.lfs_model.specs.format.Slots.{Slot, Struct}
 use Rattle.lfs_model.specs.tree.Shown.{struct_blocks}
-use Rattle.lfs_tree.specs.ThreadContents.{HaveThreadForm, contents_list_blocks}
+use Rattle.lfs_tree.specs.ThreadContents.{HaveContentsForm, contents_list_blocks}
 use Rattle.lfs_thread.specs.Kept.{KeptThread}
 use Rattle.lfs_lookup.specs.BytesAt.{IsFileAt}
 use Rattle.lfs_lookup.specs.FileBytes.{struct_file_bytes}
@@ -17,7 +17,7 @@ use Rattle.lfs_file.specs.BlockOwners.{AreUsedAmong}
 use Rattle.lfs_file.specs.declared.contents.WriterContents.{WriterContents}
 
 -- `slot` is a file's slot `held`, no block is in flight, and the blocks of the file's list aren't free
-pub record CanOpenSlot (t : KeptThread) (slot : SlotPosition) (contents : FileStorage) (held : Slot) : Type 0 where
+pub record CanOpenFileSlot (t : KeptThread) (slot : SlotPosition) (contents : FileStorage) (held : Slot) : Type 0 where
   pub file : IsFileAt t slot contents held
   pub idle : NoneInFlight t.map t.disk.blocks
   pub marked : All (λ b. ¬ (IsFree t.map b)) (struct_blocks t.disk held.struct)
@@ -28,5 +28,5 @@ opened_form (entry.List head size) = form.Finished size false
 
 -- the writer's contents are the struct's bytes, in memory or as the file's list
 pub record AreOpenedContents (t : KeptThread) (struct : Struct) (shape : ContentsForm) (contents : WriterContents) : Type 0 where
-  pub holds : HaveThreadForm t contents (struct_file_bytes t.disk struct) shape
+  pub holds : HaveContentsForm t contents (struct_file_bytes t.disk struct) shape
   pub owned : AreUsedAmong t.map (struct_blocks t.disk struct) (contents_list_blocks t contents)

@@ -4,10 +4,10 @@ use Rattle.std.specs.List.{AllByRecursion}
 use Rattle.lfs_model.specs.session.InDirectory.{IsPairAt}
 use Rattle.lfs_model.specs.format.Slots.{Struct, Inline, Ctz, Branch}
 use Rattle.lfs_model.specs.format.Thread.{Pair}
-use Rattle.lfs_model.specs.tree.Shown.{IsReachedBySome}
-use Rattle.lfs_model.specs.layers.Steps.{AnyByRecursion}
+use Rattle.lfs_model.specs.tree.Shown.{IsReachedDirectory}
+use Rattle.lfs_model.specs.layers.Steps.{HoldsForSome}
 use Rattle.lfs_lookup.specs.Items.{NamedStruct}
-use Rattle.lfs_lookup.specs.TreeWalk.{HasFirstIfDirectory}
+use Rattle.lfs_lookup.specs.TreeWalk.{HasFirstPairIfDirectory}
 
 abbrev pub IsMarkedReached : List Bool → ℕ → Type 0
 IsMarkedReached marks n = slice_get marks n ≡ Some true
@@ -18,17 +18,17 @@ unmarked_count [] = 0
 unmarked_count (b ∷ marks) = (if b then 0 else 1) + unmarked_count marks
 
 -- the pair of this index is the first one of the directory that the struct names
-abbrev pub IsStructPair : List Pair → Struct → ℕ → Type 0
-IsStructPair ps (Branch to) n = IsPairAt ps to n
-IsStructPair ps (Inline bytes) n = ⊥
-IsStructPair ps (Ctz head size) n = ⊥
+abbrev pub IsFirstPairOfStruct : List Pair → Struct → ℕ → Type 0
+IsFirstPairOfStruct ps (Branch to) n = IsPairAt ps to n
+IsFirstPairOfStruct ps (Inline bytes) n = ⊥
+IsFirstPairOfStruct ps (Ctz head size) n = ⊥
 
-abbrev pub IsNamedPair : List Pair → List NamedStruct → ℕ → Type 0
-IsNamedPair ps shapes n = AnyByRecursion (λ (s : NamedStruct). IsStructPair ps s.struct n) shapes
+abbrev pub IsFirstPairOfNamed : List Pair → List NamedStruct → ℕ → Type 0
+IsFirstPairOfNamed ps shapes n = HoldsForSome (λ (s : NamedStruct). IsFirstPairOfStruct ps s.struct n) shapes
 
 -- the named directories begin with pairs of the thread
 abbrev pub DirectoriesBegin : List Pair → List NamedStruct → Type 0
-DirectoriesBegin ps shapes = AllByRecursion (λ (s : NamedStruct). HasFirstIfDirectory ps s.struct) shapes
+DirectoriesBegin ps shapes = AllByRecursion (λ (s : NamedStruct). HasFirstPairIfDirectory ps s.struct) shapes
 
 -- The pair indices that meet `P` are marked now, and those of them that weren't marked before are queued in `pending`.
 pub record MarksAndQueues (P : ℕ → Type 0) (old : List Bool) (waiting : List ℕ) (new : List Bool) (pending : List ℕ) : Type 0 where
@@ -43,5 +43,5 @@ pub record MarksAndQueues (P : ℕ → Type 0) (old : List Bool) (waiting : List
 -- a pair is marked exactly if it is the first one of a directory that a path leads to
 pub record AreReachedMarked (ps : List Pair) (marks : List Bool) : Type 0 where
   pub len : length marks ≡ length ps
-  pub marked : (n : ℕ) (p : Pair) → slice_get ps n ≡ Some p → IsReachedBySome ps p.at → IsMarkedReached marks n
-  pub reached : (n : ℕ) (p : Pair) → slice_get ps n ≡ Some p → IsMarkedReached marks n → IsReachedBySome ps p.at
+  pub marked : (n : ℕ) (p : Pair) → slice_get ps n ≡ Some p → IsReachedDirectory ps p.at → IsMarkedReached marks n
+  pub reached : (n : ℕ) (p : Pair) → slice_get ps n ≡ Some p → IsMarkedReached marks n → IsReachedDirectory ps p.at

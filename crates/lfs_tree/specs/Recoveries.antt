@@ -11,8 +11,8 @@ use Rattle.lfs_model.specs.tree.Tree.{Path}
 use Rattle.lfs_model.specs.tree.View.{IsAccepted}
 use Rattle.lfs_model.specs.tree.Profile.{IsWritable}
 use Rattle.lfs_model.specs.tree.Shown.{disk_tree, used_blocks}
-use Rattle.lfs_model.specs.layers.Steps.{CompletesOperation, number_occurrences, HasNoMove}
-use Rattle.lfs_operations.specs.Ready.{IsReadyImage, KeepsRootNumber}
+use Rattle.lfs_model.specs.layers.Steps.{CompletesOperation, occurrence_count, HasNoMove}
+use Rattle.lfs_operations.specs.Ready.{IsRecoveredWritableImage, KeepsRootPairIndex}
 use Rattle.lfs_operations.specs.EndingMove.{KeepsRecoveryLayouts}
 use Rattle.lfs_thread.specs.Kept.{KeptThread}
 use Rattle.lfs_tree.specs.TreeChanges.{AppliesOperation}
@@ -31,11 +31,11 @@ pub record CanDropUnreached (t : KeptThread) : Type 0 where
 -- Nothing is left to recover, the tree and the files' lists are as they were, the root directory begins with the same pair, and
 -- no further block is used.
 pub record HasDroppedUnreached (old new : KeptThread) : Type 0 where
-  pub ready : IsReadyImage new
-  pub root : KeepsRootNumber old new
+  pub ready : IsRecoveredWritableImage new
+  pub root : KeepsRootPairIndex old new
   pub shows : disk_tree new.disk new.pairs ≡ disk_tree old.disk old.pairs
   pub completed : (s : Session) → s.tree ≡ disk_tree old.disk old.pairs → CompletesOperation old.disk old.pairs s ops.Recover new.disk new.pairs
-  pub fewer : (b : ℕ) → number_occurrences b (used_blocks new.disk new.pairs) ≤ number_occurrences b (used_blocks old.disk old.pairs)
+  pub fewer : (b : ℕ) → occurrence_count b (used_blocks new.disk new.pairs) ≤ occurrence_count b (used_blocks old.disk old.pairs)
   pub keeps : (path : Path) → is_file (disk_tree old.disk old.pairs path) ≡ true → KeepsFileAt old new path
   pub flight : KeepsInFlight (uncached_state old true false) (uncached_state new true false)
 

@@ -2,23 +2,23 @@
 use Rattle.std.specs.Prelude.{ℕ, ◌≡◌, ◌≤◌, ◌+◌, true, List, [], ◌∷◌, ◌++◌}
 use Rattle.lfs_tree.specs.SettledFiles.{stored_list_blocks}
 use Rattle.lfs_model.specs.declared.order.NameOrder.{NameOrder}
-use Rattle.lfs_model.specs.crash.Frame.{KeepsOthers}
+use Rattle.lfs_model.specs.crash.Frame.{KeepsUnrelatedBlocks}
 use Rattle.lfs_model.specs.session.Operations as ops
 use Rattle.lfs_model.specs.session.Session.{Session}
 use Rattle.lfs_model.specs.session.Refusals.{path_or_root}
 use Rattle.lfs_model.specs.format.Thread.{Pair}
 use Rattle.lfs_model.specs.tree.Tree.{Path}
 use Rattle.lfs_model.specs.tree.Shown.{disk_tree, used_blocks}
-use Rattle.lfs_model.specs.layers.Steps.{CompletesOperation, number_occurrences}
-use Rattle.lfs_operations.specs.Dropping.{SameInFlight}
+use Rattle.lfs_model.specs.layers.Steps.{CompletesOperation, occurrence_count}
+use Rattle.lfs_operations.specs.Dropping.{HasSameBlocksInFlight}
 use Rattle.lfs_operations.specs.Editing.{editable_slot}
-use Rattle.lfs_operations.specs.Ready.{IsReadyImage, IsReadyUnsettled, KeepsRootNumber}
+use Rattle.lfs_operations.specs.Ready.{IsRecoveredWritableImage, IsWritableBeforeMapUpdate, KeepsRootPairIndex}
 use Rattle.lfs_operations.specs.Removing.{CanRemoveIn}
 use Rattle.lfs_operations.specs.Unlinking.{CanRemoveDirectory}
 use Rattle.lfs_thread.specs.Kept.{KeptThread}
 use Rattle.lfs_tree.specs.SlotChanges.{is_entry_found}
-use Rattle.lfs_lookup.specs.Entry.{IsStorage}
-use Rattle.lfs_lookup.specs.LookupPaths.{IsPathEntry}
+use Rattle.lfs_lookup.specs.Entry.{IsStorageOfStruct}
+use Rattle.lfs_lookup.specs.LookupPaths.{IsPathLookupResult}
 use Rattle.lfs_lookup.specs.declared.entry.FileStorage.{FileStorage}
 use Rattle.lfs_lookup.specs.declared.paths.PathLookup.{PathLookup}
 use Rattle.lfs_lookup.specs.declared.paths.PathLookup.TheVariants as found
@@ -28,7 +28,7 @@ use Rattle.lfs_tree.specs.Stores.{list_in_storage}
 
 -- `found` is the result of the path's look-up, and an entry
 pub record IsFoundAt (order : NameOrder) (ps : List Pair) (path : Path) (found : PathLookup) : Type 0 where
-  pub ends : IsPathEntry order ps path found
+  pub ends : IsPathLookupResult order ps path found
   pub has : is_entry_found found ≡ true
 
 -- ---- the list of a file
@@ -36,8 +36,8 @@ pub record IsFoundAt (order : NameOrder) (ps : List Pair) (path : Path) (found :
 -- The image no longer has the file of these contents; the blocks of its list are still marked as used.
 pub record CanFreeList (t : KeptThread) (contents : FileStorage) : Type 0 where
   pub gone : List ℕ
-  pub ready : IsReadyUnsettled t gone []
-  pub once : (b : ℕ) → number_occurrences b (used_blocks t.disk t.pairs) + number_occurrences b gone ≤ 1
+  pub ready : IsWritableBeforeMapUpdate t gone []
+  pub once : (b : ℕ) → occurrence_count b (used_blocks t.disk t.pairs) + occurrence_count b gone ≤ 1
   pub list : IsListOrEmpty t.disk.blocks t.disk.block_size (list_in_storage contents).head (list_in_storage contents).size
   pub are : stored_list_blocks t (list_in_storage contents) ≡ gone
 
@@ -47,7 +47,7 @@ pub record CanFreeList (t : KeptThread) (contents : FileStorage) : Type 0 where
 pub record CanRemoveFile (t : KeptThread) (path : Path) (parent : ℕ) (slot : SlotPosition) (contents : FileStorage) : Type 0 where
   pub take : CanRemoveIn t slot.pair slot.id parent
   pub is : path ≡ take.can.path ++ take.can.name ∷ []
-  pub shows : IsStorage contents (editable_slot take.can).struct
+  pub shows : IsStorageOfStruct contents (editable_slot take.can).struct
 
 -- the directory at the path, which has no entries
 pub record CanRemoveEmpty (t : KeptThread) (path : Path) (parent : ℕ) (slot : SlotPosition) (first : ℕ) : Type 0 where
@@ -64,12 +64,12 @@ CanRemoveFound t path _ = ⊥
 -- The removal of the path is complete: the tree no longer has the entry, the other slots are in the right pairs, and the
 -- entry's blocks are free. The root directory begins with the same pair.
 pub record HasRemovedEntry (old : KeptThread) (path : Path) (new : KeptThread) : Type 0 where
-  pub ready : IsReadyImage new
-  pub flying : SameInFlight old.map new.map
-  pub root : KeepsRootNumber old new
+  pub ready : IsRecoveredWritableImage new
+  pub flying : HasSameBlocksInFlight old.map new.map
+  pub root : KeepsRootPairIndex old new
   pub completed : (s : Session) (given : List ℕ) → s.tree ≡ disk_tree old.disk old.pairs → path_or_root given ≡ path
       → CompletesOperation old.disk old.pairs s (ops.Remove given) new.disk new.pairs
 
 -- the removal didn't change the blocks of files and of pairs that it doesn't concern
-abbrev pub SparesInRemoval : KeptThread → Path → KeptThread → Type 0
-SparesInRemoval old path new = (s : Session) (given : List ℕ) → path_or_root given ≡ path → KeepsOthers old.disk old.pairs s (ops.Remove given) new.disk new.pairs
+abbrev pub RemovalKeepsUnrelatedBlocks : KeptThread → Path → KeptThread → Type 0
+RemovalKeepsUnrelatedBlocks old path new = (s : Session) (given : List ℕ) → path_or_root given ≡ path → KeepsUnrelatedBlocks old.disk old.pairs s (ops.Remove given) new.disk new.pairs

@@ -12,11 +12,11 @@ abbrev pub thread_state : ThreadView → Bool → TreeState
 thread_state t writable = record (uncached_state t.kept writable t.failed) { cache = t.cache }
 
 -- the thread hasn't failed, and is that of an accepted image, whose root directory begins with the pair of index `root`
-pub record SoundWithRoot (t : ThreadView) (root : ℕ) (writable : Bool) : Type 0 where
+pub record IsSoundWithRoot (t : ThreadView) (root : ℕ) (writable : Bool) : Type 0 where
   pub works : t.failed ≡ false
   pub sound : IsSoundState (uncached_state t.kept writable false)
   pub root_is : root ≡ count_before_root t.kept.pairs
 
 -- the same, unless the thread has failed
-abbrev pub SoundUnlessFailed : ThreadView → ℕ → Bool → Type 0
-SoundUnlessFailed t root writable = t.failed ≡ false → SoundWithRoot t root writable
+abbrev pub IsSoundUnlessFailed : ThreadView → ℕ → Bool → Type 0
+IsSoundUnlessFailed t root writable = t.failed ≡ false → IsSoundWithRoot t root writable

@@ -12,7 +12,7 @@ abbrev pub stored_list_blocks : KeptThread → StoredList → List ℕ
 stored_list_blocks t s = blocks_of_list t.disk.blocks t.disk.block_size s.head s.size
 
 -- Both lists are on the disk, or empty. None of their blocks is a pair's, and those that they share are used.
-pub record CanSettleLists (t : KeptThread) (before stored : StoredList) : Type 0 where
+pub record CanReplaceUsedList (t : KeptThread) (before stored : StoredList) : Type 0 where
   pub was : IsListOrEmpty t.disk.blocks t.disk.block_size before.head before.size
   pub list : IsListOrEmpty t.disk.blocks t.disk.block_size stored.head stored.size
   pub size : length t.map ≡ block_count t.disk
@@ -25,5 +25,5 @@ pub record ChangesOnlyMap (old new : KeptThread) : Type 0 where
   pub reads : OnlyReadsSince old.disk.blocks old.history new.history
   pub pairs : new.pairs ≡ old.pairs
 
-abbrev pub IsListSettled : KeptThread → StoredList → StoredList → KeptThread → Type 0
-IsListSettled old before stored new = SettlesList old.map new.map (stored_list_blocks old before) (stored_list_blocks old stored)
+abbrev pub IsUsedListReplaced : KeptThread → StoredList → StoredList → KeptThread → Type 0
+IsUsedListReplaced old before stored new = SettlesList old.map new.map (stored_list_blocks old before) (stored_list_blocks old stored)

@@ -7,7 +7,7 @@ use Rattle.lfs_model.specs.format.Slots.{Attributes}
 use Rattle.lfs_model.specs.session.Refusals.{is_root_path}
 use Rattle.lfs_model.specs.format.Thread.{Pair}
 use Rattle.lfs_model.specs.tree.Tree.{Path, Tree}
-use Rattle.lfs_lookup.specs.LookupPaths.{IsSlotBelow}
+use Rattle.lfs_lookup.specs.LookupPaths.{IsSlotOfChild}
 use Rattle.lfs_lookup.specs.declared.paths.PathLookup.{PathLookup}
 use Rattle.lfs_lookup.specs.declared.paths.PathLookup.TheVariants as found
 use Rattle.lfs_lookup.specs.declared.search.SlotPosition.{SlotPosition}
@@ -19,12 +19,12 @@ pub record HasPathEntry (t : Tree) (path : Path) : Type 0 where
   pub something : is_none (t path) ≡ false
 
 -- `spot` is the slot of the path, which has the path's last name
-pub record IsPathSpot (ps : List Pair) (path : Path) (spot : SlotPosition) : Type 0 where
+pub record IsSlotOfPath (ps : List Pair) (path : Path) (spot : SlotPosition) : Type 0 where
   pub above : Path
   pub name : Name
   pub first : ℕ
   pub is : path ≡ above ++ name ∷ []
-  pub stands : IsSlotBelow ps above name first spot
+  pub stands : IsSlotOfChild ps above name first spot
 
 -- the look-up found an entry
 abbrev pub is_entry_found : PathLookup → Bool
@@ -32,10 +32,10 @@ is_entry_found (found.Directory parent slot first) = true
 is_entry_found (found.File parent slot contents) = true
 is_entry_found _ = false
 
-abbrev pub IsFoundSpot : PathLookup → SlotPosition → Type 0
-IsFoundSpot (found.Directory parent slot first) spot = slot ≡ spot
-IsFoundSpot (found.File parent slot contents) spot = slot ≡ spot
-IsFoundSpot _ spot = ⊥
+abbrev pub IsFoundSlot : PathLookup → SlotPosition → Type 0
+IsFoundSlot (found.Directory parent slot first) spot = slot ≡ spot
+IsFoundSlot (found.File parent slot contents) spot = slot ≡ spot
+IsFoundSlot _ spot = ⊥
 
 -- the tree with changed attributes of the entry at the path
 abbrev pub tree_with_attributes : Path → (Attributes → Attributes) → Tree → Tree

@@ -16,20 +16,20 @@ use Rattle.lfs_file.specs.BlockOwners.{contents_blocks}
 use Rattle.lfs_file.specs.declared.contents.WriterContents.{WriterContents}
 
 -- the contents are on the disk, and their blocks aren't free in the map
-pub record AreOnThread (t : KeptThread) (contents : WriterContents) : Type 0 where
+pub record AreContentsOnDisk (t : KeptThread) (contents : WriterContents) : Type 0 where
   pub geometry : Geometry
   pub divided : HasGeometry geometry t.disk
   pub stands : AreSoundContents t.map t.disk.blocks geometry contents
 
 -- the contents are in that form, with these bytes
-pub record HaveThreadForm (t : KeptThread) (contents : WriterContents) (bytes : List ℕ) (shape : ContentsForm) : Type 0 where
+pub record HaveContentsForm (t : KeptThread) (contents : WriterContents) (bytes : List ℕ) (shape : ContentsForm) : Type 0 where
   pub geometry : Geometry
   pub divided : HasGeometry geometry t.disk
   pub has : HaveBytesInForm t.map t.disk.blocks geometry contents bytes shape
 
 -- `count` bytes may be written at offset `place` of the contents
-pub record CanWrite (t : KeptThread) (contents : WriterContents) (place count : ℕ) : Type 0 where
-  pub stands : AreOnThread t contents
+pub record CanWriteToContents (t : KeptThread) (contents : WriterContents) (place count : ℕ) : Type 0 where
+  pub stands : AreContentsOnDisk t contents
   pub fits : HasWriteRoom t.map t.disk.block_size (contents_form contents) (inline_limit t.disk.profile t.disk.block_size) place count
 
 -- The pairs are the same. Used blocks stay used and keep their bytes, also in a power loss during the call, and their
@@ -50,12 +50,12 @@ pub record ThreadReportsFaults {X : Type 0} (old new : KeptThread) (result : Res
 
 -- the contents may be truncated or extended to that size
 pub record CanTruncate (t : KeptThread) (contents : WriterContents) (size : ℕ) : Type 0 where
-  pub stands : AreOnThread t contents
+  pub stands : AreContentsOnDisk t contents
   pub fits : HasTruncationRoom t.map t.disk.block_size (contents_form contents) (inline_limit t.disk.profile t.disk.block_size) size
 
 -- the draft may be finished: all its blocks written
-pub record CanFinish (t : KeptThread) (contents : WriterContents) : Type 0 where
-  pub stands : AreOnThread t contents
+pub record CanWriteRemainingDraft (t : KeptThread) (contents : WriterContents) : Type 0 where
+  pub stands : AreContentsOnDisk t contents
   pub room : used_count t.map + finish_room t.disk.block_size (contents_form contents) ≤ length t.map
 
 -- the blocks of the contents' lists

@@ -8,7 +8,7 @@ use Rattle.lfs_model.specs.session.Refusals.{path_or_root}
 use Rattle.lfs_model.specs.tree.Tree.{DirectoryNode, FileNode, Path, Tree}
 use Rattle.lfs_model.specs.session.TreeEdits.{tree_creating, tree_removing, tree_renaming}
 use Rattle.lfs_tree.specs.SlotChanges.{tree_with_attributes}
-use Rattle.lfs_tree.specs.TreeState.{IsFailedTree, IsApplied, HasErrorCause, KeepsOthersIfRecovered, TreeState, SurvivesStops, shown_tree}
+use Rattle.lfs_tree.specs.TreeState.{IsFailedTree, IsOperationApplied, HasErrorCause, KeepsOthersIfRecovered, TreeState, PowerLossesLeaveEither, visible_tree}
 
 pub data TreeCall : Type 0 where
   Mkdir : (path : Path) → TreeCall
@@ -42,8 +42,8 @@ tree_after_call Recover t = t
 -- Either the call's operation was applied, and left alone what it doesn't concern, or the tree has failed. A power loss during
 -- the call leaves the tree from before or from after it.
 pub record AppliesCallOrFails {X : Type 0} (old : TreeState) (call : TreeCall) (result : Result X Error) (new : TreeState) : Type 0 where
-  pub done : OnOk result ((op : Operation) → IsOperationCall call op → IsApplied old op new)
+  pub done : OnOk result ((op : Operation) → IsOperationCall call op → IsOperationApplied old op new)
   pub alone : OnOk result ((op : Operation) → IsOperationCall call op → KeepsOthersIfRecovered old op new)
   pub broken : OnErr result (IsFailedTree old new)
   pub errors : IfErr result (HasErrorCause old new)
-  pub survives : SurvivesStops old new (tree_after_call call (shown_tree old))
+  pub survives : PowerLossesLeaveEither old new (tree_after_call call (visible_tree old))

@@ -6,12 +6,12 @@ use Rattle.lfs_model.specs.session.History.{CallEvent, read_count}
 use Rattle.lfs_model.specs.format.Slots.{zero_gstate}
 use Rattle.lfs_model.specs.format.Thread.{pairs_gstate}
 use Rattle.lfs_model.specs.tree.Tree.{Path}
-use Rattle.lfs_lookup.specs.CachedPairs.{AreDirectoriesRecent}
+use Rattle.lfs_lookup.specs.CachedPairs.{AreDirectoriesRecentlyUsed}
 use Rattle.lfs_tree.specs.TreeState.{TreeState}
 
 -- all pairs of the directories at these paths are cached
 abbrev pub HasCachedDirectories : TreeState → List Path → Type 0
-HasCachedDirectories t paths = AreDirectoriesRecent cache_limit t.disk t.cache t.pairs paths
+HasCachedDirectories t paths = AreDirectoriesRecentlyUsed cache_limit t.disk t.cache t.pairs paths
 
 -- At most one read was made for each pair of the directories at these paths, and none if all of them were cached.
 pub record ReadsPairsOnce (paths : List Path) (old : TreeState) (history : List CallEvent) : Type 0 where

@@ -5,13 +5,13 @@ use Rattle.lfs_device.specs.declared.error.Error.TheVariants.{Io, NoMemory, Corr
 use Rattle.lfs_model.specs.session.TreeEdits.{is_file}
 use Rattle.lfs_model.specs.layers.BlockSets.{AreUsed, BlockStates, IsInFlight, in_flight_count}
 use Rattle.lfs_model.specs.layers.Cache.{CachedBlocks}
-use Rattle.lfs_model.specs.crash.Frame.{KeepsOthers}
+use Rattle.lfs_model.specs.crash.Frame.{KeepsUnrelatedBlocks}
 use Rattle.lfs_model.specs.declared.order.NameOrder.{NameOrder}
 use Rattle.lfs_model.specs.declared.order.NameOrder.TheVariants.{LongerFirst, ShorterFirst}
-use Rattle.lfs_model.specs.format.Disk.{Disk, ordered_disk, SameGeometry, disk_block, block_count}
+use Rattle.lfs_model.specs.format.Disk.{Disk, disk_with_order, SameGeometry, disk_block, block_count}
 use Rattle.lfs_model.specs.session.History.{CallEvent, OnlyReadsSince, fault_count, read_count, is_unprogrammed_byte}
 use Rattle.lfs_model.specs.layers.Keeping.{vacates_path}
-use Rattle.lfs_model.specs.session.Moved.{IsLayoutMoved}
+use Rattle.lfs_model.specs.session.Moved.{IsLayoutAfterRelocation}
 use Rattle.lfs_model.specs.session.Operations.{Operation}
 use Rattle.lfs_model.specs.crash.PowerLoss.{SurvivesLossSince}
 use Rattle.lfs_model.specs.session.Recovery.{IsRecovered}
@@ -25,7 +25,7 @@ use Rattle.lfs_model.specs.tree.View.{IsAccepted}
 use Rattle.lfs_model.specs.tree.Profile.{IsWritable}
 use Rattle.lfs_model.specs.tree.Shown.{disk_tree, used_blocks}
 use Rattle.lfs_thread.specs.Kept.{KeptThread}
-use Rattle.lfs_tree.specs.KeptFiles.{KeepsFileAt, KeepsListBytes, operation_room}
+use Rattle.lfs_tree.specs.KeptFiles.{KeepsFileAt, KeepsListBytes, max_allocated_blocks}
 
 -- The disk, all device calls so far, the metadata pairs, the state of each block, whether the image is in the writing profile,
 -- whether the tree has failed, and which blocks are cached.
@@ -45,8 +45,8 @@ without_cache t = record t { cache = [] }
 abbrev pub kept_thread : TreeState → KeptThread
 kept_thread t = record { disk = t.disk; history = t.history; pairs = t.pairs; map = t.map }
 
-abbrev pub shown_tree : TreeState → Tree
-shown_tree t = disk_tree t.disk t.pairs
+abbrev pub visible_tree : TreeState → Tree
+visible_tree t = disk_tree t.disk t.pairs
 
 abbrev pub tree_summary : TreeState → DiskSummary
 tree_summary t = record {
@@ -101,7 +101,7 @@ pub record ReadsTreeOrFails {X : Type 0} (old : TreeState) (result : Result X Er
 
 -- The same of a mount, which also returns `Corrupt`, if the disk is accepted in neither order of names.
 pub record HasMountCause (old new : TreeState) (e : Error) : Type 0 where
-  pub errors : (e ≡ Io) ⊎ ((e ≡ NoMemory) ⊎ ((e ≡ Corrupt) × ((order : NameOrder) (ps : List Pair) → IsAccepted (ordered_disk order old.disk) ps → ⊥)))
+  pub errors : (e ≡ Io) ⊎ ((e ≡ NoMemory) ⊎ ((e ≡ Corrupt) × ((order : NameOrder) (ps : List Pair) → IsAccepted (disk_with_order order old.disk) ps → ⊥)))
   pub fault : e ≡ Io → fault_count old.history < fault_count new.history
   pub no_fault : e ≢ Io → fault_count new.history ≡ fault_count old.history
 
@@ -122,12 +122,12 @@ pub record KeepsInFlight (old new : TreeState) : Type 0 where
   pub unprogrammed_still : (b k : ℕ) → IsInFlight old.map b → is_unprogrammed_byte old.history b k ≡ true → is_unprogrammed_byte new.history b k ≡ true
 
 -- a power loss during the call leaves the tree from before the call, or `after`
-abbrev pub SurvivesStops : TreeState → TreeState → Tree → Type 0
-SurvivesStops old new after = SurvivesLossSince old.disk old.history new.history (shown_tree old) after
+abbrev pub PowerLossesLeaveEither : TreeState → TreeState → Tree → Type 0
+PowerLossesLeaveEither old new after = SurvivesLossSince old.disk old.history new.history (visible_tree old) after
 
 -- The operation was applied, no device call failed, and a worn pair may have been relocated after it. It is so whatever files
 -- are open.
-pub record IsAppliedTo (old : TreeState) (op : Operation) (new : TreeState) : Type 0 where
+pub record IsOperationAppliedWith (old : TreeState) (op : Operation) (new : TreeState) : Type 0 where
   pub works : new.failed ≡ false
   pub sound : IsSoundState new
   pub writable : new.writable ≡ true
@@ -137,22 +137,22 @@ pub record IsAppliedTo (old : TreeState) (op : Operation) (new : TreeState) : Ty
   pub no_fault : fault_count new.history ≡ fault_count old.history
   pub fits : IsWritable new.disk new.pairs
   pub recovered : IsRecovered new.pairs
-  pub shows : (around : DiskSummary) (files : OpenFilesByNumber) → shown_tree new ≡ (operation_effect around (record { tree = shown_tree old; files = files }) op).1.tree
-  pub arranged : old.history ≢ [] → (files : OpenFilesByNumber) → IsLayoutMoved old.disk old.pairs (record { tree = shown_tree old; files = files }) op calls new.disk new.pairs
+  pub shows : (around : DiskSummary) (files : OpenFilesByNumber) → visible_tree new ≡ (operation_effect around (record { tree = visible_tree old; files = files }) op).1.tree
+  pub arranged : old.history ≢ [] → (files : OpenFilesByNumber) → IsLayoutAfterRelocation old.disk old.pairs (record { tree = visible_tree old; files = files }) op calls new.disk new.pairs
   pub itself : renames_itself op ≡ true → IsUntouched old.disk calls new.disk
   pub nothing_left : is_recover op ≡ true → IsRecovered old.pairs → IsUntouched old.disk calls new.disk
   pub flight : KeepsInFlight old new
-  pub keeps : (path : Path) → is_file (shown_tree old path) ≡ true → vacates_path op path ≡ false → KeepsFileAt (kept_thread old) (kept_thread new) path
+  pub keeps : (path : Path) → is_file (visible_tree old path) ≡ true → vacates_path op path ≡ false → KeepsFileAt (kept_thread old) (kept_thread new) path
   pub lists : pairs_gstate old.pairs ≡ zero_gstate → KeepsListBytes old.disk old.pairs new.disk
-  pub taken : length (tree_summary new).used ≤ length (tree_summary old).used + operation_room op
+  pub taken : length (tree_summary new).used ≤ length (tree_summary old).used + max_allocated_blocks op
 
-abbrev pub IsApplied : TreeState → Operation → TreeState → Type 0
-IsApplied old op new = IsAppliedTo (without_cache old) op (without_cache new)
+abbrev pub IsOperationApplied : TreeState → Operation → TreeState → Type 0
+IsOperationApplied old op new = IsOperationAppliedWith (without_cache old) op (without_cache new)
 
 -- If nothing was to recover, the blocks of files keep their bytes, and so do the blocks of pairs that the operation doesn't
 -- concern.
 abbrev pub KeepsOthersIfRecovered : TreeState → Operation → TreeState → Type 0
-KeepsOthersIfRecovered old op new = pairs_gstate old.pairs ≡ zero_gstate → (files : OpenFilesByNumber) → KeepsOthers old.disk old.pairs (record { tree = shown_tree old; files = files }) op new.disk new.pairs
+KeepsOthersIfRecovered old op new = pairs_gstate old.pairs ≡ zero_gstate → (files : OpenFilesByNumber) → KeepsUnrelatedBlocks old.disk old.pairs (record { tree = visible_tree old; files = files }) op new.disk new.pairs
 
 -- A tree mounted from the disk: it hasn't failed, the disk was read and never written, no device call failed, and no block is
 -- in flight.
@@ -167,5 +167,5 @@ pub record IsMountedTree (disk : Disk) (history : List CallEvent) (t : TreeState
 
 -- The device was mounted again, in the order of names that was found. If both orders fit, it is `LongerFirst`.
 pub record IsRemountedTree (old new : TreeState) : Type 0 where
-  pub mounted : IsMountedTree (ordered_disk new.disk.order old.disk) old.history new
-  pub longer : new.disk.order ≡ ShorterFirst → (ps : List Pair) → IsAccepted (ordered_disk LongerFirst old.disk) ps → ⊥
+  pub mounted : IsMountedTree (disk_with_order new.disk.order old.disk) old.history new
+  pub longer : new.disk.order ≡ ShorterFirst → (ps : List Pair) → IsAccepted (disk_with_order LongerFirst old.disk) ps → ⊥

@@ -10,7 +10,7 @@ use Rattle.lfs_thread.specs.Kept.{KeptThread, ThreadView}
 use Rattle.lfs_tree.specs.TreeChanges.{HasThreadCause, CanChangeRecovered}
 
 -- the thread hasn't failed, and its state meets a condition
-pub record IsWorkingWhere (t : ThreadView) (Can : KeptThread → Type 0) : Type 0 where
+pub record IsWorkingAndMeets (t : ThreadView) (Can : KeptThread → Type 0) : Type 0 where
   pub works : t.failed ≡ false
   pub can : Can t.kept
 

@@ -4,7 +4,7 @@ ghost use Rattle.std.specs.Prelude.{◌≡◌, true, false};
 ghost use Rattle.lfs_tree.specs.Permissions.{CanRemoveAttr, CanSetAttr};
 ghost use Rattle.lfs_tree.specs.TreeCalls as call;
 ghost use Rattle.lfs_tree.specs.TreeChanges.{CanChangeRecovered, AppliesOrFails};
-ghost use Rattle.lfs_tree.specs.SlotChanges.{IsFoundSpot, is_entry_found};
+ghost use Rattle.lfs_tree.specs.SlotChanges.{IsFoundSlot, is_entry_found};
 ghost use Rattle.lfs_tree.specs.RootedThreads.{uncached_state};
 
 use crate::entries_at::{find_at_path, lemma_block_facts};
@@ -15,9 +15,9 @@ use lfs_thread::Thread;
 use std::alloc::Global;
 
 // Returns the slot of an entry that a look-up found.
-fn found_entry_spot(found: PathLookup) -> SlotPosition
+fn found_entry_slot(found: PathLookup) -> SlotPosition
     requires { is_entry_found found ≡ true }
-    ensures { IsFoundSpot found result }
+    ensures { IsFoundSlot found result }
 {
     match found {
         PathLookup::Directory { slot, .. } | PathLookup::File { slot, .. } => slot,
@@ -43,7 +43,7 @@ pub(crate) fn set_attr_at<D: BlockDevice>(
     path.lemma_path_bytes();
     lemma_block_facts(thread);
     let target = find_at_path(alloc, thread, root, path)?;
-    let slot = found_entry_spot(target.found);
+    let slot = found_entry_slot(target.found);
     set_attribute(alloc, thread, slot.pair, slot.id, kind, bytes)
 }
 
@@ -64,6 +64,6 @@ pub(crate) fn remove_attr_at<D: BlockDevice>(
     path.lemma_path_bytes();
     lemma_block_facts(thread);
     let target = find_at_path(alloc, thread, root, path)?;
-    let slot = found_entry_spot(target.found);
+    let slot = found_entry_slot(target.found);
     remove_attribute(alloc, thread, slot.pair, slot.id, kind)
 }

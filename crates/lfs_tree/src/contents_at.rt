@@ -5,16 +5,16 @@ ghost use Rattle.lfs_tree.specs.ThreadContents.{ThreadReportsFaults};
 ghost use Rattle.lfs_model.specs.session.TreeEdits.{tree_with_change};
 ghost use Rattle.lfs_model.specs.session.Effects.{node_with_bytes};
 ghost use Rattle.lfs_model.specs.tree.Shown.{disk_tree};
-ghost use Rattle.lfs_operations.specs.Changing.{WritesPairTwo};
+ghost use Rattle.lfs_operations.specs.Changing.{WritesPairAndTwoFree};
 ghost use Rattle.lfs_operations.specs.Storing.{HasStoredContents, tree_with_contents};
-ghost use Rattle.lfs_tree.specs.TreeChanges.{HasFurtherCalls, CanChangeRecovered, ChangesTreeOrFails, SurvivesEither};
+ghost use Rattle.lfs_tree.specs.TreeChanges.{IsLaterOnSameDevice, CanChangeRecovered, ChangesTreeOrFails, PowerLossLeavesEither};
 ghost use Rattle.lfs_tree.specs.RootedThreads.{uncached_state};
 ghost use Rattle.lfs_tree.specs.OpenContents.{CanStoreContents, writer_contents_bytes};
-ghost use Rattle.lfs_tree.specs.Stores.{CanCommitContents, CanPutContents, HasCommittedBytes, StoresInPlace, IsFoundFile, is_file_found, finished_list, list_in_storage, empty_list};
-ghost use Rattle.lfs_tree.specs.Working.{IsWorkingWhere, WorksOrReportsFault};
+ghost use Rattle.lfs_tree.specs.Stores.{CanCommitContents, CanPutContents, HasCommittedBytes, StoresBeforeRelocation, IsFoundFile, is_file_found, finished_list, list_in_storage, empty_list};
+ghost use Rattle.lfs_tree.specs.Working.{IsWorkingAndMeets, WorksOrReportsFault};
 
 use crate::entries_at::{find_at_path, lemma_block_facts};
-use crate::files::{finish_file, settle_lists};
+use crate::files::{replace_used_list, write_remaining_draft};
 use lfs_device::{BlockDevice, Error};
 use lfs_file::{StoredList, WriterContents};
 use lfs_lookup::{Path, PathLookup, SlotPosition};
@@ -32,7 +32,7 @@ struct FileSlot {
 }
 
 // Returns an empty list.
-fn list_of_nothing() -> StoredList
+fn empty_stored_list() -> StoredList
     ensures { result ≡ empty_list }
 {
     StoredList {
@@ -47,7 +47,7 @@ fn storage_list(contents: lfs_lookup::FileStorage) -> StoredList
     ensures { result ≡ list_in_storage contents }
 {
     match contents {
-        lfs_lookup::FileStorage::Inline { .. } => list_of_nothing(),
+        lfs_lookup::FileStorage::Inline { .. } => empty_stored_list(),
         lfs_lookup::FileStorage::List { head, size } => StoredList {
             head,
             size,
@@ -62,7 +62,7 @@ fn contents_list(contents: &WriterContents) -> StoredList
 {
     match contents {
         WriterContents::Finished(stored) => *stored,
-        _ => list_of_nothing(),
+        _ => empty_stored_list(),
     }
 }
 
@@ -87,13 +87,13 @@ fn put_contents<D: BlockDevice>(
     spot: SlotPosition,
     contents: &WriterContents,
 ) -> Result<(), Error>
-    requires { IsWorkingWhere thread.old (λ t. CanPutContents t spot contents.now) }
+    requires { IsWorkingAndMeets thread.old (λ t. CanPutContents t spot contents.now) }
     ensures stored { OnOk result ((can : CanPutContents thread.old.kept spot contents.now)
         → HasStoredContents thread.old.kept thread.new.kept can.can.path can.can.name (writer_contents_bytes thread.old.kept contents.now) can.come.gone can.come.come) }
     ensures works { OnOk result (thread.new.failed ≡ false) }
     ensures reports { ThreadReportsFaults thread.old.kept thread.new.kept result }
-    ensures device { WritesPairTwo thread.old.kept spot.pair thread.new.kept }
-    ensures survives { (can : CanPutContents thread.old.kept spot contents.now) → SurvivesEither thread.old.kept thread.new.kept (tree_with_contents thread.old.kept can.can.path can.can.name (writer_contents_bytes thread.old.kept contents.now)) }
+    ensures device { WritesPairAndTwoFree thread.old.kept spot.pair thread.new.kept }
+    ensures survives { (can : CanPutContents thread.old.kept spot contents.now) → PowerLossLeavesEither thread.old.kept thread.new.kept (tree_with_contents thread.old.kept can.can.path can.can.name (writer_contents_bytes thread.old.kept contents.now)) }
 {
     match contents {
         WriterContents::InMemory(list) => {
@@ -129,8 +129,8 @@ fn commit_contents_at<D: BlockDevice>(
     requires can { CanCommitContents thread.old.kept path.now contents }
     ensures done { OnOk result (HasCommittedBytes thread.old.kept path.now (writer_contents_bytes thread.old.kept contents) thread.new.kept) }
     ensures reports { WorksOrReportsFault thread.old thread.new result }
-    ensures called { HasFurtherCalls thread.old.kept thread.new.kept }
-    ensures survives { SurvivesEither thread.old.kept thread.new.kept (tree_with_change path.now (node_with_bytes (writer_contents_bytes thread.old.kept contents)) (disk_tree thread.old.kept.disk thread.old.kept.pairs)) }
+    ensures called { IsLaterOnSameDevice thread.old.kept thread.new.kept }
+    ensures survives { PowerLossLeavesEither thread.old.kept thread.new.kept (tree_with_change path.now (node_with_bytes (writer_contents_bytes thread.old.kept contents)) (disk_tree thread.old.kept.disk thread.old.kept.pairs)) }
 {
     lemma_block_facts(thread);
     // A proof needs the device's block size to see that a list has as many bytes as it says.
@@ -138,7 +138,7 @@ fn commit_contents_at<D: BlockDevice>(
     let target = find_at_path(alloc, thread, root, path)?;
     let file = found_file_slot(target.found);
     put_contents(alloc, thread, file.spot, &contents)?;
-    settle_lists(thread, file.list, contents_list(&contents))?;
+    replace_used_list(thread, file.list, contents_list(&contents))?;
     Ok(())
 }
 
@@ -154,9 +154,9 @@ pub(crate) fn store_contents_at<D: BlockDevice>(
 ) -> Result<(), Error>
     requires rests { CanChangeRecovered thread.old root }
     requires can { CanStoreContents (uncached_state thread.old.kept true false) path.now contents }
-    ensures { ChangesTreeOrFails thread.old (StoresInPlace thread.old.kept path.now (writer_contents_bytes thread.old.kept contents))
+    ensures { ChangesTreeOrFails thread.old (StoresBeforeRelocation thread.old.kept path.now (writer_contents_bytes thread.old.kept contents))
         (tree_with_change path.now (node_with_bytes (writer_contents_bytes thread.old.kept contents)) (disk_tree thread.old.kept.disk thread.old.kept.pairs)) result thread.new }
 {
-    let finished = finish_file(alloc, thread, contents)?;
+    let finished = write_remaining_draft(alloc, thread, contents)?;
     commit_contents_at(alloc, thread, root, path, finished)
 }

@@ -9,22 +9,22 @@ ghost use Rattle.lfs_model.specs.format.Thread.{pairs_gstate};
 ghost use Rattle.lfs_lookup.specs.Finds.{IsFoundNode};
 ghost use Rattle.lfs_lookup.specs.LookupReading.{ReadsOrReports};
 ghost use Rattle.lfs_tree.specs.CreationPaths.{IsCreationResult};
-ghost use Rattle.lfs_tree.specs.RootedThreads.{SoundWithRoot};
+ghost use Rattle.lfs_tree.specs.RootedThreads.{IsSoundWithRoot};
 ghost use Rattle.lfs_tree.specs.TreeChanges.{CanChangeRecovered};
-ghost use Rattle.lfs_tree.specs.TreeState.{ReadsTreeOrFails, kept_thread, shown_tree};
+ghost use Rattle.lfs_tree.specs.TreeState.{ReadsTreeOrFails, kept_thread, visible_tree};
 
-use crate::answers::mark_failed;
+use crate::answers::fail_on_error;
 use crate::entries_at::find_at_path;
-use crate::rename_paths::found_without_parent;
+use crate::rename_paths::to_visible_lookup;
 use crate::tree::Tree;
 use lfs_device::{BlockDevice, Error};
-use lfs_lookup::{FoundNode, Path, PathLookup, find_node, finding_shown};
+use lfs_lookup::{FoundNode, Path, PathLookup, find_node, node_of_lookup};
 use lfs_thread::Thread;
 use std::alloc::Global;
 
 /// The result of looking up the path of a file to be created.
 #[derive(Drop)]
-pub struct CreationFindings {
+pub struct CreationLookup {
     /// The entry at the path, if there is one.
     pub entry: FoundNode,
     /// The result to pass to [`create`](Tree::create), or None if the image must be recovered
@@ -33,12 +33,12 @@ pub struct CreationFindings {
 }
 
 // Looks up the path in an image that has nothing to recover.
-fn creation_findings<D: BlockDevice>(
+fn creation_lookup_recovered<D: BlockDevice>(
     alloc: Global,
     thread: &mut Thread<D>,
     root: usize,
     path: &Path<'_>,
-) -> Result<CreationFindings, Error>
+) -> Result<CreationLookup, Error>
     requires { CanChangeRecovered thread.old root }
     ensures found { IfOk result (λ found. IsFoundNode (disk_tree thread.old.kept.disk thread.old.kept.pairs) path.now found.entry) }
     ensures target { IfOk result (λ found. IfSome found.target (IsCreationResult thread.old.kept path.now)) }
@@ -49,40 +49,40 @@ fn creation_findings<D: BlockDevice>(
     let target = find_at_path(alloc, thread, root, path)?;
     // A proof needs the device's block size to see that a list has as many bytes as its entry says.
     let _device = thread.device();
-    Ok(CreationFindings {
-        entry: finding_shown(found_without_parent(target.found)),
+    Ok(CreationLookup {
+        entry: node_of_lookup(to_visible_lookup(target.found)),
         target: Some(target.found),
     })
 }
 
 // Looks up the path in an image that must be recovered first.
-fn unrecovered_creation_findings<D: BlockDevice>(
+fn creation_lookup_unrecovered<D: BlockDevice>(
     alloc: Global,
     thread: &mut Thread<D>,
     root: usize,
     path: &Path<'_>,
-) -> Result<CreationFindings, Error>
-    requires { SoundWithRoot thread.old root true }
+) -> Result<CreationLookup, Error>
+    requires { IsSoundWithRoot thread.old root true }
     ensures found { IfOk result (λ found. IsFoundNode (disk_tree thread.old.kept.disk thread.old.kept.pairs) path.now found.entry) }
     ensures target { IfOk result (λ found. IfSome found.target (IsCreationResult thread.old.kept path.now)) }
     ensures few { read_count thread.new.kept.history ≤ read_count thread.old.kept.history + sum_by (directory_pair_count thread.old.kept.pairs) (ancestor_paths path.now) }
     ensures reading { ReadsOrReports thread.old thread.new result }
 {
     let entry = find_node(alloc, thread, root, path)?;
-    Ok(CreationFindings {
+    Ok(CreationLookup {
         entry,
         target: None,
     })
 }
 
 // Looks up the path of a file to be created.
-fn find_creation_path<D: BlockDevice>(
+fn creation_lookup<D: BlockDevice>(
     alloc: Global,
     thread: &mut Thread<D>,
     root: usize,
     path: &Path<'_>,
-) -> Result<CreationFindings, Error>
-    requires { SoundWithRoot thread.old root true }
+) -> Result<CreationLookup, Error>
+    requires { IsSoundWithRoot thread.old root true }
     ensures found { IfOk result (λ found. IsFoundNode (disk_tree thread.old.kept.disk thread.old.kept.pairs) path.now found.entry) }
     ensures target { IfOk result (λ found. IfSome found.target (IsCreationResult thread.old.kept path.now)) }
     ensures handed_on { pairs_gstate thread.old.kept.pairs ≡ zero_gstate → IfOk result (λ found. IsSome found.target) }
@@ -91,9 +91,9 @@ fn find_creation_path<D: BlockDevice>(
 {
     let state = thread.state();
     if state.is_none() {
-        creation_findings(alloc, thread, root, path)
+        creation_lookup_recovered(alloc, thread, root, path)
     } else {
-        unrecovered_creation_findings(alloc, thread, root, path)
+        creation_lookup_unrecovered(alloc, thread, root, path)
     }
 }
 
@@ -108,17 +108,17 @@ impl<D: BlockDevice> Tree<D> {
         &mut self,
         alloc: Global,
         path: &Path<'_>,
-    ) -> Result<CreationFindings, Error>
+    ) -> Result<CreationLookup, Error>
         requires works { self.old.failed ≡ false }
         requires writable { self.old.writable ≡ true }
         ensures asks { ReadsTreeOrFails self.old result self.new }
-        ensures found { IfOk result (λ found. IsFoundNode (shown_tree self.old) path.now found.entry) }
+        ensures found { IfOk result (λ found. IsFoundNode (visible_tree self.old) path.now found.entry) }
         ensures target { IfOk result (λ found. IfSome found.target (IsCreationResult (kept_thread self.new) path.now)) }
         ensures handed_on { pairs_gstate self.old.pairs ≡ zero_gstate → IfOk result (λ found. IsSome found.target) }
         ensures few { read_count self.new.history ≤ read_count self.old.history + sum_by (directory_pair_count self.old.pairs) (ancestor_paths path.now) }
     {
-        let found = find_creation_path(alloc, &mut self.thread, self.root, path);
-        mark_failed(&mut self.thread, &found);
+        let found = creation_lookup(alloc, &mut self.thread, self.root, path);
+        fail_on_error(&mut self.thread, &found);
         found
     }
 }

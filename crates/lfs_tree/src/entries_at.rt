@@ -8,7 +8,7 @@ ghost use Rattle.lfs_model.specs.session.TreeEdits.{last_name};
 ghost use Rattle.lfs_tree.specs.Permissions.{CanCreateFile, CanMakeDirectory};
 ghost use Rattle.lfs_tree.specs.CreationPaths.{IsCreationResult};
 ghost use Rattle.lfs_tree.specs.TreeCalls as call;
-ghost use Rattle.lfs_tree.specs.TreeChanges.{CanChangeRecovered, AppliesOrFails, IsAbsentSpot, IsNamedResult, is_nothing_found};
+ghost use Rattle.lfs_tree.specs.TreeChanges.{CanChangeRecovered, AppliesOrFails, IsMissingNameSlot, IsLookupWithName, is_nothing_found};
 ghost use Rattle.lfs_tree.specs.RootedThreads.{uncached_state};
 ghost use Rattle.lfs_lookup.specs.LookupReading.{ReadsOrReports};
 
@@ -37,9 +37,9 @@ pub(crate) fn last_name_of<'a>(names: &[&'a [u8]]) -> &'a [u8]
 }
 
 // Returns the pair index and the id at which an entry with the missing name belongs.
-fn missing_name_spot(found: PathLookup) -> SlotPosition
+fn insertion_slot(found: PathLookup) -> SlotPosition
     requires { is_nothing_found found ≡ true }
-    ensures { IsAbsentSpot found result }
+    ensures { IsMissingNameSlot found result }
 {
     match found {
         PathLookup::Nothing { place, .. } => place,
@@ -62,7 +62,7 @@ pub(crate) fn find_at_path<'a, D: BlockDevice>(
     path: &Path<'a>,
 ) -> Result<FoundAtPath<'a>, Error>
     requires { CanChangeRecovered thread.old root }
-    ensures target { IfOk result (λ target. IsNamedResult thread.old.kept path.now target.found target.name.now) }
+    ensures target { IfOk result (λ target. IsLookupWithName thread.old.kept path.now target.found target.name.now) }
     ensures few { read_count thread.new.kept.history ≤ read_count thread.old.kept.history + sum_by (directory_pair_count thread.old.kept.pairs) (ancestor_paths path.now) }
     ensures reading { ReadsOrReports thread.old thread.new result }
 {
@@ -76,7 +76,7 @@ pub(crate) fn find_at_path<'a, D: BlockDevice>(
 
 // Returns the result of looking up a path, and the path's last name. Looks up the path unless
 // `known` has the result.
-fn find_unless_known<'a, D: BlockDevice>(
+fn lookup_unless_known<'a, D: BlockDevice>(
     alloc: Global,
     thread: &mut Thread<D>,
     root: usize,
@@ -85,7 +85,7 @@ fn find_unless_known<'a, D: BlockDevice>(
 ) -> Result<FoundAtPath<'a>, Error>
     requires rests { CanChangeRecovered thread.old root }
     requires known { IfSome known (IsCreationResult thread.old.kept path.now) }
-    ensures target { IfOk result (λ target. IsNamedResult thread.old.kept path.now target.found target.name.now) }
+    ensures target { IfOk result (λ target. IsLookupWithName thread.old.kept path.now target.found target.name.now) }
     ensures unread { IsSome known → read_count thread.new.kept.history ≡ read_count thread.old.kept.history }
     ensures reading { ReadsOrReports thread.old thread.new result }
 {
@@ -119,8 +119,8 @@ pub(crate) fn create_empty_file<D: BlockDevice>(
     path.lemma_path_bytes();
     path.lemma_valid_names();
     lemma_block_facts(thread);
-    let target = find_unless_known(alloc, thread, root, path, known)?;
-    let place = missing_name_spot(target.found);
+    let target = lookup_unless_known(alloc, thread, root, path, known)?;
+    let place = insertion_slot(target.found);
     create_file(alloc, thread, place.pair, place.id, target.name)
 }
 
@@ -141,6 +141,6 @@ pub(crate) fn make_directory_at<D: BlockDevice>(
     path.lemma_valid_names();
     lemma_block_facts(thread);
     let target = find_at_path(alloc, thread, root, path)?;
-    let place = missing_name_spot(target.found);
+    let place = insertion_slot(target.found);
     make_directory(alloc, thread, place.pair, place.id, target.name)
 }

@@ -3,12 +3,12 @@
 ghost use Rattle.std.specs.Prelude.{◌≡◌, ◌≤◌, ◌+◌, [], false, IfErr, IfOk, OnOk};
 ghost use Rattle.lfs_device.specs.DeviceCalls.{ChangesTheseBlocks, ReportsFaults};
 ghost use Rattle.lfs_model.specs.session.History.{erase_count};
-ghost use Rattle.lfs_model.specs.format.Thread.{anchor_address, address_blocks};
+ghost use Rattle.lfs_model.specs.format.Thread.{superblock_pair_address, address_blocks};
 ghost use Rattle.lfs_pair.specs.ChangeView.{changes_view};
 ghost use Rattle.lfs_pair.specs.FreshPair.{IsWriteError};
 ghost use Rattle.lfs_thread.specs.Kept.{disk_of_device, kept_in_order};
 ghost use Rattle.lfs_thread.specs.ThreadSteps.{ChangesThreadBlocks};
-ghost use Rattle.lfs_tree.specs.Formats.{IsFormatError, ErasesTwo, IsFormattedMap, IsRootHeader, IsRootThread, IsFormatted, IsEmptyWritable, superblock_slot_changes};
+ghost use Rattle.lfs_tree.specs.Formats.{IsFormatError, ErasesTwoBlocks, IsFormattedMap, IsRootHeader, IsRootThread, IsFreshlyFormatted, IsEmptyWritable, superblock_slot_changes};
 
 use lfs_blocks::{BlockMap, Cache};
 use lfs_device::{BlockDevice, Error};
@@ -45,7 +45,7 @@ fn write_root_pair<D: BlockDevice>(alloc: Global, device: &mut D) -> Result<Pair
     ensures root { IfOk result (λ pair. IsRootHeader (disk_of_device D.BlockDevice device.new) (D.history device.new) pair) }
     ensures erases { OnOk result (erase_count (D.history device.new) ≡ erase_count (D.history device.old) + 2) }
     ensures error { IfErr result (λ e. IsWriteError device.old device.new e) }
-    ensures device { ChangesTheseBlocks D.BlockDevice (address_blocks anchor_address) device.old device.new }
+    ensures device { ChangesTheseBlocks D.BlockDevice (address_blocks superblock_pair_address) device.old device.new }
     ensures faults { ReportsFaults D.BlockDevice device.old device.new result }
 {
     let geometry = device.geometry();
@@ -65,7 +65,7 @@ fn write_root_thread<D: BlockDevice>(
     ensures root { OnOk result (IsRootThread (disk_of_device D.BlockDevice device.new) (D.history device.new) pairs.new.items) }
     ensures erases { OnOk result (erase_count (D.history device.new) ≡ erase_count (D.history device.old) + 2) }
     ensures error { IfErr result (λ e. IsWriteError device.old device.new e) }
-    ensures device { ChangesTheseBlocks D.BlockDevice (address_blocks anchor_address) device.old device.new }
+    ensures device { ChangesTheseBlocks D.BlockDevice (address_blocks superblock_pair_address) device.old device.new }
     ensures faults { ReportsFaults D.BlockDevice device.old device.new result }
 {
     // Allocate memory for the header before anything is written.
@@ -109,11 +109,11 @@ pub fn format<D: BlockDevice>(
     order: NameOrder,
 ) -> Result<Thread<D>, (D, Error)>
     ensures works { IfOk result (λ t. t.failed ≡ false) }
-    ensures formatted { IfOk result (λ t. IsFormatted t.kept) }
+    ensures formatted { IfOk result (λ t. IsFreshlyFormatted t.kept) }
     ensures shows { IfOk result (λ t. IsEmptyWritable t.kept) }
-    ensures writes { IfOk result (λ t. ChangesThreadBlocks (address_blocks anchor_address) (kept_in_order D.BlockDevice order device [] []) t.kept) }
-    ensures calls { IfOk result (λ t. ErasesTwo (D.history device) t.kept.history) }
-    ensures back { IfErr result (λ e. IsFormatError D.BlockDevice (address_blocks anchor_address) device e.0 e.1) }
+    ensures writes { IfOk result (λ t. ChangesThreadBlocks (address_blocks superblock_pair_address) (kept_in_order D.BlockDevice order device [] []) t.kept) }
+    ensures calls { IfOk result (λ t. ErasesTwoBlocks (D.history device) t.kept.history) }
+    ensures back { IfErr result (λ e. IsFormatError D.BlockDevice (address_blocks superblock_pair_address) device e.0 e.1) }
 {
     let block_count = device.geometry().block_count;
     let mut pairs = Vec::new(alloc);

@@ -24,8 +24,8 @@ mod tree;
 mod wear;
 mod writers;
 
-pub use creation_paths::CreationFindings;
+pub use creation_paths::CreationLookup;
 pub use formats::format;
 pub use laws::{lemma_contents_stay, lemma_few_blocks};
-pub use rename_paths::{RenameFindings, RenameTargets};
+pub use rename_paths::{RenameLookup, RenameTargets};
 pub use tree::Tree;

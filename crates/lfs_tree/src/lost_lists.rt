@@ -4,21 +4,21 @@ ghost use Rattle.std.specs.Prelude.{◌≡◌, ◌++◌, ◌<◌, IfErr, IfOk, O
 ghost use Rattle.std.specs.Option.{option_to_list};
 ghost use Rattle.lfs_tree.specs.SettledFiles.{ChangesOnlyMap};
 ghost use Rattle.lfs_tree.specs.ThreadContents.{ThreadReportsFaults};
-ghost use Rattle.lfs_model.specs.layers.LoggedContent.{IsFormedSlot, AreWellFormed};
+ghost use Rattle.lfs_model.specs.layers.LoggedContent.{IsWellFormedSlot, AreWellFormed};
 ghost use Rattle.lfs_model.specs.format.Slots.{PairContent as ModelContent};
-ghost use Rattle.lfs_operations.specs.Dropping.{SameInFlight};
-ghost use Rattle.lfs_operations.specs.Ready.{IsReadyImage};
-ghost use Rattle.lfs_operations.specs.Recovering.{numbered_slots};
+ghost use Rattle.lfs_operations.specs.Dropping.{HasSameBlocksInFlight};
+ghost use Rattle.lfs_operations.specs.Ready.{IsRecoveredWritableImage};
+ghost use Rattle.lfs_operations.specs.Recovering.{slots_of_pairs_at};
 ghost use Rattle.lfs_model.specs.layers.StepResults.{AreUnreachedNumbers};
 ghost use Rattle.lfs_tag.specs.ContentView.{slot_view};
 ghost use Rattle.lfs_thread.specs.CachedLog.{IsContentLog};
 ghost use Rattle.lfs_thread.specs.ThreadSteps.{thread_pair};
 ghost use Rattle.lfs_tree.specs.LostLists.{CanFreeLists, raw_struct_lists, slots_lists, raw_slots_lists};
 ghost use Rattle.lfs_lookup.specs.LookupReading.{ReadsOrReports};
-ghost use Rattle.lfs_lookup.specs.NameSearch.{HasCompleteLog};
-ghost use Rattle.lfs_tree.specs.Working.{IsWorkingWhere};
+ghost use Rattle.lfs_lookup.specs.NameSearch.{EachSlotHasStruct};
+ghost use Rattle.lfs_tree.specs.Working.{IsWorkingAndMeets};
 
-use crate::files::settle_lists;
+use crate::files::replace_used_list;
 use lfs_device::{BlockDevice, Error};
 use lfs_file::{StoredList, lemma_settled_map};
 use lfs_lookup::{FileOrDirectory, FileStorage, entry_of_struct};
@@ -27,8 +27,8 @@ use lfs_thread::Thread;
 use std::alloc::{AllocError, Global};
 
 // Returns the CTZ skip-list that a slot refers to, if it refers to one.
-fn list_named_by(slot: &Slot<'_>) -> Option<StoredList>
-    requires { IsFormedSlot (slot_view slot.now) }
+fn list_of_file(slot: &Slot<'_>) -> Option<StoredList>
+    requires { IsWellFormedSlot (slot_view slot.now) }
     ensures { option_to_list result ≡ raw_struct_lists (slot_view slot.now).struct }
 {
     let Some(structure) = slot.structure else {
@@ -50,7 +50,7 @@ fn push_slot_lists(lists: &mut Vec<StoredList>, slots: &[Slot<'_>]) -> Result<()
     ensures { OnOk result (lists.new.items ≡ lists.old.items ++ raw_slots_lists (map slot_view slots.now)) }
 {
     for slot in slots {
-        if let Some(list) = list_named_by(slot) {
+        if let Some(list) = list_of_file(slot) {
             lists.push(list)?;
         }
     }
@@ -59,7 +59,7 @@ fn push_slot_lists(lists: &mut Vec<StoredList>, slots: &[Slot<'_>]) -> Result<()
 
 // Appends the lists that the slots of a log refer to.
 fn push_log_lists(alloc: Global, lists: &mut Vec<StoredList>, log: &Log<'_>) -> Result<(), Error>
-    requires { HasCompleteLog log.now }
+    requires { EachSlotHasStruct log.now }
     ensures lists { (content : ModelContent) → IsContentLog log.now content → OnOk result (lists.new.items ≡ lists.old.items ++ slots_lists content.slots) }
     ensures errors { IfErr result (λ e. e ≡ Error.NoMemory) }
 {
@@ -94,7 +94,7 @@ pub(crate) fn lists_of_pairs<D: BlockDevice>(
 ) -> Result<Vec<StoredList>, Error>
     requires works { thread.old.failed ≡ false }
     requires unreached { AreUnreachedNumbers thread.old.kept.pairs numbers.now }
-    ensures lists { IfOk result (λ lists. lists.items ≡ slots_lists (numbered_slots thread.old.kept.pairs numbers.now)) }
+    ensures lists { IfOk result (λ lists. lists.items ≡ slots_lists (slots_of_pairs_at thread.old.kept.pairs numbers.now)) }
     ensures reading { ReadsOrReports thread.old thread.new result }
 {
     let mut lists = Vec::new(alloc);
@@ -112,9 +112,9 @@ pub(crate) fn free_lists<D: BlockDevice>(
     thread: &mut Thread<D>,
     lists: &[StoredList],
 ) -> Result<(), Error>
-    requires { IsWorkingWhere thread.old (λ t. CanFreeLists t lists.now) }
-    ensures ready { OnOk result (IsReadyImage thread.new.kept) }
-    ensures flying { OnOk result (SameInFlight thread.old.kept.map thread.new.kept.map) }
+    requires { IsWorkingAndMeets thread.old (λ t. CanFreeLists t lists.now) }
+    ensures ready { OnOk result (IsRecoveredWritableImage thread.new.kept) }
+    ensures flying { OnOk result (HasSameBlocksInFlight thread.old.kept.map thread.new.kept.map) }
     ensures only { ChangesOnlyMap thread.old.kept thread.new.kept }
     ensures failed { thread.new.failed ≡ is_err result }
     ensures reports { ThreadReportsFaults thread.old.kept thread.new.kept result }
@@ -126,7 +126,7 @@ pub(crate) fn free_lists<D: BlockDevice>(
         in_flight: false,
     };
     for list in lists {
-        settle_lists(thread, *list, nothing)?;
+        replace_used_list(thread, *list, nothing)?;
     }
     Ok(())
 }

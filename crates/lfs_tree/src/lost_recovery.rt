@@ -4,13 +4,13 @@ ghost use Rattle.std.specs.Prelude.{◌≡◌, true, OnOk};
 ghost use Rattle.lfs_model.specs.format.Slots.{zero_gstate};
 ghost use Rattle.lfs_model.specs.format.Thread.{pairs_blocks, pairs_gstate, count_before_root};
 ghost use Rattle.lfs_model.specs.tree.Shown.{disk_tree};
-ghost use Rattle.lfs_operations.specs.Recovering.{CanDropPairs, numbered_slots};
+ghost use Rattle.lfs_operations.specs.Recovering.{CanDropPairs, slots_of_pairs_at};
 ghost use Rattle.lfs_thread.specs.ThreadSteps.{ChangesThreadBlocks};
-ghost use Rattle.lfs_tree.specs.TreeChanges.{HasFurtherCalls, ChangesTreeOrFails, SurvivesEither};
-ghost use Rattle.lfs_tree.specs.RootedThreads.{SoundWithRoot};
+ghost use Rattle.lfs_tree.specs.TreeChanges.{IsLaterOnSameDevice, ChangesTreeOrFails, PowerLossLeavesEither};
+ghost use Rattle.lfs_tree.specs.RootedThreads.{IsSoundWithRoot};
 ghost use Rattle.lfs_tree.specs.LostLists.{slots_lists};
 ghost use Rattle.lfs_tree.specs.Recoveries.{CanDropUnreached, HasDroppedUnreached, HasRecovered};
-ghost use Rattle.lfs_tree.specs.Working.{IsWorkingWhere, WorksOrReportsFault};
+ghost use Rattle.lfs_tree.specs.Working.{IsWorkingAndMeets, WorksOrReportsFault};
 
 use crate::entries_at::lemma_block_facts;
 use crate::lost_lists::{free_lists, lists_of_pairs};
@@ -31,12 +31,12 @@ fn drop_with_lists<D: BlockDevice>(
     numbers: &[usize],
     lists: &[StoredList],
 ) -> Result<(), Error>
-    requires can { IsWorkingWhere thread.old (λ t. CanDropPairs t numbers.now) }
-    requires lists { lists.now ≡ slots_lists (numbered_slots thread.old.kept.pairs numbers.now) }
+    requires can { IsWorkingAndMeets thread.old (λ t. CanDropPairs t numbers.now) }
+    requires lists { lists.now ≡ slots_lists (slots_of_pairs_at thread.old.kept.pairs numbers.now) }
     ensures dropped { OnOk result (HasDroppedUnreached thread.old.kept thread.new.kept) }
     ensures reports { WorksOrReportsFault thread.old thread.new result }
     ensures device { ChangesThreadBlocks (pairs_blocks thread.old.kept.pairs) thread.old.kept thread.new.kept }
-    ensures survives { SurvivesEither thread.old.kept thread.new.kept (disk_tree thread.old.kept.disk thread.old.kept.pairs) }
+    ensures survives { PowerLossLeavesEither thread.old.kept thread.new.kept (disk_tree thread.old.kept.disk thread.old.kept.pairs) }
 {
     drop_unreached_pairs(alloc, thread, numbers)?;
     free_lists(thread, lists)?;
@@ -52,12 +52,12 @@ fn drop_unreached_directories<D: BlockDevice>(
     thread: &mut Thread<D>,
     root: usize,
 ) -> Result<(), Error>
-    requires can { IsWorkingWhere thread.old CanDropUnreached }
+    requires can { IsWorkingAndMeets thread.old CanDropUnreached }
     requires root { root ≡ count_before_root thread.old.kept.pairs }
     ensures dropped { OnOk result (HasDroppedUnreached thread.old.kept thread.new.kept) }
     ensures reports { WorksOrReportsFault thread.old thread.new result }
-    ensures called { HasFurtherCalls thread.old.kept thread.new.kept }
-    ensures survives { SurvivesEither thread.old.kept thread.new.kept (disk_tree thread.old.kept.disk thread.old.kept.pairs) }
+    ensures called { IsLaterOnSameDevice thread.old.kept thread.new.kept }
+    ensures survives { PowerLossLeavesEither thread.old.kept thread.new.kept (disk_tree thread.old.kept.disk thread.old.kept.pairs) }
 {
     lemma_block_facts(thread);
     let numbers = find_unreached_pairs(alloc, thread, root)?;
@@ -75,7 +75,7 @@ pub(crate) fn recover_thread<D: BlockDevice>(
     thread: &mut Thread<D>,
     root: usize,
 ) -> Result<(), Error>
-    requires rooted { SoundWithRoot thread.old root true }
+    requires rooted { IsSoundWithRoot thread.old root true }
     requires left { pairs_gstate thread.old.kept.pairs ≡ zero_gstate → ⊥ }
     ensures { ChangesTreeOrFails thread.old (HasRecovered thread.old.kept) (disk_tree thread.old.kept.disk thread.old.kept.pairs) result thread.new }
 {

@@ -6,7 +6,7 @@ ghost use Rattle.lfs_model.specs.format.Slots.{Inline, Slot};
 ghost use Rattle.lfs_model.specs.tree.Shown.{disk_tree};
 ghost use Rattle.lfs_thread.specs.Beside.{HasGeometry};
 ghost use Rattle.lfs_tree.specs.OpenContents.{IsOpenedForm, AreThreadContents, writer_contents_bytes};
-ghost use Rattle.lfs_tree.specs.Openings.{CanOpenSlot, AreOpenedContents, opened_form};
+ghost use Rattle.lfs_tree.specs.Openings.{CanOpenFileSlot, AreOpenedContents, opened_form};
 ghost use Rattle.lfs_lookup.specs.LookupReading.{ReadsOrReports};
 ghost use Rattle.lfs_lookup.specs.declared.entry.FileStorage.TheVariants as entry_contents;
 ghost use Rattle.lfs_lookup.specs.declared.search.SlotPosition.{SlotPosition as SpotSeen};
@@ -36,8 +36,8 @@ fn open_inline_contents<D: BlockDevice>(
     len: usize,
 ) -> Result<WriterContents, Error>
     requires works { thread.old.failed ≡ false }
-    requires can { (held : Slot) × CanOpenSlot thread.old.kept slot (entry_contents.Inline len) held }
-    ensures opened { (held : Slot) → CanOpenSlot thread.old.kept slot (entry_contents.Inline len) held → IfOk result (AreOpenedContents thread.new.kept held.struct (opened_form (entry_contents.Inline len))) }
+    requires can { (held : Slot) × CanOpenFileSlot thread.old.kept slot (entry_contents.Inline len) held }
+    ensures opened { (held : Slot) → CanOpenFileSlot thread.old.kept slot (entry_contents.Inline len) held → IfOk result (AreOpenedContents thread.new.kept held.struct (opened_form (entry_contents.Inline len))) }
     ensures reading { ReadsOrReports thread.old thread.new result }
 {
     let geometry = geometry_of(thread);
@@ -47,7 +47,7 @@ fn open_inline_contents<D: BlockDevice>(
 
 // Returns contents that consist of the stored CTZ skip-list with this head and size.
 fn open_list_contents<D: BlockDevice>(thread: &Thread<D>, head: u32, size: u32) -> WriterContents
-    ensures { (slot : SpotSeen) (held : Slot) → CanOpenSlot thread.now.kept slot (entry_contents.List head size) held → AreOpenedContents thread.now.kept held.struct (opened_form (entry_contents.List head size)) result }
+    ensures { (slot : SpotSeen) (held : Slot) → CanOpenFileSlot thread.now.kept slot (entry_contents.List head size) held → AreOpenedContents thread.now.kept held.struct (opened_form (entry_contents.List head size)) result }
 {
     // A proof needs the device's block size.
     let _geometry = geometry_of(thread);
@@ -66,8 +66,8 @@ fn open_contents<D: BlockDevice>(
     contents: lfs_lookup::FileStorage,
 ) -> Result<WriterContents, Error>
     requires works { thread.old.failed ≡ false }
-    requires can { (held : Slot) × CanOpenSlot thread.old.kept slot contents held }
-    ensures opened { (held : Slot) → CanOpenSlot thread.old.kept slot contents held → IfOk result (AreOpenedContents thread.new.kept held.struct (opened_form contents)) }
+    requires can { (held : Slot) × CanOpenFileSlot thread.old.kept slot contents held }
+    ensures opened { (held : Slot) → CanOpenFileSlot thread.old.kept slot contents held → IfOk result (AreOpenedContents thread.new.kept held.struct (opened_form contents)) }
     ensures reading { ReadsOrReports thread.old thread.new result }
 {
     match contents {
@@ -100,7 +100,7 @@ pub(crate) fn open_contents_at<D: BlockDevice>(
 }
 
 // Returns empty contents.
-pub(crate) fn contents_of_nothing<D: BlockDevice>(
+pub(crate) fn empty_writer_contents<D: BlockDevice>(
     alloc: Global,
     thread: &Thread<D>,
 ) -> Result<WriterContents, Error>

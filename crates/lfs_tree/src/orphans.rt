@@ -5,10 +5,10 @@ ghost use Rattle.lfs_model.specs.format.Thread.{count_before_root};
 ghost use Rattle.lfs_model.specs.tree.View.{IsAccepted};
 ghost use Rattle.lfs_model.specs.layers.StepResults.{AreUnreachedNumbers};
 ghost use Rattle.lfs_lookup.specs.Items.{item_view, items_view};
-ghost use Rattle.lfs_lookup.specs.ProfileChecks.{follows_tail_at};
+ghost use Rattle.lfs_lookup.specs.ProfileChecks.{follows_hard_tail_at};
 ghost use Rattle.lfs_lookup.specs.LookupReading.{ReadsOrReports};
-ghost use Rattle.lfs_tree.specs.Orphans.{DirectoriesBegin, AreReachedMarked, MarksAndQueues, IsStructPair, IsNamedPair};
-ghost use Rattle.lfs_lookup.specs.TreeWalk.{HasFirstIfDirectory};
+ghost use Rattle.lfs_tree.specs.Orphans.{DirectoriesBegin, AreReachedMarked, MarksAndQueues, IsFirstPairOfStruct, IsFirstPairOfNamed};
+ghost use Rattle.lfs_lookup.specs.TreeWalk.{HasFirstPairIfDirectory};
 
 use lfs_device::{BlockDevice, Error};
 use lfs_lookup::{NameAndOwnedStruct, OwnedStruct, directory_items, follows_hard_tail};
@@ -47,9 +47,9 @@ fn mark_directory<D: BlockDevice>(
     pending: &mut Vec<usize>,
 ) -> Result<(), AllocError>
     requires accepted { IsAccepted thread.now.kept.disk thread.now.kept.pairs }
-    requires begins { HasFirstIfDirectory thread.now.kept.pairs (item_view item.now).struct }
+    requires begins { HasFirstPairIfDirectory thread.now.kept.pairs (item_view item.now).struct }
     requires len { length marks.old.items ≡ length thread.now.kept.pairs }
-    ensures { OnOk result (MarksAndQueues (IsStructPair thread.now.kept.pairs (item_view item.now).struct) marks.old.items pending.old.items marks.new.items pending.new.items) }
+    ensures { OnOk result (MarksAndQueues (IsFirstPairOfStruct thread.now.kept.pairs (item_view item.now).struct) marks.old.items pending.old.items marks.new.items pending.new.items) }
 {
     if let OwnedStruct::Branch(to) = item.structure {
         let number = number_at_address(thread, to).unwrap();
@@ -68,7 +68,7 @@ fn mark_directories<D: BlockDevice>(
     requires accepted { IsAccepted thread.now.kept.disk thread.now.kept.pairs }
     requires begin { DirectoriesBegin thread.now.kept.pairs (items_view items.items) }
     requires len { length marks.old.items ≡ length thread.now.kept.pairs }
-    ensures { OnOk result (MarksAndQueues (IsNamedPair thread.now.kept.pairs (items_view items.items)) marks.old.items pending.old.items marks.new.items pending.new.items) }
+    ensures { OnOk result (MarksAndQueues (IsFirstPairOfNamed thread.now.kept.pairs (items_view items.items)) marks.old.items pending.old.items marks.new.items pending.new.items) }
 {
     while let Some(item) = items.pop() {
         mark_directory(thread, &item, marks, pending)?;
@@ -102,7 +102,7 @@ fn mark_reached_directories<D: BlockDevice>(
 
 // Returns whether a path leads to the directory of the pair `index`. If a hard tail refers to the
 // pair, the result is `before`, the result for the pair before it.
-fn continues_reached<D: BlockDevice>(
+fn is_pair_reached<D: BlockDevice>(
     thread: &Thread<D>,
     root: usize,
     marks: &[bool],
@@ -112,7 +112,7 @@ fn continues_reached<D: BlockDevice>(
     requires works { thread.now.failed ≡ false }
     requires below { index < length thread.now.kept.pairs }
     requires len { length marks.now ≡ length thread.now.kept.pairs }
-    ensures { result ≡ (if follows_tail_at root thread.now.kept.pairs index then before else slice_index_or marks.now index false) }
+    ensures { result ≡ (if follows_hard_tail_at root thread.now.kept.pairs index then before else slice_index_or marks.now index false) }
 {
     if follows_hard_tail(thread, root, index) {
         before
@@ -136,7 +136,7 @@ fn push_if_unreached(
 }
 
 // Returns the indices of all pairs whose directory's first pair isn't marked.
-fn unreached_numbers<D: BlockDevice>(
+fn unreached_pair_indices<D: BlockDevice>(
     alloc: Global,
     thread: &Thread<D>,
     root: usize,
@@ -151,7 +151,7 @@ fn unreached_numbers<D: BlockDevice>(
     let mut numbers = Vec::new(alloc);
     let mut is_reached = true;
     for index in root..thread.len() {
-        is_reached = continues_reached(thread, root, marks, index, is_reached);
+        is_reached = is_pair_reached(thread, root, marks, index, is_reached);
         push_if_unreached(&mut numbers, index, is_reached)?;
     }
     Ok(numbers)
@@ -173,6 +173,6 @@ pub(crate) fn find_unreached_pairs<D: BlockDevice>(
     ensures reading { ReadsOrReports thread.old thread.new result }
 {
     let marks = mark_reached_directories(alloc, thread, root)?;
-    let numbers = unreached_numbers(alloc, thread, root, &marks)?;
+    let numbers = unreached_pair_indices(alloc, thread, root, &marks)?;
     Ok(numbers)
 }

@@ -6,18 +6,18 @@ ghost use Rattle.lfs_model.specs.tree.Shown.{struct_blocks, disk_tree};
 ghost use Rattle.lfs_model.specs.format.Slots.{Ctz, Inline};
 ghost use Rattle.lfs_model.specs.tree.Tree.{Path as ModelPath};
 ghost use Rattle.lfs_model.specs.session.TreeEdits.{file_bytes};
-ghost use Rattle.lfs_model.specs.tree.View.{IsFormedList};
+ghost use Rattle.lfs_model.specs.tree.View.{IsWellFormedList};
 ghost use Rattle.lfs_file.specs.Known.{AreKnownBlocks, ReadsKnownList};
 ghost use Rattle.lfs_lookup.specs.LookupReading.{ReadsOrReports};
 ghost use Rattle.lfs_lookup.specs.FileContents.{ContentsFitTag, IsStorageAt, AreContentsAt, contents_struct};
 ghost use Rattle.lfs_lookup.specs.Finds.{IsFoundNode};
 ghost use Rattle.lfs_tree.specs.TreeReads.{ReadsPairsOnce};
-ghost use Rattle.lfs_tree.specs.TreeState.{ReadsTreeOrFails, kept_thread, shown_tree};
+ghost use Rattle.lfs_tree.specs.TreeState.{ReadsTreeOrFails, kept_thread, visible_tree};
 
-use crate::answers::mark_failed;
+use crate::answers::fail_on_error;
 use crate::tree::Tree;
 use lfs_device::{BlockDevice, Error};
-use lfs_file::KnownBlocks;
+use lfs_file::IndexCache;
 use lfs_lookup::{FileContents, FoundFile, Path, find_file_contents};
 use lfs_thread::Thread;
 use std::alloc::Global;
@@ -32,12 +32,12 @@ impl<D: BlockDevice> Tree<D> {
     pub fn find_file(&mut self, alloc: Global, path: &Path<'_>) -> Result<FoundFile, Error>
         requires { self.old.failed ≡ false }
         ensures asks { ReadsTreeOrFails self.old result self.new }
-        ensures found { IfOk result (λ found. IsFoundNode (shown_tree self.old) path.now found.finding) }
+        ensures found { IfOk result (λ found. IsFoundNode (visible_tree self.old) path.now found.finding) }
         ensures contents { IfOk result (λ found. AreContentsAt (kept_thread self.old) path.now found.contents) }
         ensures few { ReadsPairsOnce (ancestor_paths path.now) self.old self.new.history }
     {
         let found = find_file_contents(alloc, &mut self.thread, self.root, path);
-        mark_failed(&mut self.thread, &found);
+        fail_on_error(&mut self.thread, &found);
         found
     }
 
@@ -53,7 +53,7 @@ impl<D: BlockDevice> Tree<D> {
     pub fn read(
         &mut self,
         contents: &FileContents,
-        known: &mut KnownBlocks,
+        known: &mut IndexCache,
         position: u32,
         buf: &mut [u8],
     ) -> Result<usize, Error>
@@ -61,14 +61,14 @@ impl<D: BlockDevice> Tree<D> {
         requires there { (path : ModelPath) × IsStorageAt self.old.pairs path contents.now }
         requires blocks { AreKnownBlocks (struct_blocks self.old.disk (contents_struct contents.now)) known.old }
         ensures asks { ReadsTreeOrFails self.old result self.new }
-        ensures bytes { (path : ModelPath) → IsStorageAt self.old.pairs path contents.now → IfOk result (λ n. take n buf.new ≡ take (length buf.old) (drop position (file_bytes (shown_tree self.old path)))) }
+        ensures bytes { (path : ModelPath) → IsStorageAt self.old.pairs path contents.now → IfOk result (λ n. take n buf.new ≡ take (length buf.old) (drop position (file_bytes (visible_tree self.old path)))) }
         ensures count { IfOk result (λ n. (n ≤ length buf.old) × (position + n < 2 ^ 32) × (drop n buf.new ≡ drop n buf.old)) }
         ensures none { (own : List ℕ) → contents_struct contents.now ≡ Inline own → self.new.history ≡ self.old.history }
         ensures blocks { AreKnownBlocks (struct_blocks self.old.disk (contents_struct contents.now)) known.new }
         ensures few { (head size : ℕ) → contents_struct contents.now ≡ Ctz head size → OnOk result (ReadsKnownList self.old.disk.block_size size position (length buf.old) known.old known.new self.old.history self.new.history) }
     {
         let count = read_known_contents(&mut self.thread, contents, known, position, buf);
-        mark_failed(&mut self.thread, &count);
+        fail_on_error(&mut self.thread, &count);
         count
     }
 
@@ -76,7 +76,7 @@ impl<D: BlockDevice> Tree<D> {
     pub fn size_of_contents(&self, contents: &FileContents) -> u32
         requires works { self.now.failed ≡ false }
         requires there { (path : ModelPath) × IsStorageAt self.now.pairs path contents.now }
-        ensures size { (path : ModelPath) → IsStorageAt self.now.pairs path contents.now → result ≡ length (file_bytes (shown_tree self.now path)) }
+        ensures size { (path : ModelPath) → IsStorageAt self.now.pairs path contents.now → result ≡ length (file_bytes (visible_tree self.now path)) }
         ensures list { (head size : ℕ) → contents_struct contents.now ≡ Ctz head size → result ≡ size }
     {
         let _device = self.thread.device();
@@ -105,13 +105,13 @@ fn copy_from_position(bytes: &[u8], position: u32, buf: &mut [u8]) -> usize
 fn read_known_contents<D: BlockDevice>(
     thread: &mut Thread<D>,
     contents: &FileContents,
-    known: &mut KnownBlocks,
+    known: &mut IndexCache,
     position: u32,
     buf: &mut [u8],
 ) -> Result<usize, Error>
     requires works { thread.old.failed ≡ false }
     requires fits { ContentsFitTag contents.now }
-    requires list { IsFormedList thread.old.kept.disk (contents_struct contents.now) }
+    requires list { IsWellFormedList thread.old.kept.disk (contents_struct contents.now) }
     requires blocks { AreKnownBlocks (struct_blocks thread.old.kept.disk (contents_struct contents.now)) known.old }
     ensures bytes { (path : ModelPath) → IsStorageAt thread.old.kept.pairs path contents.now → IfOk result (λ n. take n buf.new ≡ take (length buf.old) (drop position (file_bytes (disk_tree thread.old.kept.disk thread.old.kept.pairs path)))) }
     ensures count { IfOk result (λ n. (n ≤ length buf.old) × (position + n < 2 ^ 32) × (drop n buf.new ≡ drop n buf.old)) }

@@ -6,19 +6,19 @@ ghost use Rattle.lfs_tree.specs.ThreadContents.{ThreadReportsFaults};
 ghost use Rattle.lfs_model.specs.session.TreeEdits.{tree_removing};
 ghost use Rattle.lfs_model.specs.tree.Tree.{Path as TreePath};
 ghost use Rattle.lfs_model.specs.tree.Shown.{disk_tree};
-ghost use Rattle.lfs_operations.specs.Dropping.{SameInFlight};
-ghost use Rattle.lfs_operations.specs.Ready.{IsReadyImage};
+ghost use Rattle.lfs_operations.specs.Dropping.{HasSameBlocksInFlight};
+ghost use Rattle.lfs_operations.specs.Ready.{IsRecoveredWritableImage};
 ghost use Rattle.lfs_operations.specs.Unlinking.{ReportsCommits};
-ghost use Rattle.lfs_operations.specs.MovingSteps.{WritesThreadFree};
+ghost use Rattle.lfs_operations.specs.MovingSteps.{WritesThreadAndFree};
 ghost use Rattle.lfs_tree.specs.Permissions.{CanRemoveEntry};
 ghost use Rattle.lfs_tree.specs.TreeCalls as call;
-ghost use Rattle.lfs_tree.specs.TreeChanges.{CanChangeRecovered, AppliesOrFails, SurvivesEither};
-ghost use Rattle.lfs_tree.specs.Removals.{CanFreeList, CanRemoveFound, CanRemoveFile, HasRemovedEntry, SparesInRemoval};
+ghost use Rattle.lfs_tree.specs.TreeChanges.{CanChangeRecovered, AppliesOrFails, PowerLossLeavesEither};
+ghost use Rattle.lfs_tree.specs.Removals.{CanFreeList, CanRemoveFound, CanRemoveFile, HasRemovedEntry, RemovalKeepsUnrelatedBlocks};
 ghost use Rattle.lfs_tree.specs.RootedThreads.{uncached_state};
-ghost use Rattle.lfs_tree.specs.Working.{IsWorkingWhere};
+ghost use Rattle.lfs_tree.specs.Working.{IsWorkingAndMeets};
 
 use crate::entries_at::{find_at_path, lemma_block_facts};
-use crate::files::settle_lists;
+use crate::files::replace_used_list;
 use lfs_device::{BlockDevice, Error};
 use lfs_file::{StoredList, lemma_settled_map};
 use lfs_lookup::{FileStorage, Path, PathLookup, SlotPosition};
@@ -30,13 +30,13 @@ use std::alloc::Global;
 // Does nothing for an inline file. Writes nothing to the device.
 //
 // Errors: `Io` if a read fails. The threaded list is then marked as failed.
-pub(crate) fn free_file_list<D: BlockDevice>(
+pub(crate) fn free_file_blocks<D: BlockDevice>(
     thread: &mut Thread<D>,
     contents: FileStorage,
 ) -> Result<(), Error>
-    requires { IsWorkingWhere thread.old (λ t. CanFreeList t contents) }
-    ensures ready { OnOk result (IsReadyImage thread.new.kept) }
-    ensures flying { OnOk result (SameInFlight thread.old.kept.map thread.new.kept.map) }
+    requires { IsWorkingAndMeets thread.old (λ t. CanFreeList t contents) }
+    ensures ready { OnOk result (IsRecoveredWritableImage thread.new.kept) }
+    ensures flying { OnOk result (HasSameBlocksInFlight thread.old.kept.map thread.new.kept.map) }
     ensures only { ChangesOnlyMap thread.old.kept thread.new.kept }
     ensures failed { thread.new.failed ≡ is_err result }
     ensures reports { ThreadReportsFaults thread.old.kept thread.new.kept result }
@@ -55,7 +55,7 @@ pub(crate) fn free_file_list<D: BlockDevice>(
                 size: 0,
                 in_flight: false,
             };
-            settle_lists(thread, list, nothing)
+            replace_used_list(thread, list, nothing)
         }
     }
 }
@@ -68,15 +68,15 @@ fn remove_with_list<D: BlockDevice>(
     slot: SlotPosition,
     contents: FileStorage,
 ) -> Result<(), Error>
-    requires { IsWorkingWhere thread.old (λ t. (path : TreePath) × CanRemoveFile t path parent slot contents) }
+    requires { IsWorkingAndMeets thread.old (λ t. (path : TreePath) × CanRemoveFile t path parent slot contents) }
     ensures gone { OnOk result ((path : TreePath) → CanRemoveFile thread.old.kept path parent slot contents → HasRemovedEntry thread.old.kept path thread.new.kept) }
-    ensures alone { OnOk result ((path : TreePath) → CanRemoveFile thread.old.kept path parent slot contents → SparesInRemoval thread.old.kept path thread.new.kept) }
+    ensures alone { OnOk result ((path : TreePath) → CanRemoveFile thread.old.kept path parent slot contents → RemovalKeepsUnrelatedBlocks thread.old.kept path thread.new.kept) }
     ensures errors { ReportsCommits thread.old thread.new result }
-    ensures device { WritesThreadFree thread.old.kept thread.new.kept }
-    ensures survives { (path : TreePath) → CanRemoveFile thread.old.kept path parent slot contents → SurvivesEither thread.old.kept thread.new.kept (tree_removing path (disk_tree thread.old.kept.disk thread.old.kept.pairs)) }
+    ensures device { WritesThreadAndFree thread.old.kept thread.new.kept }
+    ensures survives { (path : TreePath) → CanRemoveFile thread.old.kept path parent slot contents → PowerLossLeavesEither thread.old.kept thread.new.kept (tree_removing path (disk_tree thread.old.kept.disk thread.old.kept.pairs)) }
 {
     remove_file(alloc, thread, slot.pair, slot.id, parent)?;
-    free_file_list(thread, contents)
+    free_file_blocks(thread, contents)
 }
 
 // Removes the entry that a look-up found, which is a file or an empty directory.
@@ -85,12 +85,12 @@ fn remove_found_entry<D: BlockDevice>(
     thread: &mut Thread<D>,
     found: PathLookup,
 ) -> Result<(), Error>
-    requires { IsWorkingWhere thread.old (λ t. (path : TreePath) × CanRemoveFound t path found) }
+    requires { IsWorkingAndMeets thread.old (λ t. (path : TreePath) × CanRemoveFound t path found) }
     ensures gone { OnOk result ((path : TreePath) → CanRemoveFound thread.old.kept path found → HasRemovedEntry thread.old.kept path thread.new.kept) }
-    ensures alone { OnOk result ((path : TreePath) → CanRemoveFound thread.old.kept path found → SparesInRemoval thread.old.kept path thread.new.kept) }
+    ensures alone { OnOk result ((path : TreePath) → CanRemoveFound thread.old.kept path found → RemovalKeepsUnrelatedBlocks thread.old.kept path thread.new.kept) }
     ensures errors { ReportsCommits thread.old thread.new result }
-    ensures device { WritesThreadFree thread.old.kept thread.new.kept }
-    ensures survives { (path : TreePath) → CanRemoveFound thread.old.kept path found → SurvivesEither thread.old.kept thread.new.kept (tree_removing path (disk_tree thread.old.kept.disk thread.old.kept.pairs)) }
+    ensures device { WritesThreadAndFree thread.old.kept thread.new.kept }
+    ensures survives { (path : TreePath) → CanRemoveFound thread.old.kept path found → PowerLossLeavesEither thread.old.kept thread.new.kept (tree_removing path (disk_tree thread.old.kept.disk thread.old.kept.pairs)) }
 {
     match found {
         PathLookup::File {

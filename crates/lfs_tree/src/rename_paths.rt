@@ -7,20 +7,20 @@ ghost use Rattle.lfs_model.specs.tree.Shown.{disk_tree};
 ghost use Rattle.lfs_model.specs.format.Slots.{zero_gstate};
 ghost use Rattle.lfs_model.specs.format.Thread.{pairs_gstate};
 ghost use Rattle.lfs_lookup.specs.Finds.{IsFoundNode, has_entry_beneath};
-ghost use Rattle.lfs_lookup.specs.LookupPaths.{LeadsToResult};
+ghost use Rattle.lfs_lookup.specs.LookupPaths.{IsResultOfPath};
 ghost use Rattle.lfs_lookup.specs.LookupReading.{ReadsOrReports};
 ghost use Rattle.lfs_tree.specs.TreeChanges.{CanChangeRecovered};
-ghost use Rattle.lfs_tree.specs.RootedThreads.{SoundWithRoot};
-ghost use Rattle.lfs_tree.specs.RenameFindings.{AreRenameResults, AreRenameFindings, rename_parents, lookup_without_parent};
-ghost use Rattle.lfs_tree.specs.TreeState.{ReadsTreeOrFails, kept_thread, shown_tree};
+ghost use Rattle.lfs_tree.specs.RootedThreads.{IsSoundWithRoot};
+ghost use Rattle.lfs_tree.specs.RenameLookup.{AreRenameResults, AreRenameFindings, rename_parents, lookup_without_parent};
+ghost use Rattle.lfs_tree.specs.TreeState.{ReadsTreeOrFails, kept_thread, visible_tree};
 
-use crate::answers::mark_failed;
+use crate::answers::fail_on_error;
 use crate::entries_at::find_at_path;
 use crate::tree::Tree;
 use lfs_device::{BlockDevice, Error};
 use lfs_lookup::{
     FoundNode, NodeAndEmptiness, Path, PathLookup, VisiblePathLookup, attributes_size_at,
-    find_node, finding_shown, first_pair_found, has_entries, path_has_entries,
+    find_node, found_directory_index, has_entries, node_of_lookup, path_has_entries,
 };
 use lfs_thread::Thread;
 use std::alloc::Global;
@@ -35,7 +35,7 @@ pub struct RenameTargets {
 
 /// The results of looking up the two paths of a rename.
 #[derive(Drop)]
-pub struct RenameFindings {
+pub struct RenameLookup {
     /// The entry at the old path, if there is one.
     pub entry: FoundNode,
     /// The entry at the new path, if there is one, and whether it is a directory that has entries.
@@ -48,7 +48,7 @@ pub struct RenameFindings {
 }
 
 // Returns the result of a look-up without the parent directory and the slot of a missing name.
-pub(crate) fn found_without_parent(found: PathLookup) -> VisiblePathLookup
+pub(crate) fn to_visible_lookup(found: PathLookup) -> VisiblePathLookup
     ensures { result ≡ lookup_without_parent found }
 {
     match found {
@@ -84,7 +84,7 @@ fn find_rename_targets<D: BlockDevice>(
 
 // Returns the results of looking up the two paths of a rename. Looks up the paths unless `known`
 // has the results.
-pub(crate) fn given_or_found<D: BlockDevice>(
+pub(crate) fn targets_or_lookup<D: BlockDevice>(
     alloc: Global,
     thread: &mut Thread<D>,
     root: usize,
@@ -112,30 +112,30 @@ fn node_and_emptiness<D: BlockDevice>(
     found: PathLookup,
 ) -> Result<NodeAndEmptiness, Error>
     requires rests { CanChangeRecovered thread.old root }
-    requires leads { LeadsToResult thread.old.kept _path.now found }
+    requires leads { IsResultOfPath thread.old.kept _path.now found }
     ensures found { IfOk result (λ inside. IsFoundNode (disk_tree thread.old.kept.disk thread.old.kept.pairs) _path.now inside.finding) }
     ensures has { IfOk result (λ inside. inside.has_entries ≡ has_entry_beneath (disk_tree thread.old.kept.disk thread.old.kept.pairs) _path.now) }
     ensures few { read_count thread.new.kept.history ≤ read_count thread.old.kept.history + directory_pair_count thread.old.kept.pairs _path.now }
     ensures reading { ReadsOrReports thread.old thread.new result }
 {
-    let shown = found_without_parent(found);
-    let has_entries = has_entries(alloc, thread, first_pair_found(root, shown))?;
+    let shown = to_visible_lookup(found);
+    let has_entries = has_entries(alloc, thread, found_directory_index(root, shown))?;
     // A proof needs the device's block size to see that a list has as many bytes as its entry says.
     let _device = thread.device();
     Ok(NodeAndEmptiness {
-        finding: finding_shown(shown),
+        finding: node_of_lookup(shown),
         has_entries,
     })
 }
 
 // Looks up the two paths of a rename in an image that has nothing to recover.
-fn rename_findings<D: BlockDevice>(
+fn rename_lookup_recovered<D: BlockDevice>(
     alloc: Global,
     thread: &mut Thread<D>,
     root: usize,
     from: &Path<'_>,
     to: &Path<'_>,
-) -> Result<RenameFindings, Error>
+) -> Result<RenameLookup, Error>
     requires { CanChangeRecovered thread.old root }
     ensures found { IfOk result (AreRenameFindings (disk_tree thread.old.kept.disk thread.old.kept.pairs) from.now to.now) }
     ensures targets { IfOk result (λ found. IfSome found.targets (AreRenameResults thread.old.kept from.now to.now)) }
@@ -148,8 +148,8 @@ fn rename_findings<D: BlockDevice>(
     let target = node_and_emptiness(alloc, thread, root, to, targets.target)?;
     // A proof needs the device's block size to see that a list has as many bytes as its entry says.
     let _device = thread.device();
-    Ok(RenameFindings {
-        entry: finding_shown(found_without_parent(targets.entry)),
+    Ok(RenameLookup {
+        entry: node_of_lookup(to_visible_lookup(targets.entry)),
         target,
         attributes_size,
         targets: Some(targets),
@@ -157,14 +157,14 @@ fn rename_findings<D: BlockDevice>(
 }
 
 // Looks up the two paths of a rename in an image that must be recovered first.
-fn unrecovered_rename_findings<D: BlockDevice>(
+fn rename_lookup_unrecovered<D: BlockDevice>(
     alloc: Global,
     thread: &mut Thread<D>,
     root: usize,
     from: &Path<'_>,
     to: &Path<'_>,
-) -> Result<RenameFindings, Error>
-    requires { SoundWithRoot thread.old root true }
+) -> Result<RenameLookup, Error>
+    requires { IsSoundWithRoot thread.old root true }
     ensures found { IfOk result (AreRenameFindings (disk_tree thread.old.kept.disk thread.old.kept.pairs) from.now to.now) }
     ensures targets { IfOk result (λ found. IfSome found.targets (AreRenameResults thread.old.kept from.now to.now)) }
     ensures few { read_count thread.new.kept.history ≤ read_count thread.old.kept.history + sum_by (directory_pair_count thread.old.kept.pairs) (rename_parents from.now to.now) }
@@ -173,7 +173,7 @@ fn unrecovered_rename_findings<D: BlockDevice>(
     let entry = find_node(alloc, thread, root, from)?;
     let target = path_has_entries(alloc, thread, root, to)?;
     let attributes_size = attributes_size_at(alloc, thread, root, from)?;
-    Ok(RenameFindings {
+    Ok(RenameLookup {
         entry,
         target,
         attributes_size,
@@ -188,8 +188,8 @@ fn rename_targets<D: BlockDevice>(
     root: usize,
     from: &Path<'_>,
     to: &Path<'_>,
-) -> Result<RenameFindings, Error>
-    requires { SoundWithRoot thread.old root true }
+) -> Result<RenameLookup, Error>
+    requires { IsSoundWithRoot thread.old root true }
     ensures found { IfOk result (AreRenameFindings (disk_tree thread.old.kept.disk thread.old.kept.pairs) from.now to.now) }
     ensures targets { IfOk result (λ found. IfSome found.targets (AreRenameResults thread.old.kept from.now to.now)) }
     ensures handed_on { pairs_gstate thread.old.kept.pairs ≡ zero_gstate → IfOk result (λ found. IsSome found.targets) }
@@ -198,9 +198,9 @@ fn rename_targets<D: BlockDevice>(
 {
     let state = thread.state();
     if state.is_none() {
-        rename_findings(alloc, thread, root, from, to)
+        rename_lookup_recovered(alloc, thread, root, from, to)
     } else {
-        unrecovered_rename_findings(alloc, thread, root, from, to)
+        rename_lookup_unrecovered(alloc, thread, root, from, to)
     }
 }
 
@@ -217,17 +217,17 @@ impl<D: BlockDevice> Tree<D> {
         alloc: Global,
         from: &Path<'_>,
         to: &Path<'_>,
-    ) -> Result<RenameFindings, Error>
+    ) -> Result<RenameLookup, Error>
         requires works { self.old.failed ≡ false }
         requires writable { self.old.writable ≡ true }
         ensures asks { ReadsTreeOrFails self.old result self.new }
-        ensures found { IfOk result (AreRenameFindings (shown_tree self.old) from.now to.now) }
+        ensures found { IfOk result (AreRenameFindings (visible_tree self.old) from.now to.now) }
         ensures targets { IfOk result (λ found. IfSome found.targets (AreRenameResults (kept_thread self.new) from.now to.now)) }
         ensures handed_on { pairs_gstate self.old.pairs ≡ zero_gstate → IfOk result (λ found. IsSome found.targets) }
         ensures few { read_count self.new.history ≤ read_count self.old.history + sum_by (directory_pair_count self.old.pairs) (rename_parents from.now to.now) }
     {
         let found = rename_targets(alloc, &mut self.thread, self.root, from, to);
-        mark_failed(&mut self.thread, &found);
+        fail_on_error(&mut self.thread, &found);
         found
     }
 }

@@ -8,27 +8,27 @@ ghost use Rattle.lfs_model.specs.session.TreeEdits.{tree_renaming, same_path};
 ghost use Rattle.lfs_model.specs.tree.Tree.{Path};
 ghost use Rattle.lfs_model.specs.tree.Shown.{disk_tree};
 ghost use Rattle.lfs_lookup.specs.LookupReading.{ReadsOrReports};
-ghost use Rattle.lfs_operations.specs.MovingSteps.{WritesThreadFree};
+ghost use Rattle.lfs_operations.specs.MovingSteps.{WritesThreadAndFree};
 ghost use Rattle.lfs_tree.specs.Permissions.{CanRenamePath};
 ghost use Rattle.lfs_tree.specs.TreeCalls as call;
 ghost use Rattle.lfs_tree.specs.TreeCalls.{AppliesCallOrFails};
-ghost use Rattle.lfs_tree.specs.TreeChanges.{CanChangeRecovered, AppliesOrFails, SurvivesEither};
+ghost use Rattle.lfs_tree.specs.TreeChanges.{CanChangeRecovered, AppliesOrFails, PowerLossLeavesEither};
 ghost use Rattle.lfs_tree.specs.SlotChanges.{is_entry_found};
 ghost use Rattle.lfs_tree.specs.RootedThreads.{uncached_state};
-ghost use Rattle.lfs_tree.specs.MovedEntries.{CanMoveOntoDirectory, CanMoveOntoFile, CanMoveOntoFound, CanMoveTo, HasMovedEntry, HasMovedTo, IsFoundSource, ThreadWorksOrReports};
-ghost use Rattle.lfs_tree.specs.RenameFindings.{AreRenameResults};
+ghost use Rattle.lfs_tree.specs.MovedEntries.{CanMoveOntoDirectory, CanMoveOntoFile, CanMoveOntoFound, CanMoveEntryTo, HasMovedEntry, HasMovedReplacingFile, IsFoundSource, WorksOrReportsIo};
+ghost use Rattle.lfs_tree.specs.RenameLookup.{AreRenameResults};
 ghost use Rattle.lfs_tree.specs.TreeState.{kept_thread};
 
-use crate::answers::mark_failed;
+use crate::answers::fail_on_error;
 use crate::entries_at::{last_name_of, lemma_block_facts};
-use crate::removals_at::free_file_list;
-use crate::rename_paths::{RenameTargets, given_or_found};
+use crate::removals_at::free_file_blocks;
+use crate::rename_paths::{RenameTargets, targets_or_lookup};
 use crate::tree::Tree;
 use lfs_device::{BlockDevice, Error};
 use lfs_lookup::{FileStorage, Path, PathLookup, SlotPosition};
 use lfs_operations::{
     EmptyDirectory, PairPlace, Route, rename, rename_across, rename_onto_directory,
-    replace_directory_across,
+    replace_across_pairs,
 };
 use lfs_thread::Thread;
 use std::alloc::Global;
@@ -42,7 +42,7 @@ pub(crate) struct RenameSource {
 
 // The entry to be renamed, the result of looking up its new path, and the last name of that path.
 #[derive(Drop)]
-struct FoundMove<'a> {
+struct RenamePlan<'a> {
     source: RenameSource,
     target: PathLookup,
     name: &'a [u8],
@@ -74,11 +74,11 @@ fn move_entry<D: BlockDevice>(
     name: &[u8],
 ) -> Result<(), Error>
     requires works { thread.old.failed ≡ false }
-    requires can { (from to : Path) × CanMoveTo replaces thread.old.kept from to source place name.now }
-    ensures moved { OnOk result ((from to : Path) (can : CanMoveTo replaces thread.old.kept from to source place name.now) → HasMovedTo thread.old.kept from to can.gone thread.new.kept) }
-    ensures errors { ThreadWorksOrReports thread.old thread.new result }
-    ensures device { WritesThreadFree thread.old.kept thread.new.kept }
-    ensures survives { (from to : Path) → CanMoveTo replaces thread.old.kept from to source place name.now → SurvivesEither thread.old.kept thread.new.kept (tree_renaming from to (disk_tree thread.old.kept.disk thread.old.kept.pairs)) }
+    requires can { (from to : Path) × CanMoveEntryTo replaces thread.old.kept from to source place name.now }
+    ensures moved { OnOk result ((from to : Path) (can : CanMoveEntryTo replaces thread.old.kept from to source place name.now) → HasMovedReplacingFile thread.old.kept from to can.gone thread.new.kept) }
+    ensures errors { WorksOrReportsIo thread.old thread.new result }
+    ensures device { WritesThreadAndFree thread.old.kept thread.new.kept }
+    ensures survives { (from to : Path) → CanMoveEntryTo replaces thread.old.kept from to source place name.now → PowerLossLeavesEither thread.old.kept thread.new.kept (tree_renaming from to (disk_tree thread.old.kept.disk thread.old.kept.pairs)) }
 {
     let from = source.slot;
     if from.pair == place.pair {
@@ -111,12 +111,12 @@ fn move_onto_file<D: BlockDevice>(
     requires works { thread.old.failed ≡ false }
     requires can { (from to : Path) × CanMoveOntoFile thread.old.kept from to source slot contents name.now }
     ensures shifted { OnOk result ((from to : Path) → CanMoveOntoFile thread.old.kept from to source slot contents name.now → HasMovedEntry thread.old.kept from to thread.new.kept) }
-    ensures errors { ThreadWorksOrReports thread.old thread.new result }
-    ensures device { WritesThreadFree thread.old.kept thread.new.kept }
-    ensures survives { (from to : Path) → CanMoveOntoFile thread.old.kept from to source slot contents name.now → SurvivesEither thread.old.kept thread.new.kept (tree_renaming from to (disk_tree thread.old.kept.disk thread.old.kept.pairs)) }
+    ensures errors { WorksOrReportsIo thread.old thread.new result }
+    ensures device { WritesThreadAndFree thread.old.kept thread.new.kept }
+    ensures survives { (from to : Path) → CanMoveOntoFile thread.old.kept from to source slot contents name.now → PowerLossLeavesEither thread.old.kept thread.new.kept (tree_renaming from to (disk_tree thread.old.kept.disk thread.old.kept.pairs)) }
 {
     move_entry(alloc, thread, source, slot, true, name)?;
-    free_file_list(thread, contents)
+    free_file_blocks(thread, contents)
 }
 
 // Moves an entry to the slot of an empty directory, and removes the directory, whose own pair has
@@ -132,9 +132,9 @@ fn move_onto_directory<D: BlockDevice>(
     requires works { thread.old.failed ≡ false }
     requires can { (from to : Path) × CanMoveOntoDirectory thread.old.kept from to source slot gone name.now }
     ensures shifted { OnOk result ((from to : Path) → CanMoveOntoDirectory thread.old.kept from to source slot gone name.now → HasMovedEntry thread.old.kept from to thread.new.kept) }
-    ensures errors { ThreadWorksOrReports thread.old thread.new result }
-    ensures device { WritesThreadFree thread.old.kept thread.new.kept }
-    ensures survives { (from to : Path) → CanMoveOntoDirectory thread.old.kept from to source slot gone name.now → SurvivesEither thread.old.kept thread.new.kept (tree_renaming from to (disk_tree thread.old.kept.disk thread.old.kept.pairs)) }
+    ensures errors { WorksOrReportsIo thread.old thread.new result }
+    ensures device { WritesThreadAndFree thread.old.kept thread.new.kept }
+    ensures survives { (from to : Path) → CanMoveOntoDirectory thread.old.kept from to source slot gone name.now → PowerLossLeavesEither thread.old.kept thread.new.kept (tree_renaming from to (disk_tree thread.old.kept.disk thread.old.kept.pairs)) }
 {
     let from = source.slot;
     if from.pair == slot.pair {
@@ -151,20 +151,20 @@ fn move_onto_directory<D: BlockDevice>(
             new_pair: slot.pair,
             new_id: slot.id,
         };
-        replace_directory_across(alloc, thread, route, gone, name)
+        replace_across_pairs(alloc, thread, route, gone, name)
     }
 }
 
 // Finds the entry to be renamed, and the entry at its new path, if any. Looks up the paths unless
 // `known` has the results.
-fn find_move<'a, D: BlockDevice>(
+fn look_up_move<'a, D: BlockDevice>(
     alloc: Global,
     thread: &mut Thread<D>,
     root: usize,
     from: &Path<'_>,
     to: &Path<'a>,
     known: Option<RenameTargets>,
-) -> Result<FoundMove<'a>, Error>
+) -> Result<RenamePlan<'a>, Error>
     requires rests { CanChangeRecovered thread.old root }
     requires can { CanRenamePath (uncached_state thread.old.kept true false) from.now to.now }
     requires apart { same_path from.now to.now ≡ false }
@@ -178,9 +178,9 @@ fn find_move<'a, D: BlockDevice>(
     to.lemma_valid_names();
     lemma_block_facts(thread);
     let names = to.names(alloc)?;
-    let targets = given_or_found(alloc, thread, root, from, to, known)?;
+    let targets = targets_or_lookup(alloc, thread, root, from, to, known)?;
     let source = found_rename_source(targets.entry);
-    Ok(FoundMove {
+    Ok(RenamePlan {
         source,
         target: targets.target,
         name: last_name_of(&names),
@@ -205,7 +205,7 @@ pub(crate) fn rename_at<D: BlockDevice>(
     requires known { IfSome known (AreRenameResults thread.old.kept from.now to.now) }
     ensures { AppliesOrFails thread.old (call.Rename from.now to.now) result thread.new }
 {
-    let found = find_move(alloc, thread, root, from, to, known)?;
+    let found = look_up_move(alloc, thread, root, from, to, known)?;
     match found.target {
         PathLookup::Nothing { place, .. } => {
             move_entry(alloc, thread, found.source, place, false, found.name)
@@ -243,9 +243,9 @@ impl<D: BlockDevice> Tree<D> {
         requires looked_up { pairs_gstate self.old.pairs ≡ zero_gstate → IsSome known }
         ensures { AppliesCallOrFails self.old (call.Rename from.now to.now) result self.new }
     {
-        let plan = self.recover_planned(alloc, 2)?;
+        let plan = self.plan_and_recover(alloc, 2)?;
         let renamed = rename_at(alloc, &mut self.thread, self.root, from, to, known);
-        mark_failed(&mut self.thread, &renamed);
+        fail_on_error(&mut self.thread, &renamed);
         self.relocate(alloc, plan, renamed)
     }
 }

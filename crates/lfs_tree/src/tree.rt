@@ -7,21 +7,21 @@ ghost use Rattle.lfs_model.specs.session.History.{read_count};
 ghost use Rattle.lfs_model.specs.crash.Frame.{directory_pair_count, ancestor_paths};
 ghost use Rattle.lfs_model.specs.session.TreeEdits.{node_attributes_of};
 ghost use Rattle.lfs_model.specs.format.Content.{attribute_bytes};
-ghost use Rattle.lfs_model.specs.tree.Profile.{image_fields};
+ghost use Rattle.lfs_model.specs.tree.Profile.{image_superblock_fields};
 ghost use Rattle.lfs_model.specs.layers.ProfileBreaches.{IsBreachIfAny};
 ghost use Rattle.lfs_model.specs.format.Slots.{zero_gstate};
-ghost use Rattle.lfs_model.specs.format.Thread.{Pair, anchor_address, pairs_gstate, address_blocks};
+ghost use Rattle.lfs_model.specs.format.Thread.{Pair, superblock_pair_address, pairs_gstate, address_blocks};
 ghost use Rattle.lfs_model.specs.tree.View.{IsAccepted};
-ghost use Rattle.lfs_model.specs.format.Disk.{SameGeometry, block_count, ordered_disk};
+ghost use Rattle.lfs_model.specs.format.Disk.{SameGeometry, block_count, disk_with_order};
 ghost use Rattle.lfs_model.specs.declared.order.NameOrder.{NameOrder};
 ghost use Rattle.lfs_model.specs.declared.order.NameOrder.TheVariants.{LongerFirst, ShorterFirst};
-ghost use Rattle.lfs_model.specs.session.Effects.{items_at};
+ghost use Rattle.lfs_model.specs.session.Effects.{listed_entries_at};
 ghost use Rattle.lfs_mount.specs.MountFaults.{MountMayReport};
 ghost use Rattle.lfs_tag.specs.FieldsView.{move_view, superblock_view};
 ghost use Rattle.lfs_thread.specs.ThreadDevice.{GivesDeviceBack};
 ghost use Rattle.lfs_thread.specs.Kept.{disk_of_device, kept_in_order};
 ghost use Rattle.lfs_tree.specs.Permissions.{CanCreateFile, CanMakeDirectory, CanRemoveEntry, CanRemoveAttr, CanSetAttr};
-ghost use Rattle.lfs_lookup.specs.CachedPairs.{AreFewSmall};
+ghost use Rattle.lfs_lookup.specs.CachedPairs.{AreFewOnePairDirectories};
 ghost use Rattle.lfs_tree.specs.CreationPaths.{IsCreationResult};
 ghost use Rattle.lfs_tree.specs.TreeCalls as call;
 ghost use Rattle.lfs_tree.specs.TreeCalls.{AppliesCallOrFails};
@@ -29,10 +29,10 @@ ghost use Rattle.lfs_tree.specs.TreeReads.{HasCachedDirectories, ReadsSixAtMost,
 ghost use Rattle.lfs_tree.specs.Recoveries.{HasRecovered};
 ghost use Rattle.lfs_lookup.specs.AttributeAt.{IsAttributesSize};
 ghost use Rattle.lfs_lookup.specs.Finds.{IsFoundNode, has_entry_beneath, listed_item_view};
-ghost use Rattle.lfs_tree.specs.Formats.{IsFormatError, IsFormatted, WritesFirstTwo};
-ghost use Rattle.lfs_tree.specs.TreeState.{ReadsTreeOrFails, FailedByReading, HasMountCause, IsMountedTree, IsRemountedTree, IsSoundState, tree_summary, kept_thread, shown_tree};
+ghost use Rattle.lfs_tree.specs.Formats.{IsFormatError, IsFreshlyFormatted, WritesOnlyFirstTwoBlocks};
+ghost use Rattle.lfs_tree.specs.TreeState.{ReadsTreeOrFails, FailedByReading, HasMountCause, IsMountedTree, IsRemountedTree, IsSoundState, tree_summary, kept_thread, visible_tree};
 
-use crate::answers::mark_failed;
+use crate::answers::fail_on_error;
 use crate::attributes_at::{remove_attr_at, set_attr_at};
 use crate::entries_at::{create_empty_file, make_directory_at};
 use crate::formats::format;
@@ -70,14 +70,14 @@ pub struct Tree<D: BlockDevice> {
 }
 
 impl<D: BlockDevice> Model for Tree<D> {
-    ghost use Rattle.lfs_tree.specs.RootedThreads.{SoundUnlessFailed, thread_state};
+    ghost use Rattle.lfs_tree.specs.RootedThreads.{IsSoundUnlessFailed, thread_state};
     ghost use Rattle.lfs_tree.specs.TreeState.{TreeState};
 
     ghost Value = { TreeState };
 
     ghost view = { λ t. thread_state t.thread t.is_writable };
 
-    ghost invariant = { λ t. SoundUnlessFailed t.thread t.root t.is_writable };
+    ghost invariant = { λ t. IsSoundUnlessFailed t.thread t.root t.is_writable };
 }
 
 impl<D: BlockDevice> Tree<D> {
@@ -87,9 +87,9 @@ impl<D: BlockDevice> Tree<D> {
     /// Errors: `Corrupt` if the device has no accepted image in either order of names. `Io` if a
     /// read fails, or `NoMemory` if memory can't be allocated. An error also returns the device.
     pub fn mount(alloc: Global, device: D) -> Result<Tree<D>, (D, Error)>
-        ensures mounted { IfOk result (λ t. IsMountedTree (ordered_disk t.disk.order (disk_of_device D.BlockDevice device)) (D.history device) t) }
-        ensures longer { IfOk result (λ t. t.disk.order ≡ ShorterFirst → (ps : List Pair) → ¬ IsAccepted (ordered_disk LongerFirst (disk_of_device D.BlockDevice device)) ps) }
-        ensures corrupt { IfErr result (λ e. e.1 ≡ Error.Corrupt → (order : NameOrder) (ps : List Pair) → ¬ IsAccepted (ordered_disk order (disk_of_device D.BlockDevice device)) ps) }
+        ensures mounted { IfOk result (λ t. IsMountedTree (disk_with_order t.disk.order (disk_of_device D.BlockDevice device)) (D.history device) t) }
+        ensures longer { IfOk result (λ t. t.disk.order ≡ ShorterFirst → (ps : List Pair) → ¬ IsAccepted (disk_with_order LongerFirst (disk_of_device D.BlockDevice device)) ps) }
+        ensures corrupt { IfErr result (λ e. e.1 ≡ Error.Corrupt → (order : NameOrder) (ps : List Pair) → ¬ IsAccepted (disk_with_order order (disk_of_device D.BlockDevice device)) ps) }
         ensures errors { IfErr result (λ e. MountMayReport e.1) }
         ensures back { IfErr result (λ e. GivesDeviceBack D.BlockDevice device e.0 e.1) }
     {
@@ -112,10 +112,10 @@ impl<D: BlockDevice> Tree<D> {
     pub fn format(alloc: Global, device: D, order: NameOrder) -> Result<Tree<D>, (D, Error)>
         ensures works { IfOk result (λ t. (t.failed ≡ false) × (t.writable ≡ true)) }
         ensures sound { IfOk result IsSoundState }
-        ensures formatted { IfOk result (λ t. IsFormatted (kept_thread t)) }
-        ensures geometry { IfOk result (λ t. SameGeometry (ordered_disk order (disk_of_device D.BlockDevice device)) t.disk) }
-        ensures calls { IfOk result (λ t. WritesFirstTwo (kept_in_order D.BlockDevice order device [] []) (kept_thread t)) }
-        ensures back { IfErr result (λ e. IsFormatError D.BlockDevice (address_blocks anchor_address) device e.0 e.1) }
+        ensures formatted { IfOk result (λ t. IsFreshlyFormatted (kept_thread t)) }
+        ensures geometry { IfOk result (λ t. SameGeometry (disk_with_order order (disk_of_device D.BlockDevice device)) t.disk) }
+        ensures calls { IfOk result (λ t. WritesOnlyFirstTwoBlocks (kept_in_order D.BlockDevice order device [] []) (kept_thread t)) }
+        ensures back { IfErr result (λ e. IsFormatError D.BlockDevice (address_blocks superblock_pair_address) device e.0 e.1) }
     {
         match format(alloc, device, order) {
             Ok(thread) => Ok(Tree {
@@ -153,7 +153,7 @@ impl<D: BlockDevice> Tree<D> {
     /// Returns a reference to the device in the state that the last call left, even if that call
     /// failed.
     pub fn device(&self) -> &D
-        ensures disk { ordered_disk self.now.disk.order (disk_of_device D.BlockDevice result.now) ≡ self.now.disk }
+        ensures disk { disk_with_order self.now.disk.order (disk_of_device D.BlockDevice result.now) ≡ self.now.disk }
         ensures history { D.history result.now ≡ self.now.history }
     {
         self.thread.device()
@@ -161,7 +161,7 @@ impl<D: BlockDevice> Tree<D> {
 
     /// Returns the device in the state that the last call left, even if that call failed.
     pub fn into_device(self) -> D
-        ensures disk { ordered_disk self.disk.order (disk_of_device D.BlockDevice result) ≡ self.disk }
+        ensures disk { disk_with_order self.disk.order (disk_of_device D.BlockDevice result) ≡ self.disk }
         ensures history { D.history result ≡ self.history }
     {
         self.thread.into_device()
@@ -237,11 +237,11 @@ impl<D: BlockDevice> Tree<D> {
     pub fn superblock(&mut self, alloc: Global) -> Result<Superblock, Error>
         requires { self.old.failed ≡ false }
         ensures asks { ReadsTreeOrFails self.old result self.new }
-        ensures is { IfOk result (λ f. image_fields self.old.pairs ≡ Some (superblock_view f)) }
+        ensures is { IfOk result (λ f. image_superblock_fields self.old.pairs ≡ Some (superblock_view f)) }
         ensures few { read_count self.new.history ≤ read_count self.old.history + 1 }
     {
         let superblock = lfs_lookup::superblock(alloc, &mut self.thread, self.root);
-        mark_failed(&mut self.thread, &superblock);
+        fail_on_error(&mut self.thread, &superblock);
         superblock
     }
 
@@ -256,7 +256,7 @@ impl<D: BlockDevice> Tree<D> {
         ensures is { IfOk result (IsBreachIfAny self.old.disk self.old.pairs) }
     {
         let breach = find_profile_breach(alloc, &mut self.thread, self.root);
-        mark_failed(&mut self.thread, &breach);
+        fail_on_error(&mut self.thread, &breach);
         breach
     }
 
@@ -269,12 +269,12 @@ impl<D: BlockDevice> Tree<D> {
     pub fn look_up(&mut self, alloc: Global, path: &Path<'_>) -> Result<FoundNode, Error>
         requires { self.old.failed ≡ false }
         ensures asks { ReadsTreeOrFails self.old result self.new }
-        ensures found { IfOk result (IsFoundNode (shown_tree self.old) path.now) }
+        ensures found { IfOk result (IsFoundNode (visible_tree self.old) path.now) }
         ensures few { ReadsPairsOnce (ancestor_paths path.now) self.old self.new.history }
-        ensures hand { AreFewSmall self.old.pairs (ancestor_paths path.now) → IfOk result (λ found. found.fault ≡ None → HasCachedDirectories self.new (ancestor_paths path.now)) }
+        ensures hand { AreFewOnePairDirectories self.old.pairs (ancestor_paths path.now) → IfOk result (λ found. found.fault ≡ None → HasCachedDirectories self.new (ancestor_paths path.now)) }
     {
         let found = find_node(alloc, &mut self.thread, self.root, path);
-        mark_failed(&mut self.thread, &found);
+        fail_on_error(&mut self.thread, &found);
         found
     }
 
@@ -291,12 +291,12 @@ impl<D: BlockDevice> Tree<D> {
     ) -> Result<NodeAndEmptiness, Error>
         requires { self.old.failed ≡ false }
         ensures asks { ReadsTreeOrFails self.old result self.new }
-        ensures found { IfOk result (λ inside. IsFoundNode (shown_tree self.old) path.now inside.finding) }
-        ensures has { IfOk result (λ inside. inside.has_entries ≡ has_entry_beneath (shown_tree self.old) path.now) }
+        ensures found { IfOk result (λ inside. IsFoundNode (visible_tree self.old) path.now inside.finding) }
+        ensures has { IfOk result (λ inside. inside.has_entries ≡ has_entry_beneath (visible_tree self.old) path.now) }
         ensures few { read_count self.new.history ≤ read_count self.old.history + sum_by (directory_pair_count self.old.pairs) (ancestor_paths path.now ++ path.now ∷ []) }
     {
         let inside = path_has_entries(alloc, &mut self.thread, self.root, path);
-        mark_failed(&mut self.thread, &inside);
+        fail_on_error(&mut self.thread, &inside);
         inside
     }
 
@@ -314,12 +314,12 @@ impl<D: BlockDevice> Tree<D> {
     ) -> Result<FoundAttribute, Error>
         requires { self.old.failed ≡ false }
         ensures asks { ReadsTreeOrFails self.old result self.new }
-        ensures found { IfOk result (λ found. IsFoundNode (shown_tree self.old) path.now found.finding) }
-        ensures bytes { IfOk result (λ found. (option_map (λ v. v.items) found.bytes ≡ attribute_bytes kind (node_attributes_of (shown_tree self.old path.now))) × IfSome found.bytes (λ v. length v.items ≤ 1022)) }
+        ensures found { IfOk result (λ found. IsFoundNode (visible_tree self.old) path.now found.finding) }
+        ensures bytes { IfOk result (λ found. (option_map (λ v. v.items) found.bytes ≡ attribute_bytes kind (node_attributes_of (visible_tree self.old path.now))) × IfSome found.bytes (λ v. length v.items ≤ 1022)) }
         ensures few { ReadsPairsOnce (ancestor_paths path.now) self.old self.new.history }
     {
         let found = find_attribute(alloc, &mut self.thread, self.root, path, kind);
-        mark_failed(&mut self.thread, &found);
+        fail_on_error(&mut self.thread, &found);
         found
     }
 
@@ -333,11 +333,11 @@ impl<D: BlockDevice> Tree<D> {
     pub fn attributes_size(&mut self, alloc: Global, path: &Path<'_>) -> Result<usize, Error>
         requires { self.old.failed ≡ false }
         ensures asks { ReadsTreeOrFails self.old result self.new }
-        ensures size { IfOk result (IsAttributesSize (node_attributes_of (shown_tree self.old path.now))) }
+        ensures size { IfOk result (IsAttributesSize (node_attributes_of (visible_tree self.old path.now))) }
         ensures few { ReadsPairsOnce (ancestor_paths path.now) self.old self.new.history }
     {
         let size = attributes_size_at(alloc, &mut self.thread, self.root, path);
-        mark_failed(&mut self.thread, &size);
+        fail_on_error(&mut self.thread, &size);
         size
     }
 
@@ -350,12 +350,12 @@ impl<D: BlockDevice> Tree<D> {
     pub fn list(&mut self, alloc: Global, path: &Path<'_>) -> Result<Listing, Error>
         requires { self.old.failed ≡ false }
         ensures asks { ReadsTreeOrFails self.old result self.new }
-        ensures found { IfOk result (λ listing. IsFoundNode (shown_tree self.old) path.now listing.finding) }
-        ensures items { IfOk result (λ listing. map listed_item_view listing.items.items ≡ items_at (shown_tree self.old) path.now) }
+        ensures found { IfOk result (λ listing. IsFoundNode (visible_tree self.old) path.now listing.finding) }
+        ensures items { IfOk result (λ listing. map listed_item_view listing.items.items ≡ listed_entries_at (visible_tree self.old) path.now) }
         ensures few { ReadsPairsOnce (ancestor_paths path.now ++ path.now ∷ []) self.old self.new.history }
     {
         let listing = list_directory(alloc, &mut self.thread, self.root, path);
-        mark_failed(&mut self.thread, &listing);
+        fail_on_error(&mut self.thread, &listing);
         listing
     }
 
@@ -369,9 +369,9 @@ impl<D: BlockDevice> Tree<D> {
         requires { CanMakeDirectory self.old path.now }
         ensures { AppliesCallOrFails self.old (call.Mkdir path.now) result self.new }
     {
-        let plan = self.recover_planned(alloc, 4)?;
+        let plan = self.plan_and_recover(alloc, 4)?;
         let made = make_directory_at(alloc, &mut self.thread, self.root, path);
-        mark_failed(&mut self.thread, &made);
+        fail_on_error(&mut self.thread, &made);
         self.relocate(alloc, plan, made)
     }
 
@@ -396,9 +396,9 @@ impl<D: BlockDevice> Tree<D> {
         ensures does { AppliesCallOrFails self.old (call.Create path.now) result self.new }
         ensures few { self.old.disk.profile.pair_cycles ≡ 0 → ReadsSixAtMost self.old self.new.history }
     {
-        let plan = self.recover_planned(alloc, 2)?;
+        let plan = self.plan_and_recover(alloc, 2)?;
         let created = create_empty_file(alloc, &mut self.thread, self.root, path, known);
-        mark_failed(&mut self.thread, &created);
+        fail_on_error(&mut self.thread, &created);
         self.relocate(alloc, plan, created)
     }
 
@@ -412,9 +412,9 @@ impl<D: BlockDevice> Tree<D> {
         requires { CanRemoveEntry self.old path.now }
         ensures { AppliesCallOrFails self.old (call.Remove path.now) result self.new }
     {
-        let plan = self.recover_planned(alloc, 0)?;
+        let plan = self.plan_and_recover(alloc, 0)?;
         let removed = remove_at(alloc, &mut self.thread, self.root, path);
-        mark_failed(&mut self.thread, &removed);
+        fail_on_error(&mut self.thread, &removed);
         self.relocate(alloc, plan, removed)
     }
 
@@ -434,9 +434,9 @@ impl<D: BlockDevice> Tree<D> {
         requires { CanSetAttr self.old path.now kind bytes.now }
         ensures { AppliesCallOrFails self.old (call.SetAttr path.now kind bytes.now) result self.new }
     {
-        let plan = self.recover_planned(alloc, 2)?;
+        let plan = self.plan_and_recover(alloc, 2)?;
         let set = set_attr_at(alloc, &mut self.thread, self.root, path, kind, bytes);
-        mark_failed(&mut self.thread, &set);
+        fail_on_error(&mut self.thread, &set);
         self.relocate(alloc, plan, set)
     }
 
@@ -458,7 +458,7 @@ impl<D: BlockDevice> Tree<D> {
             return Ok(());
         }
         let recovered = recover_thread(alloc, &mut self.thread, self.root);
-        mark_failed(&mut self.thread, &recovered);
+        fail_on_error(&mut self.thread, &recovered);
         recovered
     }
 
@@ -472,9 +472,9 @@ impl<D: BlockDevice> Tree<D> {
         requires { CanRemoveAttr self.old path.now kind }
         ensures { AppliesCallOrFails self.old (call.RemoveAttr path.now kind) result self.new }
     {
-        let plan = self.recover_planned(alloc, 0)?;
+        let plan = self.plan_and_recover(alloc, 0)?;
         let removed = remove_attr_at(alloc, &mut self.thread, self.root, path, kind);
-        mark_failed(&mut self.thread, &removed);
+        fail_on_error(&mut self.thread, &removed);
         self.relocate(alloc, plan, removed)
     }
 }

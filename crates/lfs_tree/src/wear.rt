@@ -8,19 +8,19 @@ ghost use Rattle.lfs_tree.specs.Recoveries.{HasRecovered};
 ghost use Rattle.lfs_tree.specs.TreeCalls as call;
 ghost use Rattle.lfs_tree.specs.TreeCalls.{AppliesCallOrFails};
 ghost use Rattle.lfs_tree.specs.TreeState.{kept_thread};
-ghost use Rattle.lfs_tree.specs.Wear.{CanSpreadWear, IsPlanned, SpreadsAfter};
+ghost use Rattle.lfs_tree.specs.Wear.{CanRelocateByPlan, IsRelocationPlanned, RelocatesUnlessChangeFailed};
 
 use crate::tree::Tree;
 use lfs_device::{BlockDevice, Error};
-use lfs_operations::{MovePlan, plan_move, relocate};
+use lfs_operations::{RelocationPlan, plan_move, relocate};
 use std::alloc::Global;
 
 impl<D: BlockDevice> Tree<D> {
     // Plans the relocation of a worn pair before an operation that allocates at most `room` blocks.
     // Returns None if the profile's `pair_cycles` is 0.
-    pub(crate) fn plan_move(&mut self, room: u32) -> Option<MovePlan>
+    pub(crate) fn plan_move(&mut self, room: u32) -> Option<RelocationPlan>
         requires { self.old.failed ≡ false }
-        ensures planned { IsPlanned self.old room result }
+        ensures planned { IsRelocationPlanned self.old room result }
         ensures same { self.new ≡ self.old }
     {
         let device = self.thread.device();
@@ -31,17 +31,17 @@ impl<D: BlockDevice> Tree<D> {
     }
 
     // Plans a relocation, and then recovers.
-    pub(crate) fn recover_planned(
+    pub(crate) fn plan_and_recover(
         &mut self,
         alloc: Global,
         room: u32,
-    ) -> Result<Option<MovePlan>, Error>
+    ) -> Result<Option<RelocationPlan>, Error>
         requires works { self.old.failed ≡ false }
         requires writable { self.old.writable ≡ true }
         ensures does { AppliesCallOrFails self.old call.Recover result self.new }
         ensures settled { OnOk result (HasRecovered (kept_thread self.old) (kept_thread self.new)) }
         ensures idle { pairs_gstate self.old.pairs ≡ zero_gstate → self.new ≡ self.old }
-        ensures planned { IfOk result (IsPlanned self.old room) }
+        ensures planned { IfOk result (IsRelocationPlanned self.old room) }
     {
         let plan = self.plan_move(room);
         self.recover(alloc)?;
@@ -53,11 +53,11 @@ impl<D: BlockDevice> Tree<D> {
     pub(crate) fn relocate(
         &mut self,
         alloc: Global,
-        plan: Option<MovePlan>,
+        plan: Option<RelocationPlan>,
         done: Result<(), Error>,
     ) -> Result<(), Error>
-        requires { OnOk done (CanSpreadWear self.old plan) }
-        ensures does { SpreadsAfter self.old plan done result self.new }
+        requires { OnOk done (CanRelocateByPlan self.old plan) }
+        ensures does { RelocatesUnlessChangeFailed self.old plan done result self.new }
         ensures idle { plan ≡ None → (result ≡ done) × (self.new ≡ self.old) }
     {
         done?;

@@ -7,16 +7,16 @@ ghost use Rattle.lfs_model.specs.format.Disk.{inline_limit};
 ghost use Rattle.lfs_model.specs.session.Writers.{written_contents, zero_padded};
 ghost use Rattle.lfs_model.specs.session.Effects.{node_with_bytes};
 ghost use Rattle.lfs_model.specs.tree.Tree.{Path as ModelPath};
-ghost use Rattle.lfs_tree.specs.OpenContents.{CanOpenWriterOf, CanStoreContents, CanTruncateIn, CanWriteIn, HasBytesInForm, IsOpenedForm, AreTreeContents, AreBytesStored, WritesUnusedOrFails, writer_contents_bytes, kept_thread};
-ghost use Rattle.lfs_tree.specs.TreeState.{ReadsTreeOrFails, IsFailedTree, FailedByReading, HasErrorCause, SurvivesStops, shown_tree};
+ghost use Rattle.lfs_tree.specs.OpenContents.{CanOpenWriterOf, CanStoreContents, CanTruncateIn, CanWriteIn, ContentsHaveBytesInForm, IsOpenedForm, AreTreeContents, IsStoreApplied, WritesUnusedOrFails, writer_contents_bytes, kept_thread};
+ghost use Rattle.lfs_tree.specs.TreeState.{ReadsTreeOrFails, IsFailedTree, FailedByReading, HasErrorCause, PowerLossesLeaveEither, visible_tree};
 ghost use Rattle.lfs_file.specs.Contents.{contents_form};
 ghost use Rattle.lfs_file.specs.Form as form;
 ghost use Rattle.lfs_file.specs.Form.{truncated_form, written_form};
 
-use crate::answers::mark_failed;
+use crate::answers::fail_on_error;
 use crate::contents_at::store_contents_at;
 use crate::files::{truncate_file, write_file};
-use crate::opened_contents::{contents_of_nothing, open_contents_at};
+use crate::opened_contents::{empty_writer_contents, open_contents_at};
 use crate::tree::Tree;
 use lfs_device::{BlockDevice, Error};
 use lfs_file::WriterContents;
@@ -37,11 +37,11 @@ impl<D: BlockDevice> Tree<D> {
         requires { CanOpenWriterOf self.old path.now }
         ensures asks { ReadsTreeOrFails self.old result self.new }
         ensures over { IfOk result (AreTreeContents self.new path.now) }
-        ensures bytes { IfOk result (λ c. writer_contents_bytes (kept_thread self.new) c ≡ file_bytes (shown_tree self.old path.now)) }
-        ensures form { IfOk result (λ c. IsOpenedForm self.old.disk.profile self.old.disk.block_size (length (file_bytes (shown_tree self.old path.now))) (contents_form c)) }
+        ensures bytes { IfOk result (λ c. writer_contents_bytes (kept_thread self.new) c ≡ file_bytes (visible_tree self.old path.now)) }
+        ensures form { IfOk result (λ c. IsOpenedForm self.old.disk.profile self.old.disk.block_size (length (file_bytes (visible_tree self.old path.now))) (contents_form c)) }
     {
         let contents = open_contents_at(alloc, &mut self.thread, self.root, path);
-        mark_failed(&mut self.thread, &contents);
+        fail_on_error(&mut self.thread, &contents);
         contents
     }
 
@@ -53,14 +53,14 @@ impl<D: BlockDevice> Tree<D> {
         requires works { self.old.failed ≡ false }
         requires idle { in_flight_count self.old.map ≡ 0 }
         ensures same { OnOk result (self.new ≡ self.old) }
-        ensures over { (path : ModelPath) → is_file (shown_tree self.old path) ≡ true → IfOk result (AreTreeContents self.new path) }
+        ensures over { (path : ModelPath) → is_file (visible_tree self.old path) ≡ true → IfOk result (AreTreeContents self.new path) }
         ensures bytes { IfOk result (λ c. writer_contents_bytes (kept_thread self.new) c ≡ []) }
         ensures form { IfOk result (λ c. contents_form c ≡ form.InMemory 0) }
         ensures broken { OnErr result (FailedByReading self.old self.new) }
         ensures errors { IfErr result (HasErrorCause self.old self.new) }
     {
-        let contents = contents_of_nothing(alloc, &self.thread);
-        mark_failed(&mut self.thread, &contents);
+        let contents = empty_writer_contents(alloc, &self.thread);
+        fail_on_error(&mut self.thread, &contents);
         contents
     }
 
@@ -78,12 +78,12 @@ impl<D: BlockDevice> Tree<D> {
     ) -> Result<WriterContents, Error>
         requires { CanWriteIn self.old contents place (length bytes.now) }
         ensures over { (path : ModelPath) → AreTreeContents self.old path contents → IfOk result (AreTreeContents self.new path) }
-        ensures written { IfOk result (HasBytesInForm self.new (written_contents (writer_contents_bytes (kept_thread self.old) contents) place bytes.now)
+        ensures written { IfOk result (ContentsHaveBytesInForm self.new (written_contents (writer_contents_bytes (kept_thread self.old) contents) place bytes.now)
             (written_form (inline_limit self.old.disk.profile self.old.disk.block_size) place (length bytes.now) (contents_form contents))) }
         ensures writes { WritesUnusedOrFails self.old result self.new }
     {
         let written = write_file(alloc, &mut self.thread, contents, place, bytes);
-        mark_failed(&mut self.thread, &written);
+        fail_on_error(&mut self.thread, &written);
         written
     }
 
@@ -99,12 +99,12 @@ impl<D: BlockDevice> Tree<D> {
     ) -> Result<WriterContents, Error>
         requires { CanTruncateIn self.old contents size }
         ensures over { (path : ModelPath) → AreTreeContents self.old path contents → IfOk result (AreTreeContents self.new path) }
-        ensures truncated { IfOk result (HasBytesInForm self.new (take size (zero_padded size (writer_contents_bytes (kept_thread self.old) contents)))
+        ensures truncated { IfOk result (ContentsHaveBytesInForm self.new (take size (zero_padded size (writer_contents_bytes (kept_thread self.old) contents)))
             (truncated_form (inline_limit self.old.disk.profile self.old.disk.block_size) size (contents_form contents))) }
         ensures writes { WritesUnusedOrFails self.old result self.new }
     {
         let truncated = truncate_file(alloc, &mut self.thread, contents, size);
-        mark_failed(&mut self.thread, &truncated);
+        fail_on_error(&mut self.thread, &truncated);
         truncated
     }
 
@@ -119,14 +119,14 @@ impl<D: BlockDevice> Tree<D> {
         contents: WriterContents,
     ) -> Result<(), Error>
         requires { CanStoreContents self.old path.now contents }
-        ensures stored { OnOk result (AreBytesStored self.old path.now (writer_contents_bytes (kept_thread self.old) contents) self.new) }
+        ensures stored { OnOk result (IsStoreApplied self.old path.now (writer_contents_bytes (kept_thread self.old) contents) self.new) }
         ensures broken { OnErr result (IsFailedTree self.old self.new) }
         ensures errors { IfErr result (HasErrorCause self.old self.new) }
-        ensures survives { SurvivesStops self.old self.new (tree_with_change path.now (node_with_bytes (writer_contents_bytes (kept_thread self.old) contents)) (shown_tree self.old)) }
+        ensures survives { PowerLossesLeaveEither self.old self.new (tree_with_change path.now (node_with_bytes (writer_contents_bytes (kept_thread self.old) contents)) (visible_tree self.old)) }
     {
         let plan = self.plan_move(2);
         let stored = store_contents_at(alloc, &mut self.thread, self.root, path, contents);
-        mark_failed(&mut self.thread, &stored);
+        fail_on_error(&mut self.thread, &stored);
         self.relocate(alloc, plan, stored)
     }
 }

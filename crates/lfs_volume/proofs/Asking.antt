@@ -12,16 +12,16 @@ use Rattle.lfs_fs.specs.CallEffects.{IsCall}
 use Rattle.lfs_fs.specs.SessionView.{SessionView, viewed_session}
 use Rattle.lfs_volume.specs.declared.handles.Handle.{Handle}
 use Rattle.lfs_volume.specs.Calls.{Call, Tell, call_result, unless_refused}
-use Rattle.lfs_volume.specs.SessionCalls.{AreQuietCalls, error_result}
+use Rattle.lfs_volume.specs.SessionCalls.{AreTreePreservingCalls, error_result}
 use Rattle.lfs_volume.specs.Volume.{Volume, VolumeView, entry_at, volume_of}
-use Rattle.lfs_volume.specs.VolumeCalls.{IsReplied, IsSameVolume, IsWorking}
+use Rattle.lfs_volume.specs.VolumeCalls.{IsVolumeReply, DiffersOnlyByLoads, IsWorkingSession}
 use Rattle.lfs_volume.proofs.Steps.{done, healthy_view}
 use Rattle.lfs_volume.proofs.Saving.{count_not_refused, one_quiet}
 
 -- ---- whether the session works
 
 -- it does where it answers
-pub works_if_answered : (h : SessionView) (n : ℕ) → IsCall h ops.UsedCount (Ok (ops.Count n)) h → IsWorking h
+pub works_if_answered : (h : SessionView) (n : ℕ) → IsCall h ops.UsedCount (Ok (ops.Count n)) h → IsWorkingSession h
 works_if_answered h n call = (go h.tree.failed refl, (n, call))
   where
     go : (b : Bool) → h.tree.failed ≡ b → h.tree.failed ≡ false
@@ -50,11 +50,11 @@ failed_if_not h e call = go h.tree.failed refl
 
 -- ---- the relation of a call
 
-pub same_volume : (v : Volume) → IsSameVolume v v
+pub same_volume : (v : Volume) → DiffersOnlyByLoads v v
 same_volume v = record { tree = refl; handles = refl; count = refl; none = λ i e. e; some = λ i n e. (n, (e, inl refl)) }
 
 -- a call that asks for no more
-pub asked_call : (old new : VolumeView) (call : Call) (reply : Reply) → IsWorking old.session → new.session ≡ old.session → ((around : DiskSummary) → around.profile ≡ old.session.tree.disk.profile → call_result around (volume_of old) call ≡ (reply, volume_of new)) → IsReplied old call reply new
+pub asked_call : (old new : VolumeView) (call : Call) (reply : Reply) → IsWorkingSession old.session → new.session ≡ old.session → ((around : DiskSummary) → around.profile ≡ old.session.tree.disk.profile → call_result around (volume_of old) call ≡ (reply, volume_of new)) → IsVolumeReply old call reply new
 asked_call old new call reply (works, (n, asked)) same is =
     let d = done old.session ops.UsedCount (ops.Count n) old.session refl works refl asked.answers in
     let result = is d.around d.surrounds.profile in
@@ -68,9 +68,9 @@ asked_call old new call reply (works, (n, asked)) same is =
       before = [];
       reached = refl;
       reply_is = ap (λ (z : Reply × Volume). z.0) result;
-      next = subst (λ z. IsSameVolume z (volume_of new)) (sym (ap (λ (z : Reply × Volume). z.1) result)) (same_volume (volume_of new));
+      next = subst (λ z. DiffersOnlyByLoads z (volume_of new)) (sym (ap (λ (z : Reply × Volume). z.1) result)) (same_volume (volume_of new));
       operations = ops.UsedCount ∷ [];
-      session_part = inl (inl (subst (λ z. AreQuietCalls old.session (ops.UsedCount ∷ []) z) (sym same)
+      session_part = inl (inl (subst (λ z. AreTreePreservingCalls old.session (ops.UsedCount ∷ []) z) (sym same)
           (one_quiet old.session old.session ops.UsedCount (record { reply = ops.Count n; accepted = refl; call = asked; other = refl }) refl)));
     }
 
@@ -80,5 +80,5 @@ tell_is : (v : VolumeView) (handle : ℕ) (o : Option Handle) (around : DiskSumm
     call_result around (volume_of v) (Tell handle) ≡ unless_refused (refuse_if (is_none o) BadFile) (volume_of v) (ops.Count (unwrap_or (option_map (λ h. h.position) o) 0), volume_of v)
 tell_is v handle o around e = ap (λ x. unless_refused (refuse_if (is_none x) BadFile) (volume_of v) (ops.Count (unwrap_or (option_map (λ (h : Handle). h.position) x) 0), volume_of v)) e
 
-pub tell_found : (v : VolumeView) (handle : ℕ) (h : Handle) → IsWorking v.session × (entry_at v.handles handle ≡ Some h) → IsReplied v (Tell handle) (ops.Count h.position) v
+pub tell_found : (v : VolumeView) (handle : ℕ) (h : Handle) → IsWorkingSession v.session × (entry_at v.handles handle ≡ Some h) → IsVolumeReply v (Tell handle) (ops.Count h.position) v
 tell_found v handle h (working, found) = asked_call v v (Tell handle) (ops.Count h.position) working refl (λ around same. tell_is v handle (Some h) around found)

@@ -15,12 +15,12 @@ use Rattle.lfs_model.specs.session.Effects.{node_with_bytes, tree_after_storing}
 use Rattle.lfs_model.specs.session.TreeEdits.{file_bytes, last_name, names_with, node_with_names, parent_path, tree_creating, tree_with_change}
 use Rattle.lfs_model.specs.session.Writers.{opened_writer}
 use Rattle.lfs_model.proofs.Paths.{path_itself}
-use Rattle.lfs_tree.specs.TreeState.{shown_tree}
+use Rattle.lfs_tree.specs.TreeState.{visible_tree}
 use Rattle.lfs_fs.specs.CallEffects.{IsCall}
-use Rattle.lfs_fs.specs.FileAnswers.{FileAnswersOf, file_size}
+use Rattle.lfs_fs.specs.FileAnswers.{IsFileQueryResult, file_size}
 use Rattle.lfs_fs.specs.SessionView.{SessionView, viewed_session}
-use Rattle.lfs_volume.specs.Opened.{HasOneFile, IsIdle, one_file}
-use Rattle.lfs_volume.specs.Saves.{IsFileFound, found_tree}
+use Rattle.lfs_volume.specs.Opened.{HasOneOpenFile, IsIdleSession, session_with_file}
+use Rattle.lfs_volume.specs.Saves.{OpensAndClosesFile, found_tree}
 use Rattle.lfs_volume.specs.SessionCalls.{error_result}
 use Rattle.lfs_volume.proofs.NodeCalls.{open_when_idle}
 use Rattle.lfs_volume.proofs.Saving.{after_call, close_not_refused, opened_first, reply_of}
@@ -30,9 +30,9 @@ abbrev number_of : Reply → ℕ
 number_of (ops.Opened n) = n
 number_of _ = 0
 
-module _ (old h1 : SessionView) (path : List ℕ) (flags : FlagsOfOpen) (fd : ℕ) (idle : IsIdle old (shown_tree old.tree)) (opens : IsCall old (ops.Open path flags) (Ok (ops.Opened fd)) h1) (uncut : flags.truncate ≡ false) where
+module _ (old h1 : SessionView) (path : List ℕ) (flags : FlagsOfOpen) (fd : ℕ) (idle : IsIdleSession old (visible_tree old.tree)) (opens : IsCall old (ops.Open path flags) (Ok (ops.Opened fd)) h1) (uncut : flags.truncate ≡ false) where
   abbrev t : Tree
-  t = shown_tree old.tree
+  t = visible_tree old.tree
 
   abbrev p : Path
   p = path_or_root path
@@ -45,7 +45,7 @@ module _ (old h1 : SessionView) (path : List ℕ) (flags : FlagsOfOpen) (fd : �
       let d = done old (ops.Open path flags) (ops.Opened fd) h1 refl idle.works refl opens.answers in
       ap number_of (reply_of old (ops.Open path flags) (ops.Opened fd) h1 d (viewed_session old) refl) ∙ (opened_first old.files (Some opened) idle.files).0
 
-  one : HasOneFile h1 (found_tree t p) opened
+  one : HasOneOpenFile h1 (found_tree t p) opened
   one =
       let d = done old (ops.Open path flags) (ops.Opened fd) h1 refl idle.works refl opens.answers in
       record {
@@ -57,7 +57,7 @@ module _ (old h1 : SessionView) (path : List ℕ) (flags : FlagsOfOpen) (fd : �
   clean true = ap (λ c. cond (c && nat_lt 0 (length (file_bytes (t p)))) (tree_with_change p (node_with_bytes (cond flags.truncate [] (file_bytes (t p)))) (found_tree t p)) (found_tree t p)) uncut
   clean false = refl
 
-  alone : (b : Bool) → needs_session_alone (one_file (found_tree t p) (cond b (Writing (opened_writer p flags (file_bytes (t p)))) (Reading (record { path = p; position = 0 })))) (ops.Close 0) ≡ true
+  alone : (b : Bool) → needs_session_alone (session_with_file (found_tree t p) (cond b (Writing (opened_writer p flags (file_bytes (t p)))) (Reading (record { path = p; position = 0 })))) (ops.Close 0) ≡ true
   alone true = ap (λ c. not (c && nat_lt 0 (length (file_bytes (t p))))) uncut
   alone false = refl
 
@@ -69,20 +69,20 @@ module _ (old h1 : SessionView) (path : List ℕ) (flags : FlagsOfOpen) (fd : �
           ap (λ x. file_bytes ((cond (is_none x) (tree_creating p (FileNode [] []) t) t) p)) e ∙ ap (λ b. file_bytes (cond b (Some (FileNode [] [])) (tree_with_change (parent_path p) (node_with_names (names_with (last_name p))) t p))) (path_itself p) ∙ sym (ap file_bytes e)
       go (Some n) e = ap (λ x. file_bytes ((cond (is_none x) (tree_creating p (FileNode [] []) t) t) p)) e
 
-  shown : shown_tree h1.tree ≡ found_tree t p
+  shown : visible_tree h1.tree ≡ found_tree t p
   shown = ap (λ (z : Session). z.tree) one.is
 
   size_of : (b : Bool) → file_size h1 (cond b (Writing (opened_writer p flags (file_bytes (t p)))) (Reading (record { path = p; position = 0 }))) ≡ length (file_bytes (found_tree t p p))
   size_of true = ap (λ c. length (cond c [] (file_bytes (t p)))) uncut ∙ sym (ap length found_bytes)
   size_of false = ap (λ (tr : Tree). length (file_bytes (tr p))) shown
 
-  size_found : (n : ℕ) → FileAnswersOf file_size h1 fd (Ok n) → n ≡ length (file_bytes (found_tree t p p))
+  size_found : (n : ℕ) → IsFileQueryResult file_size h1 fd (Ok n) → n ≡ length (file_bytes (found_tree t p p))
   size_found n answer =
       let files = ap (λ (z : Session). z.files) one.is in
       let e : option_map (file_size h1) (Some opened) ≡ Some n = sym (ap₂ (λ fs k. option_map (file_size h1) (model.file_numbered fs k)) files number) ∙ answer.1 in
       sym (ap (λ (o : Option ℕ). unwrap_or o n) e) ∙ size_of flags.write
 
-  pub size_answers : (e : Error) → FileAnswersOf file_size h1 fd (Err e) → ⊥
+  pub size_answers : (e : Error) → IsFileQueryResult file_size h1 fd (Err e) → ⊥
   size_answers e (inl (failed, is)) = absurd (let k : true ≡ false = sym failed ∙ one.works in cc)
   size_answers e (inr (works, none, is)) =
       let files = ap (λ (z : Session). z.files) one.is in
@@ -98,13 +98,13 @@ module _ (old h1 : SessionView) (path : List ℕ) (flags : FlagsOfOpen) (fd : �
       go true is none = close_not_refused e h1 new (found_tree t p) opened fd one number close is
       go false is none = absurd (cc)
 
-  pub file_found : (n : ℕ) (new : SessionView) → FileAnswersOf file_size h1 fd (Ok n) → IsCall h1 (ops.Close fd) (Ok ops.Done) new → IsFileFound old path flags n new
+  pub file_found : (n : ℕ) (new : SessionView) → IsFileQueryResult file_size h1 fd (Ok n) → IsCall h1 (ops.Close fd) (Ok ops.Done) new → OpensAndClosesFile old path flags n new
   file_found n new size close =
       let call = subst (λ z. IsCall h1 (ops.Close z) (Ok ops.Done) new) number close in
       let d = done old (ops.Open path flags) (ops.Opened fd) h1 refl idle.works refl opens.answers in
       let e = done h1 (ops.Close 0) ops.Done new refl d.works refl call.answers in
-      let after = after_call h1 (ops.Close 0) ops.Done new e (one_file (found_tree t p) opened) one.is in
-      let tree : shown_tree new.tree ≡ found_tree t p = ap (λ (z : Session). z.tree) after ∙ clean flags.write in
+      let after = after_call h1 (ops.Close 0) ops.Done new e (session_with_file (found_tree t p) opened) one.is in
+      let tree : visible_tree new.tree ≡ found_tree t p = ap (λ (z : Session). z.tree) after ∙ clean flags.write in
       record {
         around = d.around;
         pairs = d.pairs;

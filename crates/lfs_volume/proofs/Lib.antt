@@ -2,7 +2,7 @@ pub mod Asking
 pub mod Common
 pub mod Entries
 pub mod Finding
-pub mod Hulls
+pub mod DirtyRanges
 pub mod Loading
 pub mod MovedFiles
 pub mod NodeCalls

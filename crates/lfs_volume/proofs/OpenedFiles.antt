@@ -12,19 +12,19 @@ use Rattle.lfs_model.specs.session.Session.{DiskSummary, Session, flags_allowed,
 use Rattle.lfs_model.specs.session.TreeEdits.{file_bytes, is_directory, is_file, last_name, names_with, node_with_names, parent_path, same_path, tree_creating, tree_with_change}
 use Rattle.lfs_model.specs.session.Writers.{zero_padded}
 use Rattle.lfs_model.proofs.Paths.{name_from_same, path_itself}
-use Rattle.lfs_tree.specs.TreeState.{shown_tree}
+use Rattle.lfs_tree.specs.TreeState.{visible_tree}
 use Rattle.lfs_fs.specs.CallEffects.{IsCall}
 use Rattle.lfs_fs.specs.SessionView.{SessionView}
 use Rattle.lfs_fs.proofs.SamePaths.{same_bytes}
-use Rattle.lfs_volume.specs.declared.hull.Hull.{Hull}
+use Rattle.lfs_volume.specs.declared.dirty_range.DirtyRange.{DirtyRange}
 use Rattle.lfs_volume.specs.declared.handles.Handle.{Handle}
-use Rattle.lfs_volume.specs.Calls.{free_entry, new_handle, node_of_path, node_on_open, opened_nodes, session_flags, with_entry}
-use Rattle.lfs_volume.specs.Hulls.{DiffersInHull, DiffersWithin, cut_hull, hull_with, resized_hull}
-use Rattle.lfs_volume.specs.Opened.{IsIdle, LeadsToFile}
+use Rattle.lfs_volume.specs.Calls.{free_entry_index, new_handle, node_index_for_path, node_after_open, nodes_after_open, session_flags, with_entry}
+use Rattle.lfs_volume.specs.DirtyRanges.{DiffersInDirtyRange, DiffersOnlyWithinRange, truncate_dirty_range, extend_dirty_range, resize_dirty_range}
+use Rattle.lfs_volume.specs.Opened.{IsIdleSession, LeadsToFile}
 use Rattle.lfs_volume.specs.Saves.{found_tree}
 use Rattle.lfs_volume.specs.SessionCalls.{error_result}
 use Rattle.lfs_volume.specs.Volume.{NodeView, VolumeView, entry_at, idle_session, opened_node, resized_node, stored_bytes}
-use Rattle.lfs_volume.specs.VolumeCalls.{IsSound, IsSoundNode, IsSoundVolume}
+use Rattle.lfs_volume.specs.VolumeCalls.{IsSoundIfWorking, IsSoundNode, IsSoundVolume}
 use Rattle.lfs_volume.proofs.Opening.{IsOpened, open_fails, open_part, open_steps, uncut_flags}
 use Rattle.lfs_volume.proofs.PutEntries.{NodeOfPath, free_within, is_new, is_open, node_there, number_within, put_elsewhere, put_over, put_there}
 use Rattle.lfs_volume.proofs.Saving.{idle_stays}
@@ -84,27 +84,27 @@ same_list xs ys e = cc
 no_list : (xs : List ℕ) → Some xs ≡ None → ⊥
 no_list xs e = absurd (cc)
 
-pub opened_sound : (h : SessionView) (path : List ℕ) (size : ℕ) → LeadsToFile (shown_tree h.tree) path → size ≡ length (file_bytes (shown_tree h.tree (path_or_root path))) → IsSoundNode h (opened_node path size)
+pub opened_sound : (h : SessionView) (path : List ℕ) (size : ℕ) → LeadsToFile (visible_tree h.tree) path → size ≡ length (file_bytes (visible_tree h.tree (path_or_root path))) → IsSoundNode h (opened_node path size)
 opened_sound h path size leads is = record {
   sized = λ none. sym is;
   unchanged = λ none. refl;
   long = λ bytes e. absurd (no_list bytes (sym e));
   differs = λ other bytes at e. absurd (no_list bytes (sym e));
   small = λ k. absurd (let z : false ≡ true = k in cc);
-  leads = λ other at. subst (LeadsToFile (shown_tree h.tree)) (same_list path other at) leads;
+  leads = λ other at. subst (LeadsToFile (visible_tree h.tree)) (same_list path other at) leads;
 }
 
-nothing_differs : (stored : List ℕ) (h : Hull) → h.from ≡ 0 → h.end ≡ 0 → DiffersWithin stored [] h
-nothing_differs stored h from end = subst (DiffersWithin stored []) (sym (ap₂ at from end)) (record { order = omega arith; inside = omega arith; begins = omega arith; before = refl; behind = refl })
+nothing_differs : (stored : List ℕ) (h : DirtyRange) → h.from ≡ 0 → h.end ≡ 0 → DiffersOnlyWithinRange stored [] h
+nothing_differs stored h from end = subst (DiffersOnlyWithinRange stored []) (sym (ap₂ at from end)) (record { order = omega arith; inside = omega arith; begins = omega arith; before = refl; behind = refl })
   where
-    at : ℕ → ℕ → Hull
+    at : ℕ → ℕ → DirtyRange
     at a b = record { from = a; end = b }
 
--- a hull that is cut to nothing
-cut_to_nothing : (hull : Option Hull) (size : ℕ) → ((resized_hull hull size 0).from ≡ 0) × ((resized_hull hull size 0).end ≡ 0)
-cut_to_nothing hull size = subst (λ b. ((cond b (hull_with hull size 0) (cut_hull hull 0)).from ≡ 0) × ((cond b (hull_with hull size 0) (cut_hull hull 0)).end ≡ 0)) (sym (le-ltb size 0 (omega arith))) (cut hull)
+-- a dirty range that is cut to nothing
+cut_to_nothing : (dirty_range : Option DirtyRange) (size : ℕ) → ((resize_dirty_range dirty_range size 0).from ≡ 0) × ((resize_dirty_range dirty_range size 0).end ≡ 0)
+cut_to_nothing dirty_range size = subst (λ b. ((cond b (extend_dirty_range dirty_range size 0) (truncate_dirty_range dirty_range 0)).from ≡ 0) × ((cond b (extend_dirty_range dirty_range size 0) (truncate_dirty_range dirty_range 0)).end ≡ 0)) (sym (le-ltb size 0 (omega arith))) (cut dirty_range)
   where
-    cut : (o : Option Hull) → ((cut_hull o 0).from ≡ 0) × ((cut_hull o 0).end ≡ 0)
+    cut : (o : Option DirtyRange) → ((truncate_dirty_range o 0).from ≡ 0) × ((truncate_dirty_range o 0).end ≡ 0)
     cut None = (refl, refl)
     cut (Some h) = (omega arith, omega arith)
 
@@ -112,7 +112,7 @@ pub cleared_sound : (h : SessionView) (n : NodeView) → IsSoundNode h n → IsS
 cleared_sound h n s = go (0 == n.size) refl
   where
     changed : NodeView
-    changed = record n { size = 0; contents = Some (take 0 (zero_padded 0 [])); hull = Some (resized_hull n.hull n.size 0) }
+    changed = record n { size = 0; contents = Some (take 0 (zero_padded 0 [])); dirty_range = Some (resize_dirty_range n.dirty_range n.size 0) }
 
     go : (b : Bool) → (0 == n.size) ≡ b → IsSoundNode h (resized_node 0 [] n)
     go true e = subst (IsSoundNode h) (sym (ap (λ b. cond b n changed) e)) s
@@ -120,7 +120,7 @@ cleared_sound h n s = go (0 == n.size) refl
       sized = λ none. absurd (no_list _ none);
       unchanged = λ none. absurd (no_list _ none);
       long = λ bytes c. ap length (sym (same_list _ bytes c));
-      differs = λ path bytes at c. let k = cut_to_nothing n.hull n.size in subst (λ z. DiffersInHull (stored_bytes (shown_tree h.tree) (Some path)) z (Some (resized_hull n.hull n.size 0))) (same_list _ bytes c) (nothing_differs (stored_bytes (shown_tree h.tree) (Some path)) (resized_hull n.hull n.size 0) k.0 k.1);
+      differs = λ path bytes at c. let k = cut_to_nothing n.dirty_range n.size in subst (λ z. DiffersInDirtyRange (stored_bytes (visible_tree h.tree) (Some path)) z (Some (resize_dirty_range n.dirty_range n.size 0))) (same_list _ bytes c) (nothing_differs (stored_bytes (visible_tree h.tree) (Some path)) (resize_dirty_range n.dirty_range n.size 0) k.0 k.1);
       small = λ k. omega arith;
       leads = s.leads;
     })
@@ -135,7 +135,7 @@ cut_sound false h n s = s
 cut_path : (truncates : Bool) (n : NodeView) → (cut_if truncates n).path ≡ n.path
 cut_path true n = go (0 == n.size)
   where
-    go : (b : Bool) → (cond b n (record n { size = 0; contents = Some (take 0 (zero_padded 0 [])); hull = Some (resized_hull n.hull n.size 0) })).path ≡ n.path
+    go : (b : Bool) → (cond b n (record n { size = 0; contents = Some (take 0 (zero_padded 0 [])); dirty_range = Some (resize_dirty_range n.dirty_range n.size 0) })).path ≡ n.path
     go true = refl
     go false = refl
 cut_path false n = refl
@@ -143,12 +143,12 @@ cut_path false n = refl
 -- ---- the volume
 
 -- over a tree that keeps its files
-carried_sound : (old : VolumeView) (new : SessionView) → IsSoundVolume old → KeepsFiles (shown_tree old.session.tree) (shown_tree new.tree) → IsIdle new (shown_tree new.tree) → new.tree.disk.profile ≡ old.session.tree.disk.profile → IsSoundVolume (record { session = new; nodes = old.nodes; handles = old.handles })
+carried_sound : (old : VolumeView) (new : SessionView) → IsSoundVolume old → KeepsFiles (visible_tree old.session.tree) (visible_tree new.tree) → IsIdleSession new (visible_tree new.tree) → new.tree.disk.profile ≡ old.session.tree.disk.profile → IsSoundVolume (record { session = new; nodes = old.nodes; handles = old.handles })
 carried_sound old new sound k idle profile = record {
   idle = idle;
   nodes = λ j n e.
       let s = sound.nodes j n e in
-      node_carried old.session new n (stored_kept (shown_tree old.session.tree) (shown_tree new.tree) k n.path s.leads) (leads_kept (shown_tree old.session.tree) (shown_tree new.tree) k) profile s;
+      node_carried old.session new n (stored_kept (visible_tree old.session.tree) (visible_tree new.tree) k n.path s.leads) (leads_kept (visible_tree old.session.tree) (visible_tree new.tree) k) profile s;
   named = sound.named;
   apart = sound.apart;
 }
@@ -209,36 +209,36 @@ sound_with_handle v i h sound within is = record {
     named j g e (inr ne) = sound.named j g (sym (put_elsewhere v.handles i within (Some h) j ne) ∙ e)
 
 module _ (old new : VolumeView) (path : List ℕ) (flags : FlagsOfOpen) (sound : IsSoundVolume old) (o : IsOpened old path flags new) where
-  leads : LeadsToFile (shown_tree new.session.tree) path
-  leads = subst (λ t. LeadsToFile t path) (sym o.found.idle.shows) (found_leads o.found.around (idle_session (shown_tree old.session.tree)) path (session_flags flags) o.found.passes)
+  leads : LeadsToFile (visible_tree new.session.tree) path
+  leads = subst (λ t. LeadsToFile t path) (sym o.found.idle.shows) (found_leads o.found.around (idle_session (visible_tree old.session.tree)) path (session_flags flags) o.found.passes)
 
   -- the session's tree has the file
   mid_sound : IsSoundVolume (record { session = new.session; nodes = old.nodes; handles = old.handles })
-  mid_sound = carried_sound old new.session sound (subst (KeepsFiles (shown_tree old.session.tree)) (sym o.found.idle.shows) (keeps_found (shown_tree old.session.tree) (path_or_root path)))
+  mid_sound = carried_sound old new.session sound (subst (KeepsFiles (visible_tree old.session.tree)) (sym o.found.idle.shows) (keeps_found (visible_tree old.session.tree) (path_or_root path)))
       (record { works = o.found.idle.works; shows = refl; files = o.found.idle.files })
       (steps_profile old.session new.session (ops.Open path (session_flags flags) ∷ ops.Close 0 ∷ []) (open_steps old.session new.session path (session_flags flags) o.size o.found))
 
-  put_as : (x : Option NodeView) (n : NodeView) → x ≡ Some n → Some (node_on_open path o.size flags.truncate x) ≡ Some (cut_if flags.truncate n)
+  put_as : (x : Option NodeView) (n : NodeView) → x ≡ Some n → Some (node_after_open path o.size flags.truncate x) ≡ Some (cut_if flags.truncate n)
   put_as x n e = ap (λ z. Some (cut_if flags.truncate (unwrap_or z (opened_node path o.size)))) e
 
-  put_new : (x : Option NodeView) → x ≡ None → Some (node_on_open path o.size flags.truncate x) ≡ Some (cut_if flags.truncate (opened_node path o.size))
+  put_new : (x : Option NodeView) → x ≡ None → Some (node_after_open path o.size flags.truncate x) ≡ Some (cut_if flags.truncate (opened_node path o.size))
   put_new x e = ap (λ z. Some (cut_if flags.truncate (unwrap_or z (opened_node path o.size)))) e
 
   -- the node is in its table
-  listed_sound : NodeOfPath old.nodes path → IsSoundVolume (record { session = new.session; nodes = opened_nodes path o.size flags.truncate old.nodes; handles = old.handles })
-  listed_sound (is_open n there named) = still_sound (record { session = new.session; nodes = old.nodes; handles = old.handles }) (record { session = new.session; nodes = opened_nodes path o.size flags.truncate old.nodes; handles = old.handles })
-      (node_of_path old.nodes path) n (cut_if flags.truncate n) mid_sound (record {
+  listed_sound : NodeOfPath old.nodes path → IsSoundVolume (record { session = new.session; nodes = nodes_after_open path o.size flags.truncate old.nodes; handles = old.handles })
+  listed_sound (is_open n there named) = still_sound (record { session = new.session; nodes = old.nodes; handles = old.handles }) (record { session = new.session; nodes = nodes_after_open path o.size flags.truncate old.nodes; handles = old.handles })
+      (node_index_for_path old.nodes path) n (cut_if flags.truncate n) mid_sound (record {
         was = there;
-        nodes = ap (with_entry old.nodes (node_of_path old.nodes path)) (put_as (entry_at old.nodes (node_of_path old.nodes path)) n there) ∙ put_over old.nodes (node_of_path old.nodes path) n (Some (cut_if flags.truncate n)) there;
+        nodes = ap (with_entry old.nodes (node_index_for_path old.nodes path)) (put_as (entry_at old.nodes (node_index_for_path old.nodes path)) n there) ∙ put_over old.nodes (node_index_for_path old.nodes path) n (Some (cut_if flags.truncate n)) there;
         path = cut_path flags.truncate n;
         idle = mid_sound.idle;
-        sound = cut_sound flags.truncate new.session n (mid_sound.nodes (node_of_path old.nodes path) n there);
+        sound = cut_sound flags.truncate new.session n (mid_sound.nodes (node_index_for_path old.nodes path) n there);
         others = λ j k ne e. mid_sound.nodes j k e;
         handles = handles_stay old.handles old.handles refl;
       })
   listed_sound (is_new free nobody) =
-      subst (λ x. IsSoundVolume (record { session = new.session; nodes = with_entry old.nodes (node_of_path old.nodes path) x; handles = old.handles })) (sym (put_new (entry_at old.nodes (node_of_path old.nodes path)) free))
-      (sound_with_node (record { session = new.session; nodes = old.nodes; handles = old.handles }) (node_of_path old.nodes path) (cut_if flags.truncate (opened_node path o.size)) mid_sound (number_within old.nodes path)
+      subst (λ x. IsSoundVolume (record { session = new.session; nodes = with_entry old.nodes (node_index_for_path old.nodes path) x; handles = old.handles })) (sym (put_new (entry_at old.nodes (node_index_for_path old.nodes path)) free))
+      (sound_with_node (record { session = new.session; nodes = old.nodes; handles = old.handles }) (node_index_for_path old.nodes path) (cut_if flags.truncate (opened_node path o.size)) mid_sound (number_within old.nodes path)
       (cut_sound flags.truncate new.session (opened_node path o.size) (opened_sound new.session path o.size leads (o.found.size_is ∙ ap (λ (t : Tree). length (file_bytes (t (path_or_root path)))) (sym o.found.idle.shows))))
       (λ j n mine other e p q same.
       let own : path ≡ mine = same_list path mine (sym (cut_path flags.truncate (opened_node path o.size)) ∙ p) in
@@ -247,14 +247,14 @@ module _ (old new : VolumeView) (path : List ℕ) (flags : FlagsOfOpen) (sound :
 
   pub sound_opened : IsSoundVolume new
   sound_opened =
-      let there : IsSome (entry_at (opened_nodes path o.size flags.truncate old.nodes) (node_of_path old.nodes path)) =
-      subst IsSome (sym (put_there old.nodes (node_of_path old.nodes path) (number_within old.nodes path) (Some (node_on_open path o.size flags.truncate (entry_at old.nodes (node_of_path old.nodes path)))))) refl in
+      let there : IsSome (entry_at (nodes_after_open path o.size flags.truncate old.nodes) (node_index_for_path old.nodes path)) =
+      subst IsSome (sym (put_there old.nodes (node_index_for_path old.nodes path) (number_within old.nodes path) (Some (node_after_open path o.size flags.truncate (entry_at old.nodes (node_index_for_path old.nodes path)))))) refl in
       subst IsSoundVolume (sym (ap₂ (λ (ns : List (Option NodeView)) (hs : List (Option Handle)). record { session = new.session; nodes = ns; handles = hs }) o.nodes o.handles))
-      (sound_with_handle (record { session = new.session; nodes = opened_nodes path o.size flags.truncate old.nodes; handles = old.handles }) (free_entry old.handles) (new_handle (node_of_path old.nodes path) flags) (listed_sound (node_there old.nodes path)) (free_within old.handles) there)
+      (sound_with_handle (record { session = new.session; nodes = nodes_after_open path o.size flags.truncate old.nodes; handles = old.handles }) (free_entry_index old.handles) (new_handle (node_index_for_path old.nodes path) flags) (listed_sound (node_there old.nodes path)) (free_within old.handles) there)
 
 -- ---- an open that was refused
 
-pub sound_if_refused : (e : Error) (old new : VolumeView) (path : List ℕ) (flags : FlagsOfOpen) → IsSoundVolume old → IsCall old.session (ops.Open path flags) (error_result e) new.session → new.nodes ≡ old.nodes → new.handles ≡ old.handles → IsSound new
+pub sound_if_refused : (e : Error) (old new : VolumeView) (path : List ℕ) (flags : FlagsOfOpen) → IsSoundVolume old → IsCall old.session (ops.Open path flags) (error_result e) new.session → new.nodes ≡ old.nodes → new.handles ≡ old.handles → IsSoundIfWorking new
 sound_if_refused e old new path flags sound call nodes handles works = go (refusals.is_refusal e) refl
   where
     go : (b : Bool) → refusals.is_refusal e ≡ b → IsSoundVolume new
@@ -263,6 +263,6 @@ sound_if_refused e old new path flags sound call nodes handles works = go (refus
         sound_kept old new sound (idle_stays old.session new.session sound.idle r.works r.stays) (part_profile old.session new.session (ops.Open path flags ∷ []) (open_part e old.session new.session path flags is call)) nodes handles
     go false is = absurd (failed_not_working e old.session new.session (open_fails e old.session new.session path flags is call) works)
 
-pub sound_if_refused_by : (e : Error) (old new : VolumeView) (path : List ℕ) (flags asked : FlagsOfOpen) → asked ≡ session_flags flags → IsSoundVolume old → (IsIdle old.session (shown_tree old.session.tree) → asked.truncate ≡ false → IsCall old.session (ops.Open path asked) (error_result e) new.session)
-    → new.nodes ≡ old.nodes → new.handles ≡ old.handles → IsSound new
+pub sound_if_refused_by : (e : Error) (old new : VolumeView) (path : List ℕ) (flags asked : FlagsOfOpen) → asked ≡ session_flags flags → IsSoundVolume old → (IsIdleSession old.session (visible_tree old.session.tree) → asked.truncate ≡ false → IsCall old.session (ops.Open path asked) (error_result e) new.session)
+    → new.nodes ≡ old.nodes → new.handles ≡ old.handles → IsSoundIfWorking new
 sound_if_refused_by e old new path flags asked is sound ends = sound_if_refused e old new path asked sound (ends sound.idle (ap (λ (f : FlagsOfOpen). f.truncate) is ∙ uncut_flags flags))

@@ -7,26 +7,26 @@ use Rattle.std.proofs.lemmas.Bool.{ltb-false}
 use Rattle.lfs_device.specs.declared.error.Error.{Error}
 use Rattle.lfs_model.specs.format.Disk.{profile_file_max}
 use Rattle.lfs_model.specs.format.Names.{same_name}
-use Rattle.lfs_model.specs.tree.Shown.{all_entries, struct_list_bytes}
+use Rattle.lfs_model.specs.tree.Shown.{all_entries, disk_list_bytes}
 use Rattle.lfs_model.specs.format.Thread.{root_address}
 use Rattle.lfs_model.specs.tree.Tree.{Path, Tree, root_slot}
 use Rattle.lfs_model.specs.session.Operations as ops
 use Rattle.lfs_model.specs.session.Operations.{Busy, EntryFull, Invalid, IsDir, NameTooLong, NoEnt, NoSpace, NotDir, NotEmpty, ReadOnly, Refusal, parse_path, path_bytes}
-use Rattle.lfs_model.specs.session.Session.{DiskSummary, exceeds_charge, has_long_name, has_open_file, lacks_room, parents_refusal, refuse_if}
+use Rattle.lfs_model.specs.session.Session.{DiskSummary, exceeds_half_pair, has_long_name, has_open_file, lacks_room, parents_refusal, refuse_if}
 use Rattle.lfs_model.specs.session.Refusals.{is_root_path, operation_refusal, path_or_root, path_unusable}
 use Rattle.lfs_model.specs.session.TreeEdits.{directory_names, file_bytes, is_beneath, is_directory, is_file, last_name, names_with, names_without, node_attributes_of, node_with_names, parent_path, same_path, tree_removing, tree_renaming, tree_with_change, tree_with_subtree, without_prefix}
 use Rattle.lfs_model.proofs.Parents.{parent_has_name}
 use Rattle.lfs_model.proofs.Paths.{cancel, name_from_same, path_from_same, path_itself, rest_itself, same_itself}
-use Rattle.lfs_tree.specs.TreeState.{shown_tree}
+use Rattle.lfs_tree.specs.TreeState.{visible_tree}
 use Rattle.lfs_fs.specs.CallEffects.{IsCall}
 use Rattle.lfs_fs.specs.Replies.{reply_from}
 use Rattle.lfs_fs.specs.SessionView.{SessionView}
 use Rattle.lfs_volume.specs.declared.handles.Handle.{Handle}
-use Rattle.lfs_volume.specs.Calls.{Perform, has_path, is_at_or_beneath, moved_node, moved_path, nodes_after, unlink_path, with_path, with_paths, without_path}
-use Rattle.lfs_volume.specs.Hulls.{DiffersInHull}
-use Rattle.lfs_volume.specs.Opened.{IsIdle, LeadsToFile}
+use Rattle.lfs_volume.specs.Calls.{Perform, has_path, is_at_or_beneath, node_after_rename, renamed_path, nodes_after_operation, unlink_path, with_path, nodes_with_paths, nodes_without_path}
+use Rattle.lfs_volume.specs.DirtyRanges.{DiffersInDirtyRange}
+use Rattle.lfs_volume.specs.Opened.{IsIdleSession, LeadsToFile}
 use Rattle.lfs_volume.specs.Volume.{NodeView, VolumeView, entry_at, idle_session, loaded_node, node_bytes, stored_bytes, unlinked_node}
-use Rattle.lfs_volume.specs.VolumeCalls.{IsSound, IsSoundNode, IsSoundVolume, IsWorkingCall}
+use Rattle.lfs_volume.specs.VolumeCalls.{IsSoundIfWorking, IsSoundNode, IsSoundVolume, IsHealthyVolumeCall}
 use Rattle.lfs_volume.proofs.Entries.{no_entry, set_same}
 use Rattle.lfs_volume.proofs.MovedFiles.{IsFileAt, MayRename, NamesNodes, StaysFile, moved_stays, not_beneath_new, other_stays, parents_from, parents_of, removed_stays}
 use Rattle.lfs_volume.proofs.NodeTables.{HasPathOnce, entry_map, loaded_nodes, moved_table, unlinked_table}
@@ -38,10 +38,10 @@ use Rattle.lfs_volume.proofs.Unlinking.{IsReady, accepted_after, ended_after, en
 
 -- ---- the tree that a session shows
 
-names_nodes : (h : SessionView) → NamesNodes (shown_tree h.tree)
-names_nodes h path name node e = parent_has_name (struct_list_bytes h.tree.disk) (all_entries h.tree.pairs) (root_slot (root_address h.tree.pairs)) path name node e
+names_nodes : (h : SessionView) → NamesNodes (visible_tree h.tree)
+names_nodes h path name node e = parent_has_name (disk_list_bytes h.tree.disk) (all_entries h.tree.pairs) (root_slot (root_address h.tree.pairs)) path name node e
 
-root_no_file : (h : SessionView) → is_file (shown_tree h.tree []) ≡ false
+root_no_file : (h : SessionView) → is_file (visible_tree h.tree []) ≡ false
 root_no_file h = refl
 
 file_at : (t : Tree) (path : List ℕ) → LeadsToFile t path → IsFileAt t (path_or_root path)
@@ -64,11 +64,11 @@ parsed path given = go (parse_path path) given
     go (Some p) e = refl
 
 -- the path of a file
-spelled_file : (h : SessionView) (path : List ℕ) → LeadsToFile (shown_tree h.tree) path → IsSpelled path (path_or_root path)
+spelled_file : (h : SessionView) (path : List ℕ) → LeadsToFile (visible_tree h.tree) path → IsSpelled path (path_or_root path)
 spelled_file h path l = spelled_as path (path_or_root path) (parsed path l.given) (go (path_or_root path) refl)
   where
     go : (p : Path) → path_or_root path ≡ p → is_root_path p ≡ false
-    go [] e = absurd (let k : false ≡ true = sym (root_no_file h) ∙ ap (λ q. is_file (shown_tree h.tree q)) (sym e) ∙ l.file in cc)
+    go [] e = absurd (let k : false ≡ true = sym (root_no_file h) ∙ ap (λ q. is_file (visible_tree h.tree q)) (sym e) ∙ l.file in cc)
     go (name ∷ p) e = refl
 
 -- a path that may be an entry's
@@ -89,23 +89,23 @@ entry_path path usable = record { parsed = is (parse_path path) usable; inner = 
 
 -- ---- a node at the same file
 
--- The same bytes, and the same hull, at a path that leads to the same stored bytes.
-node_carried_to : (a b : SessionView) (n m : NodeView) → m.size ≡ n.size → m.contents ≡ n.contents → m.hull ≡ n.hull → stored_bytes (shown_tree b.tree) m.path ≡ stored_bytes (shown_tree a.tree) n.path
-    → ((path : List ℕ) → m.path ≡ Some path → (was : List ℕ) × (n.path ≡ Some was)) → ((path : List ℕ) → m.path ≡ Some path → LeadsToFile (shown_tree b.tree) path) → b.tree.disk.profile ≡ a.tree.disk.profile → IsSoundNode a n → IsSoundNode b m
-node_carried_to a b n m size contents hull stored was leads profile s = record {
+-- The same bytes, and the same dirty range, at a path that leads to the same stored bytes.
+node_carried_to : (a b : SessionView) (n m : NodeView) → m.size ≡ n.size → m.contents ≡ n.contents → m.dirty_range ≡ n.dirty_range → stored_bytes (visible_tree b.tree) m.path ≡ stored_bytes (visible_tree a.tree) n.path
+    → ((path : List ℕ) → m.path ≡ Some path → (was : List ℕ) × (n.path ≡ Some was)) → ((path : List ℕ) → m.path ≡ Some path → LeadsToFile (visible_tree b.tree) path) → b.tree.disk.profile ≡ a.tree.disk.profile → IsSoundNode a n → IsSoundNode b m
+node_carried_to a b n m size contents dirty_range stored was leads profile s = record {
   sized = λ none. ap length stored ∙ s.sized (sym contents ∙ none) ∙ sym size;
-  unchanged = λ none. hull ∙ s.unchanged (sym contents ∙ none);
+  unchanged = λ none. dirty_range ∙ s.unchanged (sym contents ∙ none);
   long = λ bytes e. s.long bytes (sym contents ∙ e) ∙ sym size;
   differs = λ path bytes at c.
       let w = was path at in
-      subst (λ z. DiffersInHull z bytes m.hull) (sym (ap (stored_bytes (shown_tree a.tree)) w.1) ∙ sym stored ∙ ap (stored_bytes (shown_tree b.tree)) at)
-      (subst (DiffersInHull (stored_bytes (shown_tree a.tree) (Some w.0)) bytes) (sym hull) (s.differs w.0 bytes w.1 (sym contents ∙ c)));
-  small = λ k. subst (λ p. m.size ≤ profile_file_max p) (sym profile) (subst (λ z. z ≤ profile_file_max a.tree.disk.profile) (sym size) (s.small (subst IsSome hull k)));
+      subst (λ z. DiffersInDirtyRange z bytes m.dirty_range) (sym (ap (stored_bytes (visible_tree a.tree)) w.1) ∙ sym stored ∙ ap (stored_bytes (visible_tree b.tree)) at)
+      (subst (DiffersInDirtyRange (stored_bytes (visible_tree a.tree) (Some w.0)) bytes) (sym dirty_range) (s.differs w.0 bytes w.1 (sym contents ∙ c)));
+  small = λ k. subst (λ p. m.size ≤ profile_file_max p) (sym profile) (subst (λ z. z ≤ profile_file_max a.tree.disk.profile) (sym size) (s.small (subst IsSome dirty_range k)));
   leads = leads;
 }
 
 -- a node without a path, whose bytes are in memory
-unlinked_sound : (a b : SessionView) (n : NodeView) → IsSoundNode a n → IsSoundNode b (unlinked_node (loaded_node (node_bytes (shown_tree a.tree) n) n))
+unlinked_sound : (a b : SessionView) (n : NodeView) → IsSoundNode a n → IsSoundNode b (unlinked_node (loaded_node (node_bytes (visible_tree a.tree) n) n))
 unlinked_sound a b n s = record {
   sized = λ none. absurd (no_list _ none);
   unchanged = λ none. refl;
@@ -136,7 +136,7 @@ pub record CameFromOne (n m : NodeView) : Type 0 where
 
 sound_mapped : (mid new : VolumeView) (nodes : List (Option NodeView)) (f : NodeView → NodeView) → (found : (i : ℕ) (n : NodeView) → entry_at nodes i ≡ Some n → IsSoundNode mid.session n)
     → (apart : (i j : ℕ) (n m : NodeView) (path other : List ℕ) → entry_at nodes i ≡ Some n → entry_at nodes j ≡ Some m → n.path ≡ Some path → m.path ≡ Some other → path_or_root path ≡ path_or_root other → i ≡ j)
-    → (named : (i : ℕ) (h : Handle) → entry_at new.handles i ≡ Some h → IsSome (entry_at nodes h.node)) → new.nodes ≡ map (option_map f) nodes → IsIdle new.session (shown_tree new.session.tree)
+    → (named : (i : ℕ) (h : Handle) → entry_at new.handles i ≡ Some h → IsSome (entry_at nodes h.node)) → new.nodes ≡ map (option_map f) nodes → IsIdleSession new.session (visible_tree new.session.tree)
     → ((n : NodeView) → IsSoundNode mid.session n → IsSoundNode new.session (f n))
     → ((n m : NodeView) (path other : List ℕ) → IsSoundNode mid.session n → IsSoundNode mid.session m → (f n).path ≡ Some path → (f m).path ≡ Some other → path_or_root path ≡ path_or_root other → CameFromOne n m) → IsSoundVolume new
 sound_mapped mid new nodes f found apart named are idle each came = record {
@@ -232,41 +232,41 @@ may_remove around t path passes =
       empty = zero_from (length (directory_names (t (path_or_root path)))) (not_refused_if (nat_lt 0 (length (directory_names (t (path_or_root path))))) NotEmpty (none_at (remove_checks around t path) 4 empty passes refl));
     }
 
-module _ (mid new : SessionView) (path : List ℕ) (may : MayRemove (shown_tree mid.tree) path) (shows : shown_tree new.tree ≡ tree_removing (path_or_root path) (shown_tree mid.tree)) (profile : new.tree.disk.profile ≡ mid.tree.disk.profile) where
-  left_sound : (n : NodeView) → IsSoundNode mid n → IsSoundNode new (unlink_path (shown_tree mid.tree) path n)
+module _ (mid new : SessionView) (path : List ℕ) (may : MayRemove (visible_tree mid.tree) path) (shows : visible_tree new.tree ≡ tree_removing (path_or_root path) (visible_tree mid.tree)) (profile : new.tree.disk.profile ≡ mid.tree.disk.profile) where
+  left_sound : (n : NodeView) → IsSoundNode mid n → IsSoundNode new (unlink_path (visible_tree mid.tree) path n)
   left_sound n s = go (true_or_false (has_path path (Some n))) (none_or_some n.path)
     where
-      there_still : (was : List ℕ) → n.path ≡ Some was → has_path path (Some n) ≡ false → StaysFile (shown_tree mid.tree) (tree_removing (path_or_root path) (shown_tree mid.tree)) (path_or_root was) (path_or_root was)
+      there_still : (was : List ℕ) → n.path ≡ Some was → has_path path (Some n) ≡ false → StaysFile (visible_tree mid.tree) (tree_removing (path_or_root path) (visible_tree mid.tree)) (path_or_root was) (path_or_root was)
       there_still was at other =
-          removed_stays (path_or_root path) (path_or_root was) (shown_tree mid.tree) (names_nodes mid) may.empty
-          (leads_elsewhere path was n may.entry at (s.leads was at).given other) (file_at (shown_tree mid.tree) was (s.leads was at))
+          removed_stays (path_or_root path) (path_or_root was) (visible_tree mid.tree) (names_nodes mid) may.empty
+          (leads_elsewhere path was n may.entry at (s.leads was at).given other) (file_at (visible_tree mid.tree) was (s.leads was at))
 
-      same : Option (List ℕ) → has_path path (Some n) ≡ false → unlink_path (shown_tree mid.tree) path n ≡ n
-      same o other = ap (λ b. cond b (unlinked_node (loaded_node (node_bytes (shown_tree mid.tree) n) n)) n) other
+      same : Option (List ℕ) → has_path path (Some n) ≡ false → unlink_path (visible_tree mid.tree) path n ≡ n
+      same o other = ap (λ b. cond b (unlinked_node (loaded_node (node_bytes (visible_tree mid.tree) n) n)) n) other
 
       kept : has_path path (Some n) ≡ false → (n.path ≡ None) ⊎ ((was : List ℕ) × (n.path ≡ Some was)) → IsSoundNode new n
       kept other (inl none) =
-          node_carried_to mid new n n refl refl refl (ap (stored_bytes (shown_tree new.tree)) none ∙ sym (ap (stored_bytes (shown_tree mid.tree)) none)) (λ q at. (q, at)) (λ q at. absurd (let z : None ≡ Some q = sym none ∙ at in cc)) profile s
+          node_carried_to mid new n n refl refl refl (ap (stored_bytes (visible_tree new.tree)) none ∙ sym (ap (stored_bytes (visible_tree mid.tree)) none)) (λ q at. (q, at)) (λ q at. absurd (let z : None ≡ Some q = sym none ∙ at in cc)) profile s
       kept other (inr (was, at)) =
           let k = there_still was at other in
           node_carried_to mid new n n refl refl refl
-          (ap₂ stored_bytes shows at ∙ k.bytes ∙ sym (ap (stored_bytes (shown_tree mid.tree)) at)) (λ q here. (q, here))
-          (λ q here. subst (λ z. LeadsToFile z q) (sym shows) (subst (LeadsToFile (tree_removing (path_or_root path) (shown_tree mid.tree))) (let z : Some was ≡ Some q = sym at ∙ here in cc) (leads_from (tree_removing (path_or_root path) (shown_tree mid.tree)) was (path_or_root was) (parsed was (s.leads was at).given) k.leads))) profile s
+          (ap₂ stored_bytes shows at ∙ k.bytes ∙ sym (ap (stored_bytes (visible_tree mid.tree)) at)) (λ q here. (q, here))
+          (λ q here. subst (λ z. LeadsToFile z q) (sym shows) (subst (LeadsToFile (tree_removing (path_or_root path) (visible_tree mid.tree))) (let z : Some was ≡ Some q = sym at ∙ here in cc) (leads_from (tree_removing (path_or_root path) (visible_tree mid.tree)) was (path_or_root was) (parsed was (s.leads was at).given) k.leads))) profile s
 
-      go : (has_path path (Some n) ≡ true) ⊎ (has_path path (Some n) ≡ false) → (n.path ≡ None) ⊎ ((was : List ℕ) × (n.path ≡ Some was)) → IsSoundNode new (unlink_path (shown_tree mid.tree) path n)
-      go (inl has) at = subst (IsSoundNode new) (sym (ap (λ b. cond b (unlinked_node (loaded_node (node_bytes (shown_tree mid.tree) n) n)) n) has)) (unlinked_sound mid new n s)
-      go (inr other) at = subst (IsSoundNode new) (sym (ap (λ b. cond b (unlinked_node (loaded_node (node_bytes (shown_tree mid.tree) n) n)) n) other)) (kept other at)
+      go : (has_path path (Some n) ≡ true) ⊎ (has_path path (Some n) ≡ false) → (n.path ≡ None) ⊎ ((was : List ℕ) × (n.path ≡ Some was)) → IsSoundNode new (unlink_path (visible_tree mid.tree) path n)
+      go (inl has) at = subst (IsSoundNode new) (sym (ap (λ b. cond b (unlinked_node (loaded_node (node_bytes (visible_tree mid.tree) n) n)) n) has)) (unlinked_sound mid new n s)
+      go (inr other) at = subst (IsSoundNode new) (sym (ap (λ b. cond b (unlinked_node (loaded_node (node_bytes (visible_tree mid.tree) n) n)) n) other)) (kept other at)
 
 -- what is known of the nodes from before, once one of them was loaded
 before_sound : (old mid : VolumeView) (place : ℕ) → IsSoundVolume old → IsReady old mid place → (i : ℕ) (n : NodeView) → entry_at old.nodes i ≡ Some n → IsSoundNode mid.session n
 before_sound old mid place sound r i n e = node_stays old.session mid.session n r.loaded.idle.shows (quiet_profile old.session mid.session r.loaded.operations r.loaded.calls) (sound.nodes i n e)
 
 pub sound_removed : (old mid new : VolumeView) (place : ℕ) (path : List ℕ) → IsSoundVolume old → IsReady old mid place → IsCall mid.session (ops.Remove path) (Ok ops.Done) new.session
-    → new.nodes ≡ map (option_map (unlink_path (shown_tree mid.session.tree) path)) old.nodes → new.handles ≡ old.handles → IsSoundVolume new
+    → new.nodes ≡ map (option_map (unlink_path (visible_tree mid.session.tree) path)) old.nodes → new.handles ≡ old.handles → IsSoundVolume new
 sound_removed old mid new place path sound r call nodes handles =
     let o = remove_on_entries path in
     let op = ops.Remove path in
-    let t = shown_tree mid.session.tree in
+    let t = visible_tree mid.session.tree in
     let d = is_done old mid place sound r op o new.session ops.Done refl call in
     let may = may_remove d.around t path (passes_alone old mid place sound r op o new.session ops.Done d) in
     sound_mapped mid new old.nodes (unlink_path t path) (before_sound old mid place sound r) sound.apart
@@ -288,7 +288,7 @@ rename_checks around t from to =
     ∷ refuse_if (not (same_path (path_or_root from) (path_or_root to)) && is_file (t (path_or_root from)) && is_directory (t (path_or_root to))) IsDir
     ∷ refuse_if (not (same_path (path_or_root from) (path_or_root to)) && nat_lt 0 (length (directory_names (t (path_or_root to))))) NotEmpty
     ∷ refuse_if (has_open_file (λ p. is_some (without_prefix (path_or_root from) p) || same_path (path_or_root to) p) []) Busy
-    ∷ refuse_if (not (same_path (path_or_root from) (path_or_root to)) && exceeds_charge around (last_name (path_or_root to)) (node_attributes_of (t (path_or_root from)))) EntryFull
+    ∷ refuse_if (not (same_path (path_or_root from) (path_or_root to)) && exceeds_half_pair around (last_name (path_or_root to)) (node_attributes_of (t (path_or_root from)))) EntryFull
     ∷ refuse_if (lacks_room around [] 2) NoSpace
     ∷ []
 
@@ -311,9 +311,9 @@ no_rest p q not_beneath differ r e =
     let l : true ≡ false = sym (ap₂ (λ a b. a && not b) k differ) ∙ not_beneath in
     absurd (cc)
 
-is_rename : (h : SessionView) (around : DiskSummary) (from to : List ℕ) → same_name from to ≡ false → operation_refusal around (idle_session (shown_tree h.tree)) (ops.Rename from to) ≡ None → IsRename (shown_tree h.tree) from to
+is_rename : (h : SessionView) (around : DiskSummary) (from to : List ℕ) → same_name from to ≡ false → operation_refusal around (idle_session (visible_tree h.tree)) (ops.Rename from to) ≡ None → IsRename (visible_tree h.tree) from to
 is_rename h around from to apart passes =
-    let t = shown_tree h.tree in
+    let t = visible_tree h.tree in
     let p = path_or_root from in
     let q = path_or_root to in
     let unusable = path_unusable (parse_path from) || path_unusable (parse_path to) || is_beneath p q in
@@ -355,67 +355,67 @@ aside_bytes t from to k = go (beneath from to (path_or_root from) (path_or_root 
 
 -- where a node is after the rename
 data Way (t : Tree) (from to : List ℕ) (n : NodeView) : Type 0 where
-  goes : moved_node from to (unlink_path t to n) ≡ unlinked_node (loaded_node (node_bytes t n) n) → Way t from to n
-  moves : (was : List ℕ) (r : Path) → n.path ≡ Some was → path_or_root was ≡ path_or_root from ++ r → moved_node from to (unlink_path t to n) ≡ with_path (Some (to ++ path_bytes r)) n → parse_path (to ++ path_bytes r) ≡ Some (path_or_root to ++ r) → Way t from to n
-  stays : (was : List ℕ) → n.path ≡ Some was → ((r : Path) → path_or_root was ≡ path_or_root from ++ r → ⊥) → (path_or_root to ≡ path_or_root was → ⊥) → moved_node from to (unlink_path t to n) ≡ n → Way t from to n
-  nowhere : n.path ≡ None → moved_node from to (unlink_path t to n) ≡ n → Way t from to n
+  goes : node_after_rename from to (unlink_path t to n) ≡ unlinked_node (loaded_node (node_bytes t n) n) → Way t from to n
+  moves : (was : List ℕ) (r : Path) → n.path ≡ Some was → path_or_root was ≡ path_or_root from ++ r → node_after_rename from to (unlink_path t to n) ≡ with_path (Some (to ++ path_bytes r)) n → parse_path (to ++ path_bytes r) ≡ Some (path_or_root to ++ r) → Way t from to n
+  stays : (was : List ℕ) → n.path ≡ Some was → ((r : Path) → path_or_root was ≡ path_or_root from ++ r → ⊥) → (path_or_root to ≡ path_or_root was → ⊥) → node_after_rename from to (unlink_path t to n) ≡ n → Way t from to n
+  nowhere : n.path ≡ None → node_after_rename from to (unlink_path t to n) ≡ n → Way t from to n
 
-module _ (mid new : SessionView) (from to : List ℕ) (k : IsRename (shown_tree mid.tree) from to) (shows : shown_tree new.tree ≡ tree_renaming (path_or_root from) (path_or_root to) (shown_tree mid.tree)) (profile : new.tree.disk.profile ≡ mid.tree.disk.profile) where
+module _ (mid new : SessionView) (from to : List ℕ) (k : IsRename (visible_tree mid.tree) from to) (shows : visible_tree new.tree ≡ tree_renaming (path_or_root from) (path_or_root to) (visible_tree mid.tree)) (profile : new.tree.disk.profile ≡ mid.tree.disk.profile) where
   abbrev t : Tree
-  t = shown_tree mid.tree
+  t = visible_tree mid.tree
 
-  way : (n : NodeView) → IsSoundNode mid n → Way (shown_tree mid.tree) from to n
+  way : (n : NodeView) → IsSoundNode mid n → Way (visible_tree mid.tree) from to n
   way n s = go (true_or_false (has_path to (Some n))) (none_or_some n.path)
     where
-      with_test : (b : Bool) → has_path to (Some n) ≡ b → unlink_path (shown_tree mid.tree) to n ≡ cond b (unlinked_node (loaded_node (node_bytes (shown_tree mid.tree) n) n)) n
-      with_test b e = ap (λ z. cond z (unlinked_node (loaded_node (node_bytes (shown_tree mid.tree) n) n)) n) e
+      with_test : (b : Bool) → has_path to (Some n) ≡ b → unlink_path (visible_tree mid.tree) to n ≡ cond b (unlinked_node (loaded_node (node_bytes (visible_tree mid.tree) n) n)) n
+      with_test b e = ap (λ z. cond z (unlinked_node (loaded_node (node_bytes (visible_tree mid.tree) n) n)) n) e
 
-      moved_to : (was : List ℕ) → n.path ≡ Some was → (b : Bool) → is_at_or_beneath from was ≡ b → moved_path from to n ≡ cond b (Some (to ++ drop (length from) was)) None
+      moved_to : (was : List ℕ) → n.path ≡ Some was → (b : Bool) → is_at_or_beneath from was ≡ b → renamed_path from to n ≡ cond b (Some (to ++ drop (length from) was)) None
       moved_to was at b e = ap (option_and_then (λ q. cond (is_at_or_beneath from q) (Some (to ++ drop (length from) q)) None)) at ∙ ap (λ z. cond z (Some (to ++ drop (length from) was)) None) e
 
-      on : (was : List ℕ) → n.path ≡ Some was → has_path to (Some n) ≡ false → IsSpelled was (path_or_root was) → Beneath from was (path_or_root from) (path_or_root was) → Way (shown_tree mid.tree) from to n
+      on : (was : List ℕ) → n.path ≡ Some was → has_path to (Some n) ≡ false → IsSpelled was (path_or_root was) → Beneath from was (path_or_root from) (path_or_root was) → Way (visible_tree mid.tree) from to n
       on was at other spelled (there r e test left) =
-          moves was r at e (ap (moved_node from to) (with_test false other) ∙ ap (λ o. with_path o n) (moved_to was at true test ∙ ap (λ z. Some (to ++ z)) left))
+          moves was r at e (ap (node_after_rename from to) (with_test false other) ∙ ap (λ o. with_path o n) (moved_to was at true test ∙ ap (λ z. Some (to ++ z)) left))
           (appended to (path_or_root to) (path_or_root was) r (path_or_root from) (spelled_as to (path_or_root to) k.target.parsed k.target.inner) e spelled.components)
       on was at other spelled (elsewhere never test) =
-          stays was at never (leads_elsewhere to was n k.target at (s.leads was at).given other) (ap (moved_node from to) (with_test false other) ∙ ap (λ o. with_path o n) (moved_to was at false test))
+          stays was at never (leads_elsewhere to was n k.target at (s.leads was at).given other) (ap (node_after_rename from to) (with_test false other) ∙ ap (λ o. with_path o n) (moved_to was at false test))
 
-      go : (has_path to (Some n) ≡ true) ⊎ (has_path to (Some n) ≡ false) → (n.path ≡ None) ⊎ ((was : List ℕ) × (n.path ≡ Some was)) → Way (shown_tree mid.tree) from to n
-      go (inl has) at = goes (ap (moved_node from to) (with_test true has))
-      go (inr other) (inl none) = nowhere none (ap (moved_node from to) (with_test false other) ∙ ap (λ o. with_path (option_and_then (λ q. cond (is_at_or_beneath from q) (Some (to ++ drop (length from) q)) None) o) n) none)
+      go : (has_path to (Some n) ≡ true) ⊎ (has_path to (Some n) ≡ false) → (n.path ≡ None) ⊎ ((was : List ℕ) × (n.path ≡ Some was)) → Way (visible_tree mid.tree) from to n
+      go (inl has) at = goes (ap (node_after_rename from to) (with_test true has))
+      go (inr other) (inl none) = nowhere none (ap (node_after_rename from to) (with_test false other) ∙ ap (λ o. with_path (option_and_then (λ q. cond (is_at_or_beneath from q) (Some (to ++ drop (length from) q)) None) o) n) none)
       go (inr other) (inr (was, at)) =
           let spelled = spelled_file mid was (s.leads was at) in
           on was at other spelled (beneath from was (path_or_root from) (path_or_root was) (spelled_as from (path_or_root from) k.entry.parsed k.entry.inner) spelled)
 
   -- a file that leads to the same bytes
   carried : (n m : NodeView) (was path : List ℕ) (q to_path : Path) → IsSoundNode mid n → n.path ≡ Some was → m ≡ with_path (Some path) n → path_or_root was ≡ q → parse_path path ≡ Some to_path
-      → StaysFile (shown_tree mid.tree) (tree_renaming (path_or_root from) (path_or_root to) (shown_tree mid.tree)) q to_path → IsSoundNode new m
+      → StaysFile (visible_tree mid.tree) (tree_renaming (path_or_root from) (path_or_root to) (visible_tree mid.tree)) q to_path → IsSoundNode new m
   carried n m was path q to_path s at is old_is new_is stay =
       subst (IsSoundNode new) (sym is)
       (node_carried_to mid new n (with_path (Some path) n) refl refl refl
-      (ap (λ z. stored_bytes z (Some path)) shows ∙ ap (λ o. file_bytes (tree_renaming (path_or_root from) (path_or_root to) (shown_tree mid.tree) (unwrap_or o []))) new_is ∙ stay.bytes ∙ sym (ap (λ z. file_bytes (shown_tree mid.tree z)) old_is) ∙ sym (ap (stored_bytes (shown_tree mid.tree)) at))
-      (λ p e. (was, at)) (λ p e. subst (λ z. LeadsToFile z p) (sym shows) (subst (LeadsToFile (tree_renaming (path_or_root from) (path_or_root to) (shown_tree mid.tree))) (let z : Some path ≡ Some p = e in cc) (leads_from (tree_renaming (path_or_root from) (path_or_root to) (shown_tree mid.tree)) path to_path new_is stay.leads))) profile s)
+      (ap (λ z. stored_bytes z (Some path)) shows ∙ ap (λ o. file_bytes (tree_renaming (path_or_root from) (path_or_root to) (visible_tree mid.tree) (unwrap_or o []))) new_is ∙ stay.bytes ∙ sym (ap (λ z. file_bytes (visible_tree mid.tree z)) old_is) ∙ sym (ap (stored_bytes (visible_tree mid.tree)) at))
+      (λ p e. (was, at)) (λ p e. subst (λ z. LeadsToFile z p) (sym shows) (subst (LeadsToFile (tree_renaming (path_or_root from) (path_or_root to) (visible_tree mid.tree))) (let z : Some path ≡ Some p = e in cc) (leads_from (tree_renaming (path_or_root from) (path_or_root to) (visible_tree mid.tree)) path to_path new_is stay.leads))) profile s)
 
   same_node : (n : NodeView) (was : List ℕ) → n.path ≡ Some was → n ≡ with_path (Some was) n
   same_node n was at = ap (λ o. record n { path = o }) at
 
-  moved_sound : (n : NodeView) → IsSoundNode mid n → IsSoundNode new (moved_node from to (unlink_path (shown_tree mid.tree) to n))
+  moved_sound : (n : NodeView) → IsSoundNode mid n → IsSoundNode new (node_after_rename from to (unlink_path (visible_tree mid.tree) to n))
   moved_sound n s = go (way n s)
     where
-      go : Way (shown_tree mid.tree) from to n → IsSoundNode new (moved_node from to (unlink_path (shown_tree mid.tree) to n))
+      go : Way (visible_tree mid.tree) from to n → IsSoundNode new (node_after_rename from to (unlink_path (visible_tree mid.tree) to n))
       go (goes is) = subst (IsSoundNode new) (sym is) (unlinked_sound mid new n s)
       go (moves was r at e is spelled) =
-          carried n (moved_node from to (unlink_path (shown_tree mid.tree) to n)) was (to ++ path_bytes r) (path_or_root from ++ r) (path_or_root to ++ r) s at is e spelled
-          (moved_stays (shown_tree mid.tree) (path_or_root from) (path_or_root to) k.may r (subst (IsFileAt (shown_tree mid.tree)) e (file_at (shown_tree mid.tree) was (s.leads was at))))
+          carried n (node_after_rename from to (unlink_path (visible_tree mid.tree) to n)) was (to ++ path_bytes r) (path_or_root from ++ r) (path_or_root to ++ r) s at is e spelled
+          (moved_stays (visible_tree mid.tree) (path_or_root from) (path_or_root to) k.may r (subst (IsFileAt (visible_tree mid.tree)) e (file_at (visible_tree mid.tree) was (s.leads was at))))
       go (stays was at not_old not_new is) =
-          carried n (moved_node from to (unlink_path (shown_tree mid.tree) to n)) was was (path_or_root was) (path_or_root was) s at (is ∙ same_node n was at) refl (parsed was (s.leads was at).given)
-          (other_stays (shown_tree mid.tree) (path_or_root from) (path_or_root to) k.may (path_or_root was) (file_at (shown_tree mid.tree) was (s.leads was at)) not_old not_new)
+          carried n (node_after_rename from to (unlink_path (visible_tree mid.tree) to n)) was was (path_or_root was) (path_or_root was) s at (is ∙ same_node n was at) refl (parsed was (s.leads was at).given)
+          (other_stays (visible_tree mid.tree) (path_or_root from) (path_or_root to) k.may (path_or_root was) (file_at (visible_tree mid.tree) was (s.leads was at)) not_old not_new)
       go (nowhere none is) =
           subst (IsSoundNode new) (sym is)
-          (node_carried_to mid new n n refl refl refl (ap (stored_bytes (shown_tree new.tree)) none ∙ sym (ap (stored_bytes (shown_tree mid.tree)) none)) (λ q at. (q, at)) (λ q at. absurd (let z : None ≡ Some q = sym none ∙ at in cc)) profile s)
+          (node_carried_to mid new n n refl refl refl (ap (stored_bytes (visible_tree new.tree)) none ∙ sym (ap (stored_bytes (visible_tree mid.tree)) none)) (λ q at. (q, at)) (λ q at. absurd (let z : None ≡ Some q = sym none ∙ at in cc)) profile s)
 
   -- no two files come to one path
-  came_from : (n m : NodeView) (path other : List ℕ) → IsSoundNode mid n → IsSoundNode mid m → (moved_node from to (unlink_path (shown_tree mid.tree) to n)).path ≡ Some path → (moved_node from to (unlink_path (shown_tree mid.tree) to m)).path ≡ Some other → path_or_root path ≡ path_or_root other → CameFromOne n m
+  came_from : (n m : NodeView) (path other : List ℕ) → IsSoundNode mid n → IsSoundNode mid m → (node_after_rename from to (unlink_path (visible_tree mid.tree) to n)).path ≡ Some path → (node_after_rename from to (unlink_path (visible_tree mid.tree) to m)).path ≡ Some other → path_or_root path ≡ path_or_root other → CameFromOne n m
   came_from n m path other s z x y same = go (way n s) (way m z)
     where
       lost : (a : NodeView) (p : List ℕ) → a.path ≡ None → a.path ≡ Some p → CameFromOne n m
@@ -431,73 +431,73 @@ module _ (mid new : SessionView) (from to : List ℕ) (k : IsRename (shown_tree 
       at_new r spelled p e = ap path_or_root e ∙ ap (λ o. unwrap_or o []) spelled
 
       never : (a : NodeView) (was : List ℕ) → IsSoundNode mid a → a.path ≡ Some was → (path_or_root to ≡ path_or_root was → ⊥) → (r : Path) → path_or_root was ≡ path_or_root to ++ r → ⊥
-      never a was sa at not_new r e = not_beneath_new (shown_tree mid.tree) (path_or_root from) (path_or_root to) k.may (path_or_root was) (file_at (shown_tree mid.tree) was (sa.leads was at)) not_new r e
+      never a was sa at not_new r e = not_beneath_new (visible_tree mid.tree) (path_or_root from) (path_or_root to) k.may (path_or_root was) (file_at (visible_tree mid.tree) was (sa.leads was at)) not_new r e
 
-      go : Way (shown_tree mid.tree) from to n → Way (shown_tree mid.tree) from to m → CameFromOne n m
-      go (goes is) b = lost (moved_node from to (unlink_path (shown_tree mid.tree) to n)) path (ap (λ (v : NodeView). v.path) is) x
-      go (nowhere none is) b = lost (moved_node from to (unlink_path (shown_tree mid.tree) to n)) path (ap (λ (v : NodeView). v.path) is ∙ none) x
-      go (moves was r at e is spelled) (goes also) = lost (moved_node from to (unlink_path (shown_tree mid.tree) to m)) other (ap (λ (v : NodeView). v.path) also) y
-      go (moves was r at e is spelled) (nowhere none also) = lost (moved_node from to (unlink_path (shown_tree mid.tree) to m)) other (ap (λ (v : NodeView). v.path) also ∙ none) y
-      go (stays was at not_old not_new is) (goes also) = lost (moved_node from to (unlink_path (shown_tree mid.tree) to m)) other (ap (λ (v : NodeView). v.path) also) y
-      go (stays was at not_old not_new is) (nowhere none also) = lost (moved_node from to (unlink_path (shown_tree mid.tree) to m)) other (ap (λ (v : NodeView). v.path) also ∙ none) y
+      go : Way (visible_tree mid.tree) from to n → Way (visible_tree mid.tree) from to m → CameFromOne n m
+      go (goes is) b = lost (node_after_rename from to (unlink_path (visible_tree mid.tree) to n)) path (ap (λ (v : NodeView). v.path) is) x
+      go (nowhere none is) b = lost (node_after_rename from to (unlink_path (visible_tree mid.tree) to n)) path (ap (λ (v : NodeView). v.path) is ∙ none) x
+      go (moves was r at e is spelled) (goes also) = lost (node_after_rename from to (unlink_path (visible_tree mid.tree) to m)) other (ap (λ (v : NodeView). v.path) also) y
+      go (moves was r at e is spelled) (nowhere none also) = lost (node_after_rename from to (unlink_path (visible_tree mid.tree) to m)) other (ap (λ (v : NodeView). v.path) also ∙ none) y
+      go (stays was at not_old not_new is) (goes also) = lost (node_after_rename from to (unlink_path (visible_tree mid.tree) to m)) other (ap (λ (v : NodeView). v.path) also) y
+      go (stays was at not_old not_new is) (nowhere none also) = lost (node_after_rename from to (unlink_path (visible_tree mid.tree) to m)) other (ap (λ (v : NodeView). v.path) also ∙ none) y
       go (moves was r at e is spelled) (moves too q here f also read) =
-          let a = at_new r spelled path (new_path (moved_node from to (unlink_path (shown_tree mid.tree) to n)) path (to ++ path_bytes r) n x is) in
-          let b = at_new q read other (new_path (moved_node from to (unlink_path (shown_tree mid.tree) to m)) other (to ++ path_bytes q) m y also) in
+          let a = at_new r spelled path (new_path (node_after_rename from to (unlink_path (visible_tree mid.tree) to n)) path (to ++ path_bytes r) n x is) in
+          let b = at_new q read other (new_path (node_after_rename from to (unlink_path (visible_tree mid.tree) to m)) other (to ++ path_bytes q) m y also) in
           record { path = was; other = too; is = at; also = here; same = e ∙ ap (λ z. path_or_root from ++ z) (cancel (path_or_root to) r q (sym a ∙ same ∙ b)) ∙ sym f }
       go (moves was r at e is spelled) (stays too here not_old not_new also) =
-          let a = at_new r spelled path (new_path (moved_node from to (unlink_path (shown_tree mid.tree) to n)) path (to ++ path_bytes r) n x is) in
-          let b = ap path_or_root (old_path (moved_node from to (unlink_path (shown_tree mid.tree) to m)) other too m y also here) in
+          let a = at_new r spelled path (new_path (node_after_rename from to (unlink_path (visible_tree mid.tree) to n)) path (to ++ path_bytes r) n x is) in
+          let b = ap path_or_root (old_path (node_after_rename from to (unlink_path (visible_tree mid.tree) to m)) other too m y also here) in
           absurd (never m too z here not_new r (sym b ∙ sym same ∙ a))
       go (stays was at not_old not_new is) (moves too q here f also read) =
-          let a = ap path_or_root (old_path (moved_node from to (unlink_path (shown_tree mid.tree) to n)) path was n x is at) in
-          let b = at_new q read other (new_path (moved_node from to (unlink_path (shown_tree mid.tree) to m)) other (to ++ path_bytes q) m y also) in
+          let a = ap path_or_root (old_path (node_after_rename from to (unlink_path (visible_tree mid.tree) to n)) path was n x is at) in
+          let b = at_new q read other (new_path (node_after_rename from to (unlink_path (visible_tree mid.tree) to m)) other (to ++ path_bytes q) m y also) in
           absurd (never n was s at not_new q (sym a ∙ same ∙ b))
       go (stays was at not_old not_new is) (stays too here nor_old nor_new also) =
-          let a = ap path_or_root (old_path (moved_node from to (unlink_path (shown_tree mid.tree) to n)) path was n x is at) in
-          let b = ap path_or_root (old_path (moved_node from to (unlink_path (shown_tree mid.tree) to m)) other too m y also here) in
+          let a = ap path_or_root (old_path (node_after_rename from to (unlink_path (visible_tree mid.tree) to n)) path was n x is at) in
+          let b = ap path_or_root (old_path (node_after_rename from to (unlink_path (visible_tree mid.tree) to m)) other too m y also here) in
           record { path = was; other = too; is = at; also = here; same = sym a ∙ same ∙ b }
 
 -- what the checks left of a rename that was done
-pub rename_done : (old mid : VolumeView) (new : SessionView) (place : ℕ) (from to : List ℕ) → IsSoundVolume old → IsReady old mid place → same_name from to ≡ false → IsCall mid.session (ops.Rename from to) (Ok ops.Done) new → IsRename (shown_tree mid.session.tree) from to
+pub rename_done : (old mid : VolumeView) (new : SessionView) (place : ℕ) (from to : List ℕ) → IsSoundVolume old → IsReady old mid place → same_name from to ≡ false → IsCall mid.session (ops.Rename from to) (Ok ops.Done) new → IsRename (visible_tree mid.session.tree) from to
 rename_done old mid new place from to sound r apart call =
     let o = rename_on_entries from to in
     let d = is_done old mid place sound r (ops.Rename from to) o new ops.Done refl call in
     is_rename mid.session d.around from to apart (passes_alone old mid place sound r (ops.Rename from to) o new ops.Done d)
 
 pub sound_renamed : (old mid new : VolumeView) (place : ℕ) (from to : List ℕ) → IsSoundVolume old → IsReady old mid place → same_name from to ≡ false → IsCall mid.session (ops.Rename from to) (Ok ops.Done) new.session
-    → new.nodes ≡ map (option_map (λ n. moved_node from to (unlink_path (shown_tree mid.session.tree) to n))) old.nodes → new.handles ≡ old.handles → IsSoundVolume new
+    → new.nodes ≡ map (option_map (λ n. node_after_rename from to (unlink_path (visible_tree mid.session.tree) to n))) old.nodes → new.handles ≡ old.handles → IsSoundVolume new
 sound_renamed old mid new place from to sound r apart call nodes handles =
     let o = rename_on_entries from to in
     let op = ops.Rename from to in
-    let t = shown_tree mid.session.tree in
+    let t = visible_tree mid.session.tree in
     let d = is_done old mid place sound r op o new.session ops.Done refl call in
     let k = rename_done old mid new.session place from to sound r apart call in
     let shows = tree_after old mid place sound r op o new.session ops.Done d in
     let profile = profile_after old mid place sound r op o new.session ops.Done call in
-    sound_mapped mid new old.nodes (λ n. moved_node from to (unlink_path t to n)) (before_sound old mid place sound r) sound.apart
+    sound_mapped mid new old.nodes (λ n. node_after_rename from to (unlink_path t to n)) (before_sound old mid place sound r) sound.apart
     (λ i h e. sound.named i h (ap (λ (hs : List (Option Handle)). entry_at hs i) (sym handles) ∙ e)) nodes (idle_after old mid place sound r op o new.session ops.Done d)
     (moved_sound mid.session new.session from to k shows profile) (came_from mid.session new.session from to k shows profile)
 
 -- ---- the tables
 
 -- the table after a remove
-pub unlinked_nodes : (old mid : VolumeView) (place : ℕ) (path : List ℕ) (left : List (Option NodeView)) → IsSoundVolume old → IsReady old mid place → place ≡ position_or_len (has_path path) old.nodes → left ≡ without_path path mid.nodes
-    → left ≡ map (option_map (unlink_path (shown_tree mid.session.tree) path)) old.nodes
+pub unlinked_nodes : (old mid : VolumeView) (place : ℕ) (path : List ℕ) (left : List (Option NodeView)) → IsSoundVolume old → IsReady old mid place → place ≡ position_or_len (has_path path) old.nodes → left ≡ nodes_without_path path mid.nodes
+    → left ≡ map (option_map (unlink_path (visible_tree mid.session.tree) path)) old.nodes
 unlinked_nodes old mid place path left sound r is are =
-    are ∙ ap (without_path path) (r.loaded.are ∙ ap (λ i. loaded_nodes (shown_tree old.session.tree) i old.nodes) is) ∙ unlinked_table (shown_tree old.session.tree) path old.nodes (once_at old path sound)
+    are ∙ ap (nodes_without_path path) (r.loaded.are ∙ ap (λ i. loaded_nodes (visible_tree old.session.tree) i old.nodes) is) ∙ unlinked_table (visible_tree old.session.tree) path old.nodes (once_at old path sound)
     ∙ ap (λ (t : Tree). map (option_map (unlink_path t path)) old.nodes) (sym r.loaded.idle.shows)
 
 -- the table after a rename
 pub renamed_nodes : (old mid : VolumeView) (place : ℕ) (from to : List ℕ) (paths : List (Option (List ℕ))) (left new : List (Option NodeView)) → IsSoundVolume old → IsReady old mid place → place ≡ position_or_len (has_path to) old.nodes → is_at_or_beneath from to ≡ false
-    → paths ≡ map (option_and_then (moved_path from to)) mid.nodes → left ≡ without_path to mid.nodes → new ≡ with_paths paths left → new ≡ map (option_map (λ n. moved_node from to (unlink_path (shown_tree mid.session.tree) to n))) old.nodes
+    → paths ≡ map (option_and_then (renamed_path from to)) mid.nodes → left ≡ nodes_without_path to mid.nodes → new ≡ nodes_with_paths paths left → new ≡ map (option_map (λ n. node_after_rename from to (unlink_path (visible_tree mid.session.tree) to n))) old.nodes
 renamed_nodes old mid place from to paths left new sound r is aside moved unlinked are =
-    let there = r.loaded.are ∙ ap (λ i. loaded_nodes (shown_tree old.session.tree) i old.nodes) is in
-    are ∙ ap₂ with_paths (moved ∙ ap (map (option_and_then (moved_path from to))) there) (unlinked ∙ ap (without_path to) there) ∙ moved_table (shown_tree old.session.tree) from to old.nodes (once_at old to sound) aside
-    ∙ ap (λ (t : Tree). map (option_map (λ n. moved_node from to (unlink_path t to n))) old.nodes) (sym r.loaded.idle.shows)
+    let there = r.loaded.are ∙ ap (λ i. loaded_nodes (visible_tree old.session.tree) i old.nodes) is in
+    are ∙ ap₂ nodes_with_paths (moved ∙ ap (map (option_and_then (renamed_path from to))) there) (unlinked ∙ ap (nodes_without_path to) there) ∙ moved_table (visible_tree old.session.tree) from to old.nodes (once_at old to sound) aside
+    ∙ ap (λ (t : Tree). map (option_map (λ n. node_after_rename from to (unlink_path t to n))) old.nodes) (sym r.loaded.idle.shows)
 
 -- it is that of the definitions, where the paths differ
-pub apart_nodes : (t : Tree) (from to : List ℕ) (xs : List (Option NodeView)) → same_name from to ≡ false → map (option_map (λ n. moved_node from to (unlink_path t to n))) xs ≡ nodes_after t (ops.Rename from to) xs
-apart_nodes t from to xs apart = sym (ap (λ b. map (option_map (λ n. moved_node from to (cond b n (unlink_path t to n)))) xs) apart)
+pub apart_nodes : (t : Tree) (from to : List ℕ) (xs : List (Option NodeView)) → same_name from to ≡ false → map (option_map (λ n. node_after_rename from to (unlink_path t to n))) xs ≡ nodes_after_operation t (ops.Rename from to) xs
+apart_nodes t from to xs apart = sym (ap (λ b. map (option_map (λ n. node_after_rename from to (cond b n (unlink_path t to n)))) xs) apart)
 
 -- ---- a rename to the same path
 
@@ -508,7 +508,7 @@ renamed_same p t = ap (λ b. cond b t (tree_with_subtree p (λ rest. t (p ++ res
 ready_already : (v : VolumeView) → IsSoundVolume v → IsReady v v (length v.nodes)
 ready_already v sound = record {
   loaded = record {
-    are = sym (ap (λ (o : Option NodeView). slice_set v.nodes (length v.nodes) (option_map (λ n. loaded_node (node_bytes (shown_tree v.session.tree) n) n) o)) (no_entry v.nodes (length v.nodes) (omega arith))
+    are = sym (ap (λ (o : Option NodeView). slice_set v.nodes (length v.nodes) (option_map (λ n. loaded_node (node_bytes (visible_tree v.session.tree) n) n) o)) (no_entry v.nodes (length v.nodes) (omega arith))
         ∙ ap (slice_set v.nodes (length v.nodes)) (sym (no_entry v.nodes (length v.nodes) (omega arith))) ∙ set_same v.nodes (length v.nodes));
     idle = sound.idle;
     operations = [];
@@ -517,34 +517,34 @@ ready_already v sound = record {
   handles = refl;
 }
 
-moved_to_itself : (path : List ℕ) (n : NodeView) → moved_node path path n ≡ n
+moved_to_itself : (path : List ℕ) (n : NodeView) → node_after_rename path path n ≡ n
 moved_to_itself path n = go (none_or_some n.path)
   where
     found : (was : List ℕ) → n.path ≡ Some was → (b : Bool) → is_at_or_beneath path was ≡ b → with_path (cond b (Some (path ++ drop (length path) was)) None) n ≡ n
     found was at false test = refl
     found was at true test = ap (λ z. record n { path = Some z }) (sym (whole_path path was test)) ∙ ap (λ o. record n { path = o }) (sym at)
 
-    go : (n.path ≡ None) ⊎ ((was : List ℕ) × (n.path ≡ Some was)) → moved_node path path n ≡ n
+    go : (n.path ≡ None) ⊎ ((was : List ℕ) × (n.path ≡ Some was)) → node_after_rename path path n ≡ n
     go (inl none) = ap (λ o. with_path (option_and_then (λ q. cond (is_at_or_beneath path q) (Some (path ++ drop (length path) q)) None) o) n) none
     go (inr (was, at)) = ap (λ o. with_path (option_and_then (λ q. cond (is_at_or_beneath path q) (Some (path ++ drop (length path) q)) None) o) n) at ∙ found was at (is_at_or_beneath path was) refl
 
-all_to_themselves : (path : List ℕ) (xs : List (Option NodeView)) → xs ≡ map (option_map (moved_node path path)) xs
+all_to_themselves : (path : List ℕ) (xs : List (Option NodeView)) → xs ≡ map (option_map (node_after_rename path path)) xs
 all_to_themselves path [] = refl
 all_to_themselves path (None ∷ xs) = ap (λ os. None ∷ os) (all_to_themselves path xs)
 all_to_themselves path (Some n ∷ xs) = ap₂ (λ m os. Some m ∷ os) (sym (moved_to_itself path n)) (all_to_themselves path xs)
 
-kept_nodes : (t : Tree) (from to : List ℕ) (xs : List (Option NodeView)) → same_name from to ≡ true → xs ≡ nodes_after t (ops.Rename from to) xs
+kept_nodes : (t : Tree) (from to : List ℕ) (xs : List (Option NodeView)) → same_name from to ≡ true → xs ≡ nodes_after_operation t (ops.Rename from to) xs
 kept_nodes t from to xs same =
-    all_to_themselves from xs ∙ ap (λ z. map (option_map (moved_node from z)) xs) (name_from_same from to same)
-    ∙ sym (ap (λ b. map (option_map (λ n. moved_node from to (cond b n (unlink_path t to n)))) xs) same)
+    all_to_themselves from xs ∙ ap (λ z. map (option_map (node_after_rename from z)) xs) (name_from_same from to same)
+    ∙ sym (ap (λ b. map (option_map (λ n. node_after_rename from to (cond b n (unlink_path t to n)))) xs) same)
 
 module _ (old new : VolumeView) (from to : List ℕ) (sound : IsSoundVolume old) (same : same_name from to ≡ true) (nodes : new.nodes ≡ old.nodes) (handles : new.handles ≡ old.handles) where
-  pub renamed_to_itself : {A : Type 0} (x : Result A Error) → IsCall old.session (ops.Rename from to) (reply_from (λ _. ops.Done) x) new.session → IsWorkingCall old (Perform (ops.Rename from to)) (reply_from (λ _. ops.Done) x) new
+  pub renamed_to_itself : {A : Type 0} (x : Result A Error) → IsCall old.session (ops.Rename from to) (reply_from (λ _. ops.Done) x) new.session → IsHealthyVolumeCall old (Perform (ops.Rename from to)) (reply_from (λ _. ops.Done) x) new
   renamed_to_itself (Ok x) call =
-      accepted_after old old (length old.nodes) sound (ready_already old sound) (ops.Rename from to) (rename_on_entries from to) new ops.Done refl call (nodes ∙ kept_nodes (shown_tree old.session.tree) from to old.nodes same) handles
+      accepted_after old old (length old.nodes) sound (ready_already old sound) (ops.Rename from to) (rename_on_entries from to) new ops.Done refl call (nodes ∙ kept_nodes (visible_tree old.session.tree) from to old.nodes same) handles
   renamed_to_itself (Err e) call = ended_after old old (length old.nodes) sound (ready_already old sound) (ops.Rename from to) (rename_on_entries from to) e new call nodes handles
 
-  pub sound_to_itself : {A : Type 0} (x : Result A Error) → IsCall old.session (ops.Rename from to) (reply_from (λ _. ops.Done) x) new.session → IsSound new
+  pub sound_to_itself : {A : Type 0} (x : Result A Error) → IsCall old.session (ops.Rename from to) (reply_from (λ _. ops.Done) x) new.session → IsSoundIfWorking new
   sound_to_itself (Err e) call works = ended_sound old old (length old.nodes) sound (ready_already old sound) (ops.Rename from to) (rename_on_entries from to) e new call nodes handles works
   sound_to_itself (Ok x) call works =
       let r = ready_already old sound in
@@ -552,7 +552,7 @@ module _ (old new : VolumeView) (from to : List ℕ) (sound : IsSoundVolume old)
       let d = is_done old old (length old.nodes) sound r (ops.Rename from to) o new.session ops.Done refl call in
       let i = idle_after old old (length old.nodes) sound r (ops.Rename from to) o new.session ops.Done d in
       let p = path_or_root from in
-      let stays : tree_renaming p (path_or_root to) (shown_tree old.session.tree) ≡ shown_tree old.session.tree =
-      ap (λ z. tree_renaming p (path_or_root z) (shown_tree old.session.tree)) (sym (name_from_same from to same)) ∙ renamed_same p (shown_tree old.session.tree) in
+      let stays : tree_renaming p (path_or_root to) (visible_tree old.session.tree) ≡ visible_tree old.session.tree =
+      ap (λ z. tree_renaming p (path_or_root z) (visible_tree old.session.tree)) (sym (name_from_same from to same)) ∙ renamed_same p (visible_tree old.session.tree) in
       sound_kept old new sound (record { works = works; shows = tree_after old old (length old.nodes) sound r (ops.Rename from to) o new.session ops.Done d ∙ stays; files = i.files })
       (profile_after old old (length old.nodes) sound r (ops.Rename from to) o new.session ops.Done call) nodes handles

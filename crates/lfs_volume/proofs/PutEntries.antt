@@ -7,7 +7,7 @@ use Rattle.std.proofs.lemmas.Bool.{cases_lt, le-ltb, lt-ltb}
 use Rattle.std.proofs.lemmas.List.Sums.{fails_before_first, passes_at_first, prefix_len-le-length}
 use Rattle.lfs_model.specs.format.Names.{same_name}
 use Rattle.lfs_model.proofs.Paths.{name_from_same, same_itself}
-use Rattle.lfs_volume.specs.Calls.{free_entry, has_path, node_of_path, opened_nodes, with_entry}
+use Rattle.lfs_volume.specs.Calls.{free_entry_index, has_path, node_index_for_path, nodes_after_open, with_entry}
 use Rattle.lfs_volume.specs.Volume.{NodeView, entry_at, opened_node, resized_node}
 use Rattle.lfs_volume.proofs.Entries.{entry_inside, entry_other, entry_set, no_entry, set_same, set_twice}
 
@@ -29,19 +29,19 @@ none_passes p xs i x past at =
     let inside = entry_inside xs i x at in
     ap p (sym at ∙ entry_is xs i) ∙ fails_before_first p xs i None (omega arith)
 
-pub free_within : {A : Type 0} (xs : List (Option A)) → free_entry xs ≤ length xs
+pub free_within : {A : Type 0} (xs : List (Option A)) → free_entry_index xs ≤ length xs
 free_within xs = first_within is_none xs
 
-free_is_none : {A : Type 0} (xs : List (Option A)) → entry_at xs (free_entry xs) ≡ None
-free_is_none {A} xs = go (cases_lt (free_entry xs) (length xs))
+free_is_none : {A : Type 0} (xs : List (Option A)) → entry_at xs (free_entry_index xs) ≡ None
+free_is_none {A} xs = go (cases_lt (free_entry_index xs) (length xs))
   where
     none_from : (o : Option A) → is_none o ≡ true → o ≡ None
     none_from None e = refl
     none_from (Some x) e = absurd (cc)
 
-    go : (free_entry xs < length xs) ⊎ (length xs ≤ free_entry xs) → entry_at xs (free_entry xs) ≡ None
-    go (inl less) = none_from (entry_at xs (free_entry xs)) (first_passes is_none xs less)
-    go (inr past) = no_entry xs (free_entry xs) past
+    go : (free_entry_index xs < length xs) ⊎ (length xs ≤ free_entry_index xs) → entry_at xs (free_entry_index xs) ≡ None
+    go (inl less) = none_from (entry_at xs (free_entry_index xs)) (first_passes is_none xs less)
+    go (inr past) = no_entry xs (free_entry_index xs) past
 
 -- ---- an entry is put
 
@@ -98,8 +98,8 @@ put_over xs i x o at = ap (λ b. cond b (slice_set xs i o) (xs ++ o ∷ [])) (lt
 
 -- a node with the path is open, or none is and the number is free
 pub data NodeOfPath (nodes : List (Option NodeView)) (path : List ℕ) : Type 0 where
-  is_open : (n : NodeView) → entry_at nodes (node_of_path nodes path) ≡ Some n → n.path ≡ Some path → NodeOfPath nodes path
-  is_new : entry_at nodes (node_of_path nodes path) ≡ None → ((j : ℕ) (n : NodeView) → entry_at nodes j ≡ Some n → n.path ≡ Some path → ⊥) → NodeOfPath nodes path
+  is_open : (n : NodeView) → entry_at nodes (node_index_for_path nodes path) ≡ Some n → n.path ≡ Some path → NodeOfPath nodes path
+  is_new : entry_at nodes (node_index_for_path nodes path) ≡ None → ((j : ℕ) (n : NodeView) → entry_at nodes j ≡ Some n → n.path ≡ Some path → ⊥) → NodeOfPath nodes path
 
 module _ (nodes : List (Option NodeView)) (path : List ℕ) where
   first : ℕ
@@ -113,16 +113,16 @@ module _ (nodes : List (Option NodeView)) (path : List ℕ) where
       from None k = absurd (cc)
       from (Some q) k = ap Some (name_from_same q path k)
 
-  open_number : position_or_len (has_path path) nodes < length nodes → node_of_path nodes path ≡ position_or_len (has_path path) nodes
-  open_number less = ap (λ b. cond b (position_or_len (has_path path) nodes) (free_entry nodes)) (lt-ltb (position_or_len (has_path path) nodes) (length nodes) less)
+  open_number : position_or_len (has_path path) nodes < length nodes → node_index_for_path nodes path ≡ position_or_len (has_path path) nodes
+  open_number less = ap (λ b. cond b (position_or_len (has_path path) nodes) (free_entry_index nodes)) (lt-ltb (position_or_len (has_path path) nodes) (length nodes) less)
 
-  new_number : length nodes ≤ position_or_len (has_path path) nodes → node_of_path nodes path ≡ free_entry nodes
-  new_number past = ap (λ b. cond b (position_or_len (has_path path) nodes) (free_entry nodes)) (le-ltb (position_or_len (has_path path) nodes) (length nodes) past)
+  new_number : length nodes ≤ position_or_len (has_path path) nodes → node_index_for_path nodes path ≡ free_entry_index nodes
+  new_number past = ap (λ b. cond b (position_or_len (has_path path) nodes) (free_entry_index nodes)) (le-ltb (position_or_len (has_path path) nodes) (length nodes) past)
 
-  pub number_within : node_of_path nodes path ≤ length nodes
+  pub number_within : node_index_for_path nodes path ≤ length nodes
   number_within = go (cases_lt (position_or_len (has_path path) nodes) (length nodes))
     where
-      go : (position_or_len (has_path path) nodes < length nodes) ⊎ (length nodes ≤ position_or_len (has_path path) nodes) → node_of_path nodes path ≤ length nodes
+      go : (position_or_len (has_path path) nodes < length nodes) ⊎ (length nodes ≤ position_or_len (has_path path) nodes) → node_index_for_path nodes path ≤ length nodes
       go (inl less) = subst (λ i. i ≤ length nodes) (sym (open_number less)) (first_within (has_path path) nodes)
       go (inr past) = subst (λ i. i ≤ length nodes) (sym (new_number past)) (free_within nodes)
 
@@ -139,34 +139,34 @@ module _ (nodes : List (Option NodeView)) (path : List ℕ) where
           absurd (let k : true ≡ false = sym yes ∙ no in cc))
 
   -- the table of an open node stays
-  pub stays_open : (size : ℕ) → position_or_len (has_path path) nodes < length nodes → nodes ≡ opened_nodes path size false nodes
+  pub stays_open : (size : ℕ) → position_or_len (has_path path) nodes < length nodes → nodes ≡ nodes_after_open path size false nodes
   stays_open size less =
       let n = has_it (entry_at nodes (position_or_len (has_path path) nodes)) (first_passes (has_path path) nodes less) in
       let at = ap (entry_at nodes) (open_number less) ∙ n.1.0 in
-      sym (ap (λ o. with_entry nodes (node_of_path nodes path) (Some (unwrap_or o (opened_node path size)))) at
-      ∙ put_over nodes (node_of_path nodes path) n.0 (Some n.0) at ∙ ap (slice_set nodes (node_of_path nodes path)) (sym at) ∙ set_same nodes (node_of_path nodes path))
+      sym (ap (λ o. with_entry nodes (node_index_for_path nodes path) (Some (unwrap_or o (opened_node path size)))) at
+      ∙ put_over nodes (node_index_for_path nodes path) n.0 (Some n.0) at ∙ ap (slice_set nodes (node_index_for_path nodes path)) (sym at) ∙ set_same nodes (node_index_for_path nodes path))
 
   -- a new node
-  pub is_added : (size : ℕ) → length nodes ≤ position_or_len (has_path path) nodes → with_entry nodes (free_entry nodes) (Some (opened_node path size)) ≡ opened_nodes path size false nodes
+  pub is_added : (size : ℕ) → length nodes ≤ position_or_len (has_path path) nodes → with_entry nodes (free_entry_index nodes) (Some (opened_node path size)) ≡ nodes_after_open path size false nodes
   is_added size past =
-      sym (ap (λ o. with_entry nodes (node_of_path nodes path) (Some (unwrap_or o (opened_node path size)))) (ap (entry_at nodes) (new_number past) ∙ free_is_none nodes)
+      sym (ap (λ o. with_entry nodes (node_index_for_path nodes path) (Some (unwrap_or o (opened_node path size)))) (ap (entry_at nodes) (new_number past) ∙ free_is_none nodes)
       ∙ ap (λ i. with_entry nodes i (Some (opened_node path size))) (new_number past))
 
   -- and it is cut
-  pub is_cut : (size : ℕ) → slice_set (opened_nodes path size false nodes) (node_of_path nodes path) (option_map (resized_node 0 []) (entry_at (opened_nodes path size false nodes) (node_of_path nodes path))) ≡ opened_nodes path size true nodes
+  pub is_cut : (size : ℕ) → slice_set (nodes_after_open path size false nodes) (node_index_for_path nodes path) (option_map (resized_node 0 []) (entry_at (nodes_after_open path size false nodes) (node_index_for_path nodes path))) ≡ nodes_after_open path size true nodes
   is_cut size =
-      let m : NodeView = unwrap_or (entry_at nodes (node_of_path nodes path)) (opened_node path size) in
-      ap (λ o. slice_set (opened_nodes path size false nodes) (node_of_path nodes path) (option_map (resized_node 0 []) o)) (put_there nodes (node_of_path nodes path) number_within (Some m))
-      ∙ put_twice nodes (node_of_path nodes path) number_within (Some m) (Some (resized_node 0 [] m))
+      let m : NodeView = unwrap_or (entry_at nodes (node_index_for_path nodes path)) (opened_node path size) in
+      ap (λ o. slice_set (nodes_after_open path size false nodes) (node_index_for_path nodes path) (option_map (resized_node 0 []) o)) (put_there nodes (node_index_for_path nodes path) number_within (Some m))
+      ∙ put_twice nodes (node_index_for_path nodes path) number_within (Some m) (Some (resized_node 0 [] m))
 
 -- ---- how the code finds the number
 
-pub found_open : (nodes : List (Option NodeView)) (path : List ℕ) (i : ℕ) → i ≡ position_or_len (has_path path) nodes → i < length nodes → i ≡ node_of_path nodes path
+pub found_open : (nodes : List (Option NodeView)) (path : List ℕ) (i : ℕ) → i ≡ position_or_len (has_path path) nodes → i < length nodes → i ≡ node_index_for_path nodes path
 found_open nodes path i is less = is ∙ sym (open_number nodes path (subst (λ k. k < length nodes) is less))
 
-pub found_free : (nodes : List (Option NodeView)) (path : List ℕ) (i j : ℕ) → i ≡ position_or_len (has_path path) nodes → length nodes ≤ i → j ≡ free_entry nodes → j ≡ node_of_path nodes path
+pub found_free : (nodes : List (Option NodeView)) (path : List ℕ) (i j : ℕ) → i ≡ position_or_len (has_path path) nodes → length nodes ≤ i → j ≡ free_entry_index nodes → j ≡ node_index_for_path nodes path
 found_free nodes path i j is past free = free ∙ sym (new_number nodes path (subst (λ k. length nodes ≤ k) is past))
 
-pub cut_open : (nodes mid new : List (Option NodeView)) (path : List ℕ) (size number : ℕ) → number ≡ node_of_path nodes path → mid ≡ opened_nodes path size false nodes → new ≡ slice_set mid number (option_map (resized_node 0 []) (entry_at mid number)) → new ≡ opened_nodes path size true nodes
+pub cut_open : (nodes mid new : List (Option NodeView)) (path : List ℕ) (size number : ℕ) → number ≡ node_index_for_path nodes path → mid ≡ nodes_after_open path size false nodes → new ≡ slice_set mid number (option_map (resized_node 0 []) (entry_at mid number)) → new ≡ nodes_after_open path size true nodes
 cut_open nodes mid new path size number is opened cut =
     cut ∙ ap₂ (λ (ns : List (Option NodeView)) (i : ℕ). slice_set ns i (option_map (resized_node 0 []) (entry_at ns i))) opened is ∙ is_cut nodes path size

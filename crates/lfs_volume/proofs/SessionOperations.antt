@@ -14,15 +14,15 @@ use Rattle.lfs_model.specs.session.Refusals.{operation_refusal}
 use Rattle.lfs_model.specs.session.Effects.{operation_effect}
 use Rattle.lfs_model.specs.session.Effects as effects
 use Rattle.lfs_model.specs.session.Run.{ShowsTree, is_refusal}
-use Rattle.lfs_tree.specs.TreeState.{shown_tree, tree_summary}
+use Rattle.lfs_tree.specs.TreeState.{visible_tree, tree_summary}
 use Rattle.lfs_fs.specs.CallEffects.{IsCall}
 use Rattle.lfs_fs.specs.SessionView.{SessionFails, SessionView, system_state, viewed_session}
 use Rattle.lfs_volume.specs.declared.handles.Handle.{Handle}
-use Rattle.lfs_volume.specs.Calls.{Call, Perform, call_result, nodes_after, unless_refused}
-use Rattle.lfs_volume.specs.Opened.{AreNoFiles}
+use Rattle.lfs_volume.specs.Calls.{Call, Perform, call_result, nodes_after_operation, unless_refused}
+use Rattle.lfs_volume.specs.Opened.{HasNoOpenFiles}
 use Rattle.lfs_volume.specs.SessionCalls.{error_result}
 use Rattle.lfs_volume.specs.Volume.{NodeView, Volume, VolumeView, idle_session, volume_of}
-use Rattle.lfs_volume.specs.VolumeCalls.{IsSessionCall, IsSessionPart, IsSound, IsSoundVolume, IsVolumeCall, IsWorkingCall}
+use Rattle.lfs_volume.specs.VolumeCalls.{IsSessionCall, IsSessionCallSequence, IsSoundIfWorking, IsSoundVolume, IsVolumeCall, IsHealthyVolumeCall}
 use Rattle.lfs_volume.proofs.Steps.{answered}
 use Rattle.lfs_volume.proofs.VolumeSteps.{same_as}
 
@@ -51,15 +51,15 @@ pub record LeavesTables (t : Tree) (around : DiskSummary) (files : OpenFilesByNu
   pub refusal : operation_refusal around (with_files t files) op ≡ operation_refusal around (idle_session t) op
   pub reply : (operation_effect around (with_files t files) op).0 ≡ (operation_effect around (idle_session t) op).0
   pub tree : (operation_effect around (with_files t files) op).1.tree ≡ (operation_effect around (idle_session t) op).1.tree
-  pub nodes : (ns : List (Option NodeView)) → nodes_after t op ns ≡ ns
+  pub nodes : (ns : List (Option NodeView)) → nodes_after_operation t op ns ≡ ns
 
-no_files : {X : Type 0} (f : OpenFilesByNumber → X) (files : OpenFilesByNumber) → f (None ∷ []) ≡ f [] → AreNoFiles files → f files ≡ f []
+no_files : {X : Type 0} (f : OpenFilesByNumber → X) (files : OpenFilesByNumber) → f (None ∷ []) ≡ f [] → HasNoOpenFiles files → f files ≡ f []
 no_files f files e (inl k) = ap f k
 no_files f files e (inr k) = ap f k ∙ e
 
-leaves : (t : Tree) (around : DiskSummary) (files : OpenFilesByNumber) (op : Operation) → AreNoFiles files → is_remount op ≡ false → operation_refusal around (with_files t (None ∷ [])) op ≡ operation_refusal around (with_files t []) op
+leaves : (t : Tree) (around : DiskSummary) (files : OpenFilesByNumber) (op : Operation) → HasNoOpenFiles files → is_remount op ≡ false → operation_refusal around (with_files t (None ∷ [])) op ≡ operation_refusal around (with_files t []) op
     → (operation_effect around (with_files t (None ∷ [])) op).0 ≡ (operation_effect around (with_files t []) op).0 → (operation_effect around (with_files t (None ∷ [])) op).1.tree ≡ (operation_effect around (with_files t []) op).1.tree
-    → ((ns : List (Option NodeView)) → nodes_after t op ns ≡ ns) → LeavesTables t around files op
+    → ((ns : List (Option NodeView)) → nodes_after_operation t op ns ≡ ns) → LeavesTables t around files op
 leaves t around files op n other refusal reply tree nodes = record {
   other = other;
   refusal = no_files (λ fs. operation_refusal around (with_files t fs) op) files refusal n;
@@ -68,7 +68,7 @@ leaves t around files op n other refusal reply tree nodes = record {
   nodes = nodes;
 }
 
-pub leaves_tables : (t : Tree) (around : DiskSummary) (files : OpenFilesByNumber) (op : Operation) → AreNoFiles files → is_alone op ≡ true → LeavesTables t around files op
+pub leaves_tables : (t : Tree) (around : DiskSummary) (files : OpenFilesByNumber) (op : Operation) → HasNoOpenFiles files → is_alone op ≡ true → LeavesTables t around files op
 leaves_tables t around files (ops.Mkdir path) n is = leaves t around files (ops.Mkdir path) n refl refl refl refl (λ ns. refl)
 leaves_tables t around files (ops.ListAll path) n is = leaves t around files (ops.ListAll path) n refl refl refl refl (λ ns. refl)
 leaves_tables t around files (ops.Stat path) n is = leaves t around files (ops.Stat path) n refl refl refl refl (λ ns. refl)
@@ -107,7 +107,7 @@ refusal_is_one ops.NoEnt = refl
 refusal_is_one r = refl
 
 -- what the session did in one operation
-one_operation : (old new : SessionView) (op : Operation) (reply : Reply) (b : Bool) → is_refusal reply ≡ b → is_remount op ≡ false → IsCall old op (Ok reply) new → IsSessionPart old (op ∷ []) new
+one_operation : (old new : SessionView) (op : Operation) (reply : Reply) (b : Bool) → is_refusal reply ≡ b → is_remount op ≡ false → IsCall old op (Ok reply) new → IsSessionCallSequence old (op ∷ []) new
 one_operation old new op reply false is other call = inl (inr (record {
   before = [];
   change = op;
@@ -132,14 +132,14 @@ no_refusal e old new op f = go f.errors
     go (inr (inl k)) = ap refusals.is_refusal k
     go (inr (inr k)) = ap refusals.is_refusal k.0
 
-pub performed : (old new : VolumeView) (op : Operation) (x : Result Reply Error) → is_alone op ≡ true → IsSoundVolume old → IsCall old.session op x new.session → new.nodes ≡ old.nodes → new.handles ≡ old.handles → IsWorkingCall old (Perform op) x new
+pub performed : (old new : VolumeView) (op : Operation) (x : Result Reply Error) → is_alone op ≡ true → IsSoundVolume old → IsCall old.session op x new.session → new.nodes ≡ old.nodes → new.handles ≡ old.handles → IsHealthyVolumeCall old (Perform op) x new
 performed old new op (Ok reply) alone sound call nodes handles =
-    let t = shown_tree old.session.tree in
+    let t = visible_tree old.session.tree in
     let other = not_remount op alone in
     let a = answered old.session op reply new.session other sound.idle.works call.answers in
     let l = leaves_tables t a.around old.session.files op sound.idle.files alone in
     let r = result_is (operation_refusal a.around (viewed_session old.session) op) (operation_refusal a.around (idle_session t) op) (viewed_session old.session) (volume_of old) (operation_effect a.around (viewed_session old.session) op) (operation_effect a.around (idle_session t) op)
-    (nodes_after t op old.nodes) old.handles l.refusal refl l.reply l.tree (l.nodes old.nodes) refl in
+    (nodes_after_operation t op old.nodes) old.handles l.refusal refl l.reply l.tree (l.nodes old.nodes) refl in
     record {
       around = a.around;
       at = old.session;
@@ -176,24 +176,24 @@ same_view old new session nodes handles = ap at session ∙ ap₂ with_tables no
     with_tables : List (Option NodeView) → List (Option Handle) → VolumeView
     with_tables ns hs = record { session = old.session; nodes = ns; handles = hs }
 
-pub sound_same : (old new : VolumeView) → IsSound old → new.session ≡ old.session → new.nodes ≡ old.nodes → new.handles ≡ old.handles → IsSound new
-sound_same old new sound session nodes handles = subst IsSound (sym (same_view old new session nodes handles)) sound
+pub sound_same : (old new : VolumeView) → IsSoundIfWorking old → new.session ≡ old.session → new.nodes ≡ old.nodes → new.handles ≡ old.handles → IsSoundIfWorking new
+sound_same old new sound session nodes handles = subst IsSoundIfWorking (sym (same_view old new session nodes handles)) sound
 
 -- one operation of the session, that leaves the tables of a volume that has failed
-pub operation_call : (old new : VolumeView) (call : Call) (op : Operation) (x : Result Reply Error) → is_remount op ≡ false → IsCall old.session op x new.session → new.nodes ≡ old.nodes → new.handles ≡ old.handles → IsSound old → (IsSoundVolume old → IsWorkingCall old call x new) → IsVolumeCall old call x new
+pub operation_call : (old new : VolumeView) (call : Call) (op : Operation) (x : Result Reply Error) → is_remount op ≡ false → IsCall old.session op x new.session → new.nodes ≡ old.nodes → new.handles ≡ old.handles → IsSoundIfWorking old → (IsSoundVolume old → IsHealthyVolumeCall old call x new) → IsVolumeCall old call x new
 operation_call old new call op x other does nodes handles sound is = record {
   failed = λ f. (let k = asked_failed old.session new.session op x other does f in (k.0, same_view old new k.1 nodes handles));
   works = λ w. is (sound w);
 }
 
-pub operation_keeps : (old new : VolumeView) (op : Operation) (x : Result Reply Error) → is_remount op ≡ false → IsCall old.session op x new.session → IsSound old → (IsSoundVolume old → IsSound new) → IsSound new
+pub operation_keeps : (old new : VolumeView) (op : Operation) (x : Result Reply Error) → is_remount op ≡ false → IsCall old.session op x new.session → IsSoundIfWorking old → (IsSoundVolume old → IsSoundIfWorking new) → IsSoundIfWorking new
 operation_keeps old new op x other does sound keeps works = go old.session.tree.failed refl
   where
     go : (b : Bool) → old.session.tree.failed ≡ b → IsSoundVolume new
     go false w = keeps (sound w) works
     go true f = absurd (let k : true ≡ false = sym f ∙ sym (ap (λ (h : SessionView). h.tree.failed) (asked_failed old.session new.session op x other does f).1) ∙ works in cc)
 
-pub performed_call : (old new : VolumeView) (op : Operation) (x : Result Reply Error) → is_alone op ≡ true → IsSound old → IsCall old.session op x new.session → new.nodes ≡ old.nodes → new.handles ≡ old.handles → IsSessionCall old op x new
+pub performed_call : (old new : VolumeView) (op : Operation) (x : Result Reply Error) → is_alone op ≡ true → IsSoundIfWorking old → IsCall old.session op x new.session → new.nodes ≡ old.nodes → new.handles ≡ old.handles → IsSessionCall old op x new
 performed_call old new op x alone sound call nodes handles = record {
   call = operation_call old new (Perform op) op x (not_remount op alone) call nodes handles sound (λ s. performed old new op x alone s call nodes handles);
   session = call;

@@ -8,7 +8,7 @@ use Rattle.std.proofs.lemmas.Bool.Decides.{eqb_tells}
 use Rattle.std.proofs.lemmas.List.{length-take-le, take-append-le}
 use Rattle.lfs_device.specs.declared.error.Error.{Error}
 use Rattle.lfs_lookup.specs.RefusalErrors as refusals
-use Rattle.lfs_model.specs.format.Disk.{Disk, ordered_disk, profile_file_max}
+use Rattle.lfs_model.specs.format.Disk.{Disk, disk_with_order, profile_file_max}
 use Rattle.lfs_model.specs.tree.Tree.{DirectoryNode, FileNode, Node, Path, Tree}
 use Rattle.lfs_model.specs.session.Operations as ops
 use Rattle.lfs_model.specs.session.Operations.{Operation, Reply}
@@ -20,31 +20,31 @@ use Rattle.lfs_model.specs.session.TreeEdits.{file_bytes, is_file, same_path, tr
 use Rattle.lfs_model.specs.session.Effects.{node_with_bytes}
 use Rattle.lfs_model.specs.session.Writers.{written_contents, zero_padded}
 use Rattle.lfs_model.proofs.Paths.{path_from_same, path_itself}
-use Rattle.lfs_tree.specs.TreeState.{shown_tree}
+use Rattle.lfs_tree.specs.TreeState.{visible_tree}
 use Rattle.lfs_fs.specs.CallEffects.{IsCall}
 use Rattle.lfs_fs.specs.SessionView.{SessionView, system_state, viewed_session}
-use Rattle.lfs_volume.specs.declared.hull.Hull.{Hull}
+use Rattle.lfs_volume.specs.declared.dirty_range.DirtyRange.{DirtyRange}
 use Rattle.lfs_volume.specs.declared.handles.Handle.{Handle}
-use Rattle.lfs_volume.specs.Calls.{named, names_node, needs_sync, stored_node}
-use Rattle.lfs_volume.specs.Hulls.{DiffersInHull, cut_hull, hull_with, resized_hull}
-use Rattle.lfs_volume.specs.Opened.{IsIdle, LeadsToFile}
-use Rattle.lfs_volume.specs.SessionCalls.{AreVolumeSteps, FailsInCalls, IsAcceptedCall}
-use Rattle.lfs_volume.specs.Volume.{NodeView, VolumeView, entry_at, loaded_node, node_bytes, resized_node, stored_bytes, synced_node, with_position, write_place, written_node}
-use Rattle.lfs_volume.specs.VolumeCalls.{EndsSyncAt, FitsAt, IsDropped, IsLoadedAt, IsNodeRefused, IsNodeSynced, IsRemount, IsSessionPart, IsSound, IsSoundNode, IsSoundVolume, IsSyncedAt}
+use Rattle.lfs_volume.specs.Calls.{named, refers_to_node, needs_sync, stored_node}
+use Rattle.lfs_volume.specs.DirtyRanges.{DiffersInDirtyRange, truncate_dirty_range, extend_dirty_range, resize_dirty_range}
+use Rattle.lfs_volume.specs.Opened.{IsIdleSession, LeadsToFile}
+use Rattle.lfs_volume.specs.SessionCalls.{MayChangeTreeOnce, FailsInCalls, IsAcceptedCall}
+use Rattle.lfs_volume.specs.Volume.{NodeView, VolumeView, entry_at, loaded_node, node_bytes, resized_node, stored_bytes, synced_node, with_position, write_offset, written_node}
+use Rattle.lfs_volume.specs.VolumeCalls.{FailsSyncAt, IsAllowedWriteOffset, IsHandleDropped, IsLoadedAt, IsNodeSyncRefused, IsNodeSynced, IsVolumeRemount, IsSessionCallSequence, IsSoundIfWorking, IsSoundNode, IsSoundVolume, IsSyncedAt}
 use Rattle.lfs_volume.proofs.Entries.{changed_entry, changed_entry_to, entry_inside, entry_other, entry_set, set_twice}
-use Rattle.lfs_volume.proofs.Hulls.{length-padded, length-written, lengthened, shortened, written_differs}
+use Rattle.lfs_volume.proofs.DirtyRanges.{length-padded, length-written, lengthened, shortened, written_differs}
 use Rattle.lfs_volume.proofs.Saving.{quiet_profile}
 use Rattle.lfs_volume.proofs.Steps.{healthy_view, refusal_step}
 
 -- ---- a node
 
 -- over another session with the same tree
-pub node_stays : (a b : SessionView) (n : NodeView) → shown_tree b.tree ≡ shown_tree a.tree → b.tree.disk.profile ≡ a.tree.disk.profile → IsSoundNode a n → IsSoundNode b n
+pub node_stays : (a b : SessionView) (n : NodeView) → visible_tree b.tree ≡ visible_tree a.tree → b.tree.disk.profile ≡ a.tree.disk.profile → IsSoundNode a n → IsSoundNode b n
 node_stays a b n tree profile s = record {
   sized = λ none. subst (λ t. length (stored_bytes t n.path) ≡ n.size) (sym tree) (s.sized none);
   unchanged = s.unchanged;
   long = s.long;
-  differs = λ path bytes at c. subst (λ t. DiffersInHull (stored_bytes t (Some path)) bytes n.hull) (sym tree) (s.differs path bytes at c);
+  differs = λ path bytes at c. subst (λ t. DiffersInDirtyRange (stored_bytes t (Some path)) bytes n.dirty_range) (sym tree) (s.differs path bytes at c);
   small = λ k. subst (λ p. n.size ≤ profile_file_max p) (sym profile) (s.small k);
   leads = λ path at. subst (λ t. LeadsToFile t path) (sym tree) (s.leads path at);
 }
@@ -52,22 +52,22 @@ node_stays a b n tree profile s = record {
 module _ (h : SessionView) (n : NodeView) (s : IsSoundNode h n) where
   -- the bytes that its handles see
   abbrev seen : List ℕ
-  seen = node_bytes (shown_tree h.tree) n
+  seen = node_bytes (visible_tree h.tree) n
 
-  pub seen_long : length (node_bytes (shown_tree h.tree) n) ≡ n.size
+  pub seen_long : length (node_bytes (visible_tree h.tree) n) ≡ n.size
   seen_long = go n.contents refl
     where
-      go : (o : Option (List ℕ)) → n.contents ≡ o → length (node_bytes (shown_tree h.tree) n) ≡ n.size
-      go None e = ap (λ c. length (unwrap_or c (stored_bytes (shown_tree h.tree) n.path))) e ∙ s.sized e
-      go (Some bytes) e = ap (λ c. length (unwrap_or c (stored_bytes (shown_tree h.tree) n.path))) e ∙ s.long bytes e
+      go : (o : Option (List ℕ)) → n.contents ≡ o → length (node_bytes (visible_tree h.tree) n) ≡ n.size
+      go None e = ap (λ c. length (unwrap_or c (stored_bytes (visible_tree h.tree) n.path))) e ∙ s.sized e
+      go (Some bytes) e = ap (λ c. length (unwrap_or c (stored_bytes (visible_tree h.tree) n.path))) e ∙ s.long bytes e
 
-  seen_differs : (path : List ℕ) → n.path ≡ Some path → DiffersInHull (stored_bytes (shown_tree h.tree) (Some path)) (node_bytes (shown_tree h.tree) n) n.hull
+  seen_differs : (path : List ℕ) → n.path ≡ Some path → DiffersInDirtyRange (stored_bytes (visible_tree h.tree) (Some path)) (node_bytes (visible_tree h.tree) n) n.dirty_range
   seen_differs path at = go n.contents refl
     where
-      go : (o : Option (List ℕ)) → n.contents ≡ o → DiffersInHull (stored_bytes (shown_tree h.tree) (Some path)) (node_bytes (shown_tree h.tree) n) n.hull
-      go None e = subst (DiffersInHull (stored_bytes (shown_tree h.tree) (Some path)) (node_bytes (shown_tree h.tree) n)) (sym (s.unchanged e))
-          (sym (ap (λ c. unwrap_or c (stored_bytes (shown_tree h.tree) n.path)) e ∙ ap (stored_bytes (shown_tree h.tree)) at))
-      go (Some bytes) e = subst (λ z. DiffersInHull (stored_bytes (shown_tree h.tree) (Some path)) z n.hull) (sym (ap (λ c. unwrap_or c (stored_bytes (shown_tree h.tree) n.path)) e)) (s.differs path bytes at e)
+      go : (o : Option (List ℕ)) → n.contents ≡ o → DiffersInDirtyRange (stored_bytes (visible_tree h.tree) (Some path)) (node_bytes (visible_tree h.tree) n) n.dirty_range
+      go None e = subst (DiffersInDirtyRange (stored_bytes (visible_tree h.tree) (Some path)) (node_bytes (visible_tree h.tree) n)) (sym (s.unchanged e))
+          (sym (ap (λ c. unwrap_or c (stored_bytes (visible_tree h.tree) n.path)) e ∙ ap (stored_bytes (visible_tree h.tree)) at))
+      go (Some bytes) e = subst (λ z. DiffersInDirtyRange (stored_bytes (visible_tree h.tree) (Some path)) z n.dirty_range) (sym (ap (λ c. unwrap_or c (stored_bytes (visible_tree h.tree) n.path)) e)) (s.differs path bytes at e)
 
   same_contents : (xs ys : List ℕ) → Some xs ≡ Some ys → xs ≡ ys
   same_contents xs ys e = cc
@@ -75,24 +75,24 @@ module _ (h : SessionView) (n : NodeView) (s : IsSoundNode h n) where
   no_contents : (xs : List ℕ) → Some xs ≡ None → ⊥
   no_contents xs e = absurd (cc)
 
-  pub loaded_sound : IsSoundNode h (loaded_node (node_bytes (shown_tree h.tree) n) n)
+  pub loaded_sound : IsSoundNode h (loaded_node (node_bytes (visible_tree h.tree) n) n)
   loaded_sound = record {
     sized = λ none. absurd (no_contents _ none);
     unchanged = λ none. absurd (no_contents _ none);
     long = λ bytes e. ap length (sym (same_contents _ bytes e)) ∙ seen_long;
-    differs = λ path bytes at e. subst (λ z. DiffersInHull (stored_bytes (shown_tree h.tree) (Some path)) z n.hull) (same_contents _ bytes e) (seen_differs path at);
+    differs = λ path bytes at e. subst (λ z. DiffersInDirtyRange (stored_bytes (visible_tree h.tree) (Some path)) z n.dirty_range) (same_contents _ bytes e) (seen_differs path at);
     small = s.small;
     leads = s.leads;
   }
 
-  pub written_sound : (at b : ℕ) (bytes : List ℕ) → max n.size (at + length (b ∷ bytes)) ≤ profile_file_max h.tree.disk.profile → IsSoundNode h (written_node at (b ∷ bytes) (node_bytes (shown_tree h.tree) n) n)
+  pub written_sound : (at b : ℕ) (bytes : List ℕ) → max n.size (at + length (b ∷ bytes)) ≤ profile_file_max h.tree.disk.profile → IsSoundNode h (written_node at (b ∷ bytes) (node_bytes (visible_tree h.tree) n) n)
   written_sound at b bytes fits = record {
     sized = λ none. absurd (no_contents _ none);
     unchanged = λ none. absurd (no_contents _ none);
-    long = λ bs e. ap length (sym (same_contents _ bs e)) ∙ length-written (node_bytes (shown_tree h.tree) n) (b ∷ bytes) at ∙ ap (λ k. max k (at + length (b ∷ bytes))) seen_long;
-    differs = λ path bs place e. subst (λ z. DiffersInHull (stored_bytes (shown_tree h.tree) (Some path)) z (Some (hull_with n.hull (min at n.size) (at + length (b ∷ bytes))))) (same_contents _ bs e)
-        (subst (λ k. DiffersInHull (stored_bytes (shown_tree h.tree) (Some path)) (written_contents (node_bytes (shown_tree h.tree) n) at (b ∷ bytes)) (Some (hull_with n.hull (min at k) (at + length (b ∷ bytes))))) seen_long
-        (written_differs (stored_bytes (shown_tree h.tree) (Some path)) (node_bytes (shown_tree h.tree) n) (b ∷ bytes) n.hull at (seen_differs path place)));
+    long = λ bs e. ap length (sym (same_contents _ bs e)) ∙ length-written (node_bytes (visible_tree h.tree) n) (b ∷ bytes) at ∙ ap (λ k. max k (at + length (b ∷ bytes))) seen_long;
+    differs = λ path bs place e. subst (λ z. DiffersInDirtyRange (stored_bytes (visible_tree h.tree) (Some path)) z (Some (extend_dirty_range n.dirty_range (min at n.size) (at + length (b ∷ bytes))))) (same_contents _ bs e)
+        (subst (λ k. DiffersInDirtyRange (stored_bytes (visible_tree h.tree) (Some path)) (written_contents (node_bytes (visible_tree h.tree) n) at (b ∷ bytes)) (Some (extend_dirty_range n.dirty_range (min at k) (at + length (b ∷ bytes))))) seen_long
+        (written_differs (stored_bytes (visible_tree h.tree) (Some path)) (node_bytes (visible_tree h.tree) n) (b ∷ bytes) n.dirty_range at (seen_differs path place)));
     small = λ k. fits;
     leads = s.leads;
   }
@@ -102,7 +102,7 @@ pub resized_sound : (h : SessionView) (n : NodeView) → IsSoundNode h n → (si
 resized_sound h n s size nb here small = go (size == n.size) refl
   where
     changed : NodeView
-    changed = record n { size = size; contents = Some (take size (zero_padded size nb)); hull = Some (resized_hull n.hull n.size size) }
+    changed = record n { size = size; contents = Some (take size (zero_padded size nb)); dirty_range = Some (resize_dirty_range n.dirty_range n.size size) }
 
     same_list : (xs ys : List ℕ) → Some xs ≡ Some ys → xs ≡ ys
     same_list xs ys e = cc
@@ -116,16 +116,16 @@ resized_sound h n s size nb here small = go (size == n.size) refl
     long : length nb ≡ n.size
     long = s.long nb here
 
-    by_size : (path : List ℕ) → n.path ≡ Some path → (n.size < size) ⊎ (size ≤ n.size) → DiffersInHull (stored_bytes (shown_tree h.tree) (Some path)) (take size (zero_padded size nb)) (Some (resized_hull n.hull n.size size))
+    by_size : (path : List ℕ) → n.path ≡ Some path → (n.size < size) ⊎ (size ≤ n.size) → DiffersInDirtyRange (stored_bytes (visible_tree h.tree) (Some path)) (take size (zero_padded size nb)) (Some (resize_dirty_range n.dirty_range n.size size))
     by_size path at (inl more) =
-        subst (λ b. DiffersInHull (stored_bytes (shown_tree h.tree) (Some path)) (take size (zero_padded size nb)) (Some (cond b (hull_with n.hull n.size size) (cut_hull n.hull size)))) (sym (lt-ltb n.size size more))
-        (subst (λ k. DiffersInHull (stored_bytes (shown_tree h.tree) (Some path)) (take size (zero_padded size nb)) (Some (hull_with n.hull k size))) long
-        (lengthened (stored_bytes (shown_tree h.tree) (Some path)) nb n.hull size (let l = long in omega arith) (s.differs path nb at here)))
+        subst (λ b. DiffersInDirtyRange (stored_bytes (visible_tree h.tree) (Some path)) (take size (zero_padded size nb)) (Some (cond b (extend_dirty_range n.dirty_range n.size size) (truncate_dirty_range n.dirty_range size)))) (sym (lt-ltb n.size size more))
+        (subst (λ k. DiffersInDirtyRange (stored_bytes (visible_tree h.tree) (Some path)) (take size (zero_padded size nb)) (Some (extend_dirty_range n.dirty_range k size))) long
+        (lengthened (stored_bytes (visible_tree h.tree) (Some path)) nb n.dirty_range size (let l = long in omega arith) (s.differs path nb at here)))
     by_size path at (inr less) =
         let inside : size ≤ length nb = (let l = long in omega arith) in
-        subst (λ b. DiffersInHull (stored_bytes (shown_tree h.tree) (Some path)) (take size (zero_padded size nb)) (Some (cond b (hull_with n.hull n.size size) (cut_hull n.hull size)))) (sym (le-ltb n.size size less))
-        (subst (λ xs. DiffersInHull (stored_bytes (shown_tree h.tree) (Some path)) xs (Some (cut_hull n.hull size))) (sym (take-append-le size nb (replicate (size - length nb) 0) inside))
-        (shortened (stored_bytes (shown_tree h.tree) (Some path)) nb n.hull size inside (s.differs path nb at here)))
+        subst (λ b. DiffersInDirtyRange (stored_bytes (visible_tree h.tree) (Some path)) (take size (zero_padded size nb)) (Some (cond b (extend_dirty_range n.dirty_range n.size size) (truncate_dirty_range n.dirty_range size)))) (sym (le-ltb n.size size less))
+        (subst (λ xs. DiffersInDirtyRange (stored_bytes (visible_tree h.tree) (Some path)) xs (Some (truncate_dirty_range n.dirty_range size))) (sym (take-append-le size nb (replicate (size - length nb) 0) inside))
+        (shortened (stored_bytes (visible_tree h.tree) (Some path)) nb n.dirty_range size inside (s.differs path nb at here)))
 
     go : (b : Bool) → (size == n.size) ≡ b → IsSoundNode h (resized_node size nb n)
     go true e = subst (IsSoundNode h) (sym (ap (λ b. cond b n changed) e)) s
@@ -133,7 +133,7 @@ resized_sound h n s size nb here small = go (size == n.size) refl
       sized = λ none. absurd (no_list _ none);
       unchanged = λ none. absurd (no_list _ none);
       long = λ bytes c. ap length (sym (same_list _ bytes c)) ∙ length-take-le size (zero_padded size nb) (let p = padded in omega arith);
-      differs = λ path bytes at c. subst (λ z. DiffersInHull (stored_bytes (shown_tree h.tree) (Some path)) z (Some (resized_hull n.hull n.size size))) (same_list _ bytes c) (by_size path at (cases_lt n.size size));
+      differs = λ path bytes at c. subst (λ z. DiffersInDirtyRange (stored_bytes (visible_tree h.tree) (Some path)) z (Some (resize_dirty_range n.dirty_range n.size size))) (same_list _ bytes c) (by_size path at (cases_lt n.size size));
       small = λ k. small;
       leads = s.leads;
     })
@@ -144,7 +144,7 @@ pub record ChangesNode (old : VolumeView) (i : ℕ) (n m : NodeView) (new : Volu
   pub was : entry_at old.nodes i ≡ Some n
   pub nodes : new.nodes ≡ slice_set old.nodes i (Some m)
   pub path : m.path ≡ n.path
-  pub idle : IsIdle new.session (shown_tree new.session.tree)
+  pub idle : IsIdleSession new.session (visible_tree new.session.tree)
   pub sound : IsSoundNode new.session m
   pub others : (j : ℕ) (k : NodeView) → (i ≡ j → ⊥) → entry_at old.nodes j ≡ Some k → IsSoundNode new.session k
   pub handles : (j : ℕ) (h : Handle) → entry_at new.handles j ≡ Some h → (g : Handle) × ((entry_at old.handles j ≡ Some g) × (h.node ≡ g.node))
@@ -226,7 +226,7 @@ handles_move old new i p e j h at = go (changed_entry old i j (with_position p))
 -- a seek
 pub sound_moved : (old new : VolumeView) → IsSoundVolume old → new.session ≡ old.session → new.nodes ≡ old.nodes → ((j : ℕ) (h : Handle) → entry_at new.handles j ≡ Some h → (g : Handle) × ((entry_at old.handles j ≡ Some g) × (h.node ≡ g.node))) → IsSoundVolume new
 sound_moved old new sound session nodes handles = record {
-  idle = subst (λ h. IsIdle h (shown_tree h.tree)) (sym session) sound.idle;
+  idle = subst (λ h. IsIdleSession h (visible_tree h.tree)) (sym session) sound.idle;
   nodes = λ j k e. subst (λ h. IsSoundNode h k) (sym session) (sound.nodes j k (ap (λ (ns : List (Option NodeView)). entry_at ns j) (sym nodes) ∙ e));
   named = λ j h e. let g = handles j h e in subst (λ (ns : List (Option NodeView)). IsSome (entry_at ns h.node)) (sym nodes) (subst (λ k. IsSome (entry_at old.nodes k)) (sym g.1.1) (sound.named j g.0 g.1.0));
   apart = λ j k a b path other x y. sound.apart j k a b path other (ap (λ (ns : List (Option NodeView)). entry_at ns j) (sym nodes) ∙ x) (ap (λ (ns : List (Option NodeView)). entry_at ns k) (sym nodes) ∙ y);
@@ -234,8 +234,8 @@ sound_moved old new sound session nodes handles = record {
 
 -- a node is changed in memory, after it was loaded
 module _ (old mid new : VolumeView) (i : ℕ) (n m : NodeView) (sound : IsSoundVolume old) (was : entry_at old.nodes i ≡ Some n) (l : IsLoadedAt old.session old.nodes i mid.session mid.nodes) (session : new.session ≡ mid.session) where
-  tree_stays : shown_tree new.session.tree ≡ shown_tree old.session.tree
-  tree_stays = ap (λ (z : SessionView). shown_tree z.tree) session ∙ l.idle.shows
+  tree_stays : visible_tree new.session.tree ≡ visible_tree old.session.tree
+  tree_stays = ap (λ (z : SessionView). visible_tree z.tree) session ∙ l.idle.shows
 
   profile_stays : new.session.tree.disk.profile ≡ old.session.tree.disk.profile
   profile_stays = ap (λ (z : SessionView). z.tree.disk.profile) session ∙ quiet_profile old.session mid.session l.operations l.calls
@@ -245,7 +245,7 @@ module _ (old mid new : VolumeView) (i : ℕ) (n m : NodeView) (sound : IsSoundV
     was = was;
     nodes = nodes;
     path = path;
-    idle = subst (λ h. IsIdle h (shown_tree h.tree)) (sym session) (record { works = l.idle.works; shows = refl; files = l.idle.files });
+    idle = subst (λ h. IsIdleSession h (visible_tree h.tree)) (sym session) (record { works = l.idle.works; shows = refl; files = l.idle.files });
     sound = node_stays old.session new.session m tree_stays profile_stays one;
     others = λ j k ne e. node_stays old.session new.session k tree_stays profile_stays (sound.nodes j k e);
     handles = handles;
@@ -294,12 +294,12 @@ stored_elsewhere p bytes t (Some path) ne = go (same_path p (path_or_root path))
     go false e = ap (λ b. file_bytes (cond b (option_map (node_with_bytes bytes) (t (path_or_root path))) (t (path_or_root path)))) e
 
 -- a node that is as sound over another tree
-pub node_carried : (a b : SessionView) (n : NodeView) → stored_bytes (shown_tree b.tree) n.path ≡ stored_bytes (shown_tree a.tree) n.path → ((path : List ℕ) → LeadsToFile (shown_tree a.tree) path → LeadsToFile (shown_tree b.tree) path) → b.tree.disk.profile ≡ a.tree.disk.profile → IsSoundNode a n → IsSoundNode b n
+pub node_carried : (a b : SessionView) (n : NodeView) → stored_bytes (visible_tree b.tree) n.path ≡ stored_bytes (visible_tree a.tree) n.path → ((path : List ℕ) → LeadsToFile (visible_tree a.tree) path → LeadsToFile (visible_tree b.tree) path) → b.tree.disk.profile ≡ a.tree.disk.profile → IsSoundNode a n → IsSoundNode b n
 node_carried a b n stored leads profile s = record {
   sized = λ none. ap length stored ∙ s.sized none;
   unchanged = s.unchanged;
   long = s.long;
-  differs = λ path bytes at c. subst (λ z. DiffersInHull z bytes n.hull) (sym (ap (stored_bytes (shown_tree a.tree)) at) ∙ sym stored ∙ ap (stored_bytes (shown_tree b.tree)) at) (s.differs path bytes at c);
+  differs = λ path bytes at c. subst (λ z. DiffersInDirtyRange z bytes n.dirty_range) (sym (ap (stored_bytes (visible_tree a.tree)) at) ∙ sym stored ∙ ap (stored_bytes (visible_tree b.tree)) at) (s.differs path bytes at c);
   small = λ k. subst (λ p. n.size ≤ profile_file_max p) (sym profile) (s.small k);
   leads = λ path at. leads path (s.leads path at);
 }
@@ -307,15 +307,15 @@ node_carried a b n stored leads profile s = record {
 -- ---- a sync
 
 accepted_profile : (a b : SessionView) (op : Operation) → IsAcceptedCall a op b → b.tree.disk.profile ≡ a.tree.disk.profile
-accepted_profile a b op one = one.call.answers.geometry.profile ∙ ap (λ r. (cond r (ordered_disk b.tree.disk.order a.tree.disk) a.tree.disk).profile) one.other
+accepted_profile a b op one = one.call.answers.geometry.profile ∙ ap (λ r. (cond r (disk_with_order b.tree.disk.order a.tree.disk) a.tree.disk).profile) one.other
 
-pub steps_profile : (a b : SessionView) (xs : List Operation) → AreVolumeSteps a xs b → b.tree.disk.profile ≡ a.tree.disk.profile
+pub steps_profile : (a b : SessionView) (xs : List Operation) → MayChangeTreeOnce a xs b → b.tree.disk.profile ≡ a.tree.disk.profile
 steps_profile a b xs (inl quiet) = quiet_profile a b xs quiet
 steps_profile a b xs (inr c) = quiet_profile c.second b c.after c.rest ∙ accepted_profile c.first c.second c.change c.changed ∙ quiet_profile a c.first c.before c.quiet
 
 module _ (old : VolumeView) (new : SessionView) (i : ℕ) (n : NodeView) (sound : IsSoundVolume old) (was : entry_at old.nodes i ≡ Some n) (s : IsNodeSynced old.session n new (stored_node n)) where
   t : Tree
-  t = shown_tree old.session.tree
+  t = visible_tree old.session.tree
 
   profile : new.tree.disk.profile ≡ old.session.tree.disk.profile
   profile = steps_profile old.session new s.operations s.steps
@@ -324,15 +324,15 @@ module _ (old : VolumeView) (new : SessionView) (i : ℕ) (n : NodeView) (sound 
   one = sound.nodes i n was
 
   -- nothing is stored
-  tree_kept : needs_sync n ≡ false → shown_tree new.tree ≡ shown_tree old.session.tree
-  tree_kept e = s.idle.shows ∙ ap (λ b. cond b (tree_with_change (path_or_root (unwrap_or n.path [])) (node_with_bytes (node_bytes (shown_tree old.session.tree) n)) (shown_tree old.session.tree)) (shown_tree old.session.tree)) e
+  tree_kept : needs_sync n ≡ false → visible_tree new.tree ≡ visible_tree old.session.tree
+  tree_kept e = s.idle.shows ∙ ap (λ b. cond b (tree_with_change (path_or_root (unwrap_or n.path [])) (node_with_bytes (node_bytes (visible_tree old.session.tree) n)) (visible_tree old.session.tree)) (visible_tree old.session.tree)) e
 
-  tree_changed : (path : List ℕ) → needs_sync n ≡ true → n.path ≡ Some path → shown_tree new.tree ≡ tree_with_change (path_or_root path) (node_with_bytes (node_bytes (shown_tree old.session.tree) n)) (shown_tree old.session.tree)
+  tree_changed : (path : List ℕ) → needs_sync n ≡ true → n.path ≡ Some path → visible_tree new.tree ≡ tree_with_change (path_or_root path) (node_with_bytes (node_bytes (visible_tree old.session.tree) n)) (visible_tree old.session.tree)
   tree_changed path e at =
-      s.idle.shows ∙ ap (λ b. cond b (tree_with_change (path_or_root (unwrap_or n.path [])) (node_with_bytes (node_bytes (shown_tree old.session.tree) n)) (shown_tree old.session.tree)) (shown_tree old.session.tree)) e
-      ∙ ap (λ p. tree_with_change (path_or_root (unwrap_or p [])) (node_with_bytes (node_bytes (shown_tree old.session.tree) n)) (shown_tree old.session.tree)) at
+      s.idle.shows ∙ ap (λ b. cond b (tree_with_change (path_or_root (unwrap_or n.path [])) (node_with_bytes (node_bytes (visible_tree old.session.tree) n)) (visible_tree old.session.tree)) (visible_tree old.session.tree)) e
+      ∙ ap (λ p. tree_with_change (path_or_root (unwrap_or p [])) (node_with_bytes (node_bytes (visible_tree old.session.tree) n)) (visible_tree old.session.tree)) at
 
-  needed_path : (h : Option Hull) (p : Option (List ℕ)) → (is_some h && is_some p) ≡ true → (path : List ℕ) × (p ≡ Some path)
+  needed_path : (h : Option DirtyRange) (p : Option (List ℕ)) → (is_some h && is_some p) ≡ true → (path : List ℕ) × (p ≡ Some path)
   needed_path None p e = absurd (cc)
   needed_path (Some h) None e = absurd (cc)
   needed_path (Some h) (Some path) e = (path, refl)
@@ -343,16 +343,16 @@ module _ (old : VolumeView) (new : SessionView) (i : ℕ) (n : NodeView) (sound 
       go : (b : Bool) → needs_sync n ≡ b → IsSoundNode new (stored_node n)
       go false e = subst (IsSoundNode new) (sym (ap (λ b. cond b (synced_node n) n) e)) (node_stays old.session new n (tree_kept e) profile one)
       go true e =
-          let p = needed_path n.hull n.path e in
+          let p = needed_path n.dirty_range n.path e in
           let shows = tree_changed p.0 e p.1 in
-          let stored : stored_bytes (shown_tree new.tree) n.path ≡ node_bytes (shown_tree old.session.tree) n = ap₂ stored_bytes shows p.1 ∙ stored_there p.0 (node_bytes (shown_tree old.session.tree) n) (shown_tree old.session.tree) (one.leads p.0 p.1) in
+          let stored : stored_bytes (visible_tree new.tree) n.path ≡ node_bytes (visible_tree old.session.tree) n = ap₂ stored_bytes shows p.1 ∙ stored_there p.0 (node_bytes (visible_tree old.session.tree) n) (visible_tree old.session.tree) (one.leads p.0 p.1) in
           subst (IsSoundNode new) (sym (ap (λ b. cond b (synced_node n) n) e)) (record {
             sized = λ none. ap length stored ∙ seen_long old.session n one;
             unchanged = λ none. refl;
             long = one.long;
-            differs = λ path bytes at c. ap (stored_bytes (shown_tree new.tree)) (sym at) ∙ stored ∙ ap (λ x. unwrap_or x (stored_bytes (shown_tree old.session.tree) n.path)) c;
+            differs = λ path bytes at c. ap (stored_bytes (visible_tree new.tree)) (sym at) ∙ stored ∙ ap (λ x. unwrap_or x (stored_bytes (visible_tree old.session.tree) n.path)) c;
             small = λ k. absurd (let z : false ≡ true = k in cc);
-            leads = λ path at. subst (λ z. LeadsToFile z path) (sym shows) (leads_still (path_or_root p.0) (node_bytes (shown_tree old.session.tree) n) (shown_tree old.session.tree) path (one.leads path at));
+            leads = λ path at. subst (λ z. LeadsToFile z path) (sym shows) (leads_still (path_or_root p.0) (node_bytes (visible_tree old.session.tree) n) (visible_tree old.session.tree) path (one.leads path at));
           })
 
   others_sound : (j : ℕ) (k : NodeView) → (i ≡ j → ⊥) → entry_at old.nodes j ≡ Some k → IsSoundNode new k
@@ -361,10 +361,10 @@ module _ (old : VolumeView) (new : SessionView) (i : ℕ) (n : NodeView) (sound 
       go : (b : Bool) → needs_sync n ≡ b → IsSoundNode new k
       go false e = node_stays old.session new k (tree_kept e) profile (sound.nodes j k at)
       go true e =
-          let p = needed_path n.hull n.path e in
+          let p = needed_path n.dirty_range n.path e in
           let shows = tree_changed p.0 e p.1 in
-          node_carried old.session new k (ap (λ z. stored_bytes z k.path) shows ∙ stored_elsewhere (path_or_root p.0) (node_bytes (shown_tree old.session.tree) n) (shown_tree old.session.tree) k.path (λ path there same. ne (sound.apart i j n k p.0 path was at p.1 there same)))
-          (λ path l. subst (λ z. LeadsToFile z path) (sym shows) (leads_still (path_or_root p.0) (node_bytes (shown_tree old.session.tree) n) (shown_tree old.session.tree) path l)) profile (sound.nodes j k at)
+          node_carried old.session new k (ap (λ z. stored_bytes z k.path) shows ∙ stored_elsewhere (path_or_root p.0) (node_bytes (visible_tree old.session.tree) n) (visible_tree old.session.tree) k.path (λ path there same. ne (sound.apart i j n k p.0 path was at p.1 there same)))
+          (λ path l. subst (λ z. LeadsToFile z path) (sym shows) (leads_still (path_or_root p.0) (node_bytes (visible_tree old.session.tree) n) (visible_tree old.session.tree) path l)) profile (sound.nodes j k at)
 
   same_path_kept : (b : Bool) → (cond b (synced_node n) n).path ≡ n.path
   same_path_kept true = refl
@@ -375,7 +375,7 @@ module _ (old : VolumeView) (new : SessionView) (i : ℕ) (n : NodeView) (sound 
     was = was;
     nodes = nodes ∙ ap (λ o. slice_set old.nodes i (option_map stored_node o)) was;
     path = same_path_kept (needs_sync n);
-    idle = subst (λ h. IsIdle h (shown_tree h.tree)) (sym session) (record { works = s.idle.works; shows = refl; files = s.idle.files });
+    idle = subst (λ h. IsIdleSession h (visible_tree h.tree)) (sym session) (record { works = s.idle.works; shows = refl; files = s.idle.files });
     sound = subst (λ h. IsSoundNode h (stored_node n)) (sym session) stored_sound;
     others = λ j k ne e. subst (λ h. IsSoundNode h k) (sym session) (others_sound j k ne e);
     handles = handles_stay old.handles whole.handles handles;
@@ -383,9 +383,9 @@ module _ (old : VolumeView) (new : SessionView) (i : ℕ) (n : NodeView) (sound 
 
 -- ---- a close
 
-names_itself : (hs : List (Option Handle)) (j : ℕ) (g : Handle) → entry_at hs j ≡ Some g → list_any (names_node g.node) hs ≡ true
+names_itself : (hs : List (Option Handle)) (j : ℕ) (g : Handle) → entry_at hs j ≡ Some g → list_any (refers_to_node g.node) hs ≡ true
 names_itself [] j g e = absurd (cc)
-names_itself (x ∷ hs) zero g e = ap (λ o. names_node g.node o || list_any (names_node g.node) hs) e ∙ ap (λ b. b || list_any (names_node g.node) hs) (same_number g.node)
+names_itself (x ∷ hs) zero g e = ap (λ o. refers_to_node g.node o || list_any (refers_to_node g.node) hs) e ∙ ap (λ b. b || list_any (refers_to_node g.node) hs) (same_number g.node)
   where
     same_number : (m : ℕ) → (m == m) ≡ true
     same_number m = told m (eqb_tells m m)
@@ -393,7 +393,7 @@ names_itself (x ∷ hs) zero g e = ap (λ o. names_node g.node o || list_any (na
         told : (k : ℕ) → ((eqb k k ≡ true) × (k ≡ k)) ⊎ ((eqb k k ≡ false) × (k ≢ k)) → (k == k) ≡ true
         told k (inl e) = e.0
         told k (inr e) = absurd (e.1 refl)
-names_itself (x ∷ hs) (suc j) g e = ap (λ b. names_node g.node x || b) (names_itself hs j g e) ∙ or_true (names_node g.node x)
+names_itself (x ∷ hs) (suc j) g e = ap (λ b. refers_to_node g.node x || b) (names_itself hs j g e) ∙ or_true (refers_to_node g.node x)
   where
     or_true : (b : Bool) → (b || true) ≡ true
     or_true true = refl
@@ -406,7 +406,7 @@ taken_entry xs i j x e = go (changed_entry_to xs i j)
     go (inl k) = sym k ∙ e
     go (inr k) = absurd (let z : Some x ≡ None = sym e ∙ k in cc)
 
-module _ (v new : VolumeView) (handle : ℕ) (h : Handle) (sound : IsSoundVolume v) (d : IsDropped v handle h new) where
+module _ (v new : VolumeView) (handle : ℕ) (h : Handle) (sound : IsSoundVolume v) (d : IsHandleDropped v handle h new) where
   old_handle : (j : ℕ) (g : Handle) → entry_at new.handles j ≡ Some g → entry_at v.handles j ≡ Some g
   old_handle j g e = taken_entry v.handles handle j g (ap (λ (hs : List (Option Handle)). entry_at hs j) (sym d.handles) ∙ e)
 
@@ -427,7 +427,7 @@ module _ (v new : VolumeView) (handle : ℕ) (h : Handle) (sound : IsSoundVolume
 
   pub sound_dropped : IsSoundVolume new
   sound_dropped = record {
-    idle = subst (λ s. IsIdle s (shown_tree s.tree)) (sym d.session) sound.idle;
+    idle = subst (λ s. IsIdleSession s (visible_tree s.tree)) (sym d.session) sound.idle;
     nodes = λ j k e. subst (λ s. IsSoundNode s k) (sym d.session) (sound.nodes j k (old_node j k e));
     named = λ j g e. kept_node j g e (sound.named j g (old_handle j g e));
     apart = λ j k a b path other x y. sound.apart j k a b path other (old_node j a x) (old_node k b y);
@@ -443,18 +443,18 @@ failed_not_working e old new (not, (operations, k)) works =
     let b = healthy_view new works in
     absurd (let z : HasFailed ≡ Healthy (viewed_session new) = sym a ∙ b in cc)
 
-pub part_profile : (a b : SessionView) (xs : List Operation) → IsSessionPart a xs b → b.tree.disk.profile ≡ a.tree.disk.profile
+pub part_profile : (a b : SessionView) (xs : List Operation) → IsSessionCallSequence a xs b → b.tree.disk.profile ≡ a.tree.disk.profile
 part_profile a b xs (inl steps) = steps_profile a b xs steps
 part_profile a b xs (inr (e, (is, k))) =
     let step = refusal_step k.at k.next e b is k.ends.answers in
     step.geometry.profile ∙ same_profile (is_remount k.next) k.at.tree.disk ∙ quiet_profile a k.at k.before k.quiet
   where
-    same_profile : (r : Bool) (d : Disk) → (cond r (ordered_disk b.tree.disk.order d) d).profile ≡ d.profile
+    same_profile : (r : Bool) (d : Disk) → (cond r (disk_with_order b.tree.disk.order d) d).profile ≡ d.profile
     same_profile true d = refl
     same_profile false d = refl
 
 -- a volume whose session kept its tree
-pub sound_kept : (old new : VolumeView) → IsSoundVolume old → IsIdle new.session (shown_tree old.session.tree) → new.session.tree.disk.profile ≡ old.session.tree.disk.profile → new.nodes ≡ old.nodes → new.handles ≡ old.handles → IsSoundVolume new
+pub sound_kept : (old new : VolumeView) → IsSoundVolume old → IsIdleSession new.session (visible_tree old.session.tree) → new.session.tree.disk.profile ≡ old.session.tree.disk.profile → new.nodes ≡ old.nodes → new.handles ≡ old.handles → IsSoundVolume new
 sound_kept old new sound idle profile nodes handles = record {
   idle = record { works = idle.works; shows = refl; files = idle.files };
   nodes = λ j k e. node_stays old.session new.session k idle.shows profile (sound.nodes j k (ap (λ (ns : List (Option NodeView)). entry_at ns j) (sym nodes) ∙ e));
@@ -469,26 +469,26 @@ some_entry (Some x) is = (x, refl)
 -- ---- the calls
 
 -- the table once a node is loaded
-loaded_table : (old new : SessionView) (nodes loaded : List (Option NodeView)) (i : ℕ) (n : NodeView) → entry_at nodes i ≡ Some n → IsLoadedAt old nodes i new loaded → loaded ≡ slice_set nodes i (Some (loaded_node (node_bytes (shown_tree old.tree) n) n))
-loaded_table old new nodes loaded i n at l = l.are ∙ ap (λ (o : Option NodeView). slice_set nodes i (option_map (λ k. loaded_node (node_bytes (shown_tree old.tree) k) k) o)) at
+loaded_table : (old new : SessionView) (nodes loaded : List (Option NodeView)) (i : ℕ) (n : NodeView) → entry_at nodes i ≡ Some n → IsLoadedAt old nodes i new loaded → loaded ≡ slice_set nodes i (Some (loaded_node (node_bytes (visible_tree old.tree) n) n))
+loaded_table old new nodes loaded i n at l = l.are ∙ ap (λ (o : Option NodeView). slice_set nodes i (option_map (λ k. loaded_node (node_bytes (visible_tree old.tree) k) k) o)) at
 
 -- only bytes came into memory, and a position moved
 pub sound_loaded : (old mid new : VolumeView) (handle : ℕ) (h : Handle) → IsSoundVolume old → entry_at old.handles handle ≡ Some h → IsLoadedAt old.session old.nodes h.node mid.session mid.nodes → new.session ≡ mid.session → new.nodes ≡ mid.nodes
     → ((j : ℕ) (g : Handle) → entry_at new.handles j ≡ Some g → (f : Handle) × ((entry_at old.handles j ≡ Some f) × (g.node ≡ f.node))) → IsSoundVolume new
 sound_loaded old mid new handle h sound found l session nodes handles =
     let s = some_entry (entry_at old.nodes h.node) (sound.named handle h found) in
-    sound_in_memory old mid new h.node s.0 (loaded_node (node_bytes (shown_tree old.session.tree) s.0) s.0) sound s.1 l session (nodes ∙ loaded_table old.session mid.session old.nodes mid.nodes h.node s.0 s.1 l) refl (loaded_sound old.session s.0 (sound.nodes h.node s.0 s.1)) handles
+    sound_in_memory old mid new h.node s.0 (loaded_node (node_bytes (visible_tree old.session.tree) s.0) s.0) sound s.1 l session (nodes ∙ loaded_table old.session mid.session old.nodes mid.nodes h.node s.0 s.1 l) refl (loaded_sound old.session s.0 (sound.nodes h.node s.0 s.1)) handles
 
-pub sound_written : (old mid new : VolumeView) (handle at : ℕ) (bytes : List ℕ) (h : Handle) → IsSoundVolume old → entry_at old.handles handle ≡ Some h → 0 < length bytes → FitsAt old h (length bytes) at → IsLoadedAt old.session old.nodes h.node mid.session mid.nodes
+pub sound_written : (old mid new : VolumeView) (handle at : ℕ) (bytes : List ℕ) (h : Handle) → IsSoundVolume old → entry_at old.handles handle ≡ Some h → 0 < length bytes → IsAllowedWriteOffset old h (length bytes) at → IsLoadedAt old.session old.nodes h.node mid.session mid.nodes
     → ((n : NodeView) (was : List ℕ) → entry_at mid.nodes h.node ≡ Some n → n.contents ≡ Some was → new.nodes ≡ slice_set mid.nodes h.node (Some (written_node at bytes was n))) → new.session ≡ mid.session
     → ((j : ℕ) (g : Handle) → entry_at new.handles j ≡ Some g → (f : Handle) × ((entry_at old.handles j ≡ Some f) × (g.node ≡ f.node))) → IsSoundVolume new
 sound_written old mid new handle at [] h sound found some fits l writes session handles = absurd (omega arith)
 sound_written old mid new handle at (b ∷ bytes) h sound found some fits l writes session handles =
     let s = some_entry (entry_at old.nodes h.node) (sound.named handle h found) in
-    let nb = node_bytes (shown_tree old.session.tree) s.0 in
+    let nb = node_bytes (visible_tree old.session.tree) s.0 in
     let loaded = loaded_table old.session mid.session old.nodes mid.nodes h.node s.0 s.1 l in
     let here = ap (λ (ns : List (Option NodeView)). entry_at ns h.node) loaded ∙ entry_set old.nodes h.node (Some (loaded_node nb s.0)) (entry_inside old.nodes h.node s.0 s.1) in
-    let f = subst (λ o. IfSome o (λ n. (at ≡ write_place h n) × (max n.size (at + length (b ∷ bytes)) ≤ profile_file_max old.session.tree.disk.profile))) s.1 fits in
+    let f = subst (λ o. IfSome o (λ n. (at ≡ write_offset h n) × (max n.size (at + length (b ∷ bytes)) ≤ profile_file_max old.session.tree.disk.profile))) s.1 fits in
     sound_in_memory old mid new h.node s.0 (written_node at (b ∷ bytes) nb s.0) sound s.1 l session
     (writes (loaded_node nb s.0) nb here refl ∙ ap (λ (ns : List (Option NodeView)). slice_set ns h.node (Some (written_node at (b ∷ bytes) nb (loaded_node nb s.0)))) loaded ∙ set_twice old.nodes h.node (Some (loaded_node nb s.0)) (Some (written_node at (b ∷ bytes) nb s.0))) refl
     (written_sound old.session s.0 (sound.nodes h.node s.0 s.1) at b bytes f.1) handles
@@ -498,13 +498,13 @@ pub sound_resized : (old mid new : VolumeView) (handle size : ℕ) (h : Handle) 
     → ((j : ℕ) (g : Handle) → entry_at new.handles j ≡ Some g → (f : Handle) × ((entry_at old.handles j ≡ Some f) × (g.node ≡ f.node))) → IsSoundVolume new
 sound_resized old mid new handle size h sound found small l resizes session handles =
     let s = some_entry (entry_at old.nodes h.node) (sound.named handle h found) in
-    let nb = node_bytes (shown_tree old.session.tree) s.0 in
+    let nb = node_bytes (visible_tree old.session.tree) s.0 in
     let loaded = loaded_table old.session mid.session old.nodes mid.nodes h.node s.0 s.1 l in
     let here = ap (λ (ns : List (Option NodeView)). entry_at ns h.node) loaded ∙ entry_set old.nodes h.node (Some (loaded_node nb s.0)) (entry_inside old.nodes h.node s.0 s.1) in
     let one = loaded_sound old.session s.0 (sound.nodes h.node s.0 s.1) in
     sound_in_memory old mid new h.node s.0 (resized_node size nb (loaded_node nb s.0)) sound s.1 l session
     (resizes (loaded_node nb s.0) nb here refl ∙ ap (λ (ns : List (Option NodeView)). slice_set ns h.node (Some (resized_node size nb (loaded_node nb s.0)))) loaded ∙ set_twice old.nodes h.node (Some (loaded_node nb s.0)) (Some (resized_node size nb (loaded_node nb s.0))))
-    (resized_path (size == s.0.size) (loaded_node nb s.0) (record (loaded_node nb s.0) { size = size; contents = Some (take size (zero_padded size nb)); hull = Some (resized_hull s.0.hull s.0.size size) }) refl) (resized_sound old.session (loaded_node nb s.0) one size nb refl small) handles
+    (resized_path (size == s.0.size) (loaded_node nb s.0) (record (loaded_node nb s.0) { size = size; contents = Some (take size (zero_padded size nb)); dirty_range = Some (resize_dirty_range s.0.dirty_range s.0.size size) }) refl) (resized_sound old.session (loaded_node nb s.0) one size nb refl small) handles
   where
     resized_path : (b : Bool) (n m : NodeView) → m.path ≡ n.path → (cond b n m).path ≡ n.path
     resized_path true n m e = refl
@@ -515,10 +515,10 @@ sound_after_sync old new handle h sound found s handles =
     let k = some_entry (entry_at old.nodes h.node) (sound.named handle h found) in
     sound_synced old new.session h.node k.0 sound k.1 (s.node k.0 k.1) new refl s.are handles
 
-pub sound_if_working : (e : Error) (old new : VolumeView) (i : ℕ) → IsSoundVolume old → EndsSyncAt e old.session old.nodes i new.session → new.nodes ≡ old.nodes → new.handles ≡ old.handles → IsSound new
+pub sound_if_working : (e : Error) (old new : VolumeView) (i : ℕ) → IsSoundVolume old → FailsSyncAt e old.session old.nodes i new.session → new.nodes ≡ old.nodes → new.handles ≡ old.handles → IsSoundIfWorking new
 sound_if_working e old new i sound s nodes handles works = go s.ends
   where
-    go : IsNodeRefused e old.session s.node new.session ⊎ FailsInCalls e old.session new.session → IsSoundVolume new
+    go : IsNodeSyncRefused e old.session s.node new.session ⊎ FailsInCalls e old.session new.session → IsSoundVolume new
     go (inl r) = sound_kept old new sound r.idle (part_profile old.session new.session r.operations r.part) nodes handles
     go (inr f) = absurd (failed_not_working e old.session new.session f works)
 
@@ -546,7 +546,7 @@ lost : (reply : Reply) → None ≡ Some reply → ⊥
 lost reply e = absurd (cc)
 
 -- after a remount that succeeds no file is open, and the tree is the disk's
-pub remounted_state : (old new : SessionView) (reply : Reply) → IsCall old ops.Remount (Ok reply) new → (new.tree.failed ≡ false) × ((new.files ≡ []) × ShowsTree new.tree.disk (Some (shown_tree new.tree)))
+pub remounted_state : (old new : SessionView) (reply : Reply) → IsCall old ops.Remount (Ok reply) new → (new.tree.failed ≡ false) × ((new.files ≡ []) × ShowsTree new.tree.disk (Some (visible_tree new.tree)))
 remounted_state old new reply call =
     let s = go call.answers.answered.shown call.answers.answered.answers in
     (s.0, (s.1, subst (HealthyHasDiskTree new.tree.disk) (healthy_view new s.0) call.answers.agrees))
@@ -564,13 +564,13 @@ not_remounted old new e call = go new.tree.failed refl
         let a = call.answers.fails.failed in
         absurd (let z : HasFailed ≡ Healthy (viewed_session new) = sym a ∙ healthy_view new k in cc)
 
-pub remounted_sound : (old new : VolumeView) (x : Result Reply Error) → IsCall old.session ops.Remount x new.session → new.nodes ≡ [] → new.handles ≡ [] → IsSound new
+pub remounted_sound : (old new : VolumeView) (x : Result Reply Error) → IsCall old.session ops.Remount x new.session → new.nodes ≡ [] → new.handles ≡ [] → IsSoundIfWorking new
 remounted_sound old new (Ok reply) call nodes handles works =
     let s = remounted_state old.session new.session reply call in
     subst IsSoundVolume (sym (ap₂ (λ (ns : List (Option NodeView)) (hs : List (Option Handle)). record { session = new.session; nodes = ns; handles = hs }) nodes handles)) (empty_sound new.session s.0 s.1.0)
 remounted_sound old new (Err e) call nodes handles works = absurd (let k : true ≡ false = sym (not_remounted old.session new.session e call) ∙ works in cc)
 
-pub remounted : (old new : VolumeView) (x : Result Reply Error) → IsCall old.session ops.Remount x new.session → new.nodes ≡ [] → new.handles ≡ [] → IsRemount old x new
+pub remounted : (old new : VolumeView) (x : Result Reply Error) → IsCall old.session ops.Remount x new.session → new.nodes ≡ [] → new.handles ≡ [] → IsVolumeRemount old x new
 remounted old new x call nodes handles = record {
   call = call;
   closed = (nodes, handles);

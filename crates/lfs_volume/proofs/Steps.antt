@@ -10,23 +10,23 @@ use Rattle.lfs_model.specs.tree.Tree.{Path}
 use Rattle.lfs_model.specs.tree.View.{IsAccepted}
 use Rattle.lfs_model.specs.session.Operations as ops
 use Rattle.lfs_model.specs.session.Operations.{Operation, Refusal, Reply, FlagsOfOpen, Busy, EntryFull, Exist, Invalid, IsDir, NameTooLong, NoEnt, NoSpace, ReadOnly, parse_path}
-use Rattle.lfs_model.specs.session.Session.{DiskSummary, Session, all_readers, all_writers, exceeds_charge, first_refusal, flags_allowed, has_long_name, has_open_file, lacks_room, overfills_disk, parents_refusal, refuse_if}
+use Rattle.lfs_model.specs.session.Session.{DiskSummary, Session, all_readers, all_writers, exceeds_half_pair, first_refusal, flags_allowed, has_long_name, has_open_file, lacks_room, overfills_disk, parents_refusal, refuse_if}
 use Rattle.lfs_model.specs.session.TreeEdits.{file_bytes, is_directory, last_name, same_path}
 use Rattle.lfs_model.specs.session.Writers.{opened_writer}
-use Rattle.lfs_model.specs.session.State.{IsSummary, SessionHealth, HasFailed, Healthy, is_remount, remount_result, nonremount_result}
+use Rattle.lfs_model.specs.session.State.{IsDiskSummary, SessionHealth, HasFailed, Healthy, is_remount, remount_result, nonremount_result}
 use Rattle.lfs_model.specs.session.Refusals.{operation_refusal, path_or_root}
 use Rattle.lfs_model.specs.session.Effects.{operation_effect, operation_result, unless_refused}
 use Rattle.lfs_model.specs.session.Run.{IsReply, IsStep, is_refusal}
 use Rattle.lfs_fs.specs.SessionView.{SessionView, StepsOrFails, system_state, viewed_session}
 use Rattle.lfs_fs.specs.CallEffects.{IsCall}
-use Rattle.lfs_volume.specs.SessionCalls.{AreQuietCalls, FailsInCalls, error_result}
+use Rattle.lfs_volume.specs.SessionCalls.{AreTreePreservingCalls, FailsInCalls, error_result}
 
 -- The definitions give this reply and the session after it, from what the disk holds.
 pub record IsAnswered (old : SessionView) (op : Operation) (reply : Reply) (new : SessionView) : Type 0 where
   pub around : DiskSummary
   pub pairs : List Pair
   pub accepted : IsAccepted old.tree.disk pairs
-  pub surrounds : IsSummary old.tree.disk pairs around
+  pub surrounds : IsDiskSummary old.tree.disk pairs around
   pub is : operation_result around (viewed_session old) op ≡ (reply, viewed_session new)
   pub works : new.tree.failed ≡ false
 
@@ -49,7 +49,7 @@ answered old op reply new other works step = go new.tree.failed refl both
     result : Reply × Session
     result = operation_result a.around (viewed_session old) op
 
-    found : (ps : List Pair) × (IsAccepted old.tree.disk ps × IsSummary old.tree.disk ps a.around)
+    found : (ps : List Pair) × (IsAccepted old.tree.disk ps × IsDiskSummary old.tree.disk ps a.around)
     found = a.surrounds (viewed_session old) (healthy_view old works)
 
     both : nonremount_result a.around (Healthy (viewed_session old)) op ≡ (Some reply, (system_state new).state)
@@ -75,7 +75,7 @@ pub record IsDone (old : SessionView) (op : Operation) (reply : Reply) (new : Se
   pub around : DiskSummary
   pub pairs : List Pair
   pub accepted : IsAccepted old.tree.disk pairs
-  pub surrounds : IsSummary old.tree.disk pairs around
+  pub surrounds : IsDiskSummary old.tree.disk pairs around
   pub passes : operation_refusal around (viewed_session old) op ≡ None
   pub is : operation_effect around (viewed_session old) op ≡ (reply, viewed_session new)
   pub works : new.tree.failed ≡ false
@@ -97,7 +97,7 @@ pub record IsRefused (old : SessionView) (op : Operation) (error : Refusal) (new
   pub around : DiskSummary
   pub pairs : List Pair
   pub accepted : IsAccepted old.tree.disk pairs
-  pub surrounds : IsSummary old.tree.disk pairs around
+  pub surrounds : IsDiskSummary old.tree.disk pairs around
   pub refused : (operation_refusal around (viewed_session old) op ≡ None) → ⊥
   pub by : operation_refusal around (viewed_session old) op ≡ Some error
   pub stays : viewed_session new ≡ viewed_session old
@@ -124,7 +124,7 @@ refusal_step old op e new is h = subst (λ b. StepsOrFails old op (cond b (Ok (o
 
 -- no check refuses the operation, so it isn't refused
 pub never_refused : (old : SessionView) (op : Operation) (e : Error) (new : SessionView) → is_remount op ≡ false → old.tree.failed ≡ false → ((around : DiskSummary) → is_refusal (operation_effect around (viewed_session old) op).0 ≡ false)
-    → ((around : DiskSummary) (ps : List Pair) → IsAccepted old.tree.disk ps → IsSummary old.tree.disk ps around → operation_refusal around (viewed_session old) op ≡ None) → StepsOrFails old op (error_result e) new → refusals.is_refusal e ≡ true → ⊥
+    → ((around : DiskSummary) (ps : List Pair) → IsAccepted old.tree.disk ps → IsDiskSummary old.tree.disk ps around → operation_refusal around (viewed_session old) op ≡ None) → StepsOrFails old op (error_result e) new → refusals.is_refusal e ≡ true → ⊥
 never_refused old op e new other works proper passes h is =
     let r = refused old op (error_refusal e) new other works proper (refusal_step old op e new is h) in
     r.refused (passes r.around r.pairs r.accepted r.surrounds)
@@ -160,7 +160,7 @@ open_checks around s given p flags =
     ∷ refuse_if (if flags.write
     then nat_lt 0 (length (all_writers s.files)) || has_open_file (same_path p) s.files
     else list_any (λ w. same_path p w.path) (all_writers s.files) || nat_le 16 (length (all_readers s.files))) Busy
-    ∷ refuse_if (is_none (s.tree p) && exceeds_charge around (last_name p) []) EntryFull
+    ∷ refuse_if (is_none (s.tree p) && exceeds_half_pair around (last_name p) []) EntryFull
     ∷ refuse_if (is_none (s.tree p) && lacks_room around s.files 2) NoSpace
     ∷ refuse_if (flags.truncate && overfills_disk around (opened_writer p flags (file_bytes (s.tree p)))) NoSpace
     ∷ []
@@ -200,7 +200,7 @@ not_true true h = absurd (h refl)
 not_true false h = refl
 
 -- an operation that isn't refused ends in an error only by a failure
-pub fails_at : (e : Error) (old at new : SessionView) (before : List Operation) (next : Operation) → AreQuietCalls old before at → IsCall at next (error_result e) new → (refusals.is_refusal e ≡ true → ⊥) → FailsInCalls e old new
+pub fails_at : (e : Error) (old at new : SessionView) (before : List Operation) (next : Operation) → AreTreePreservingCalls old before at → IsCall at next (error_result e) new → (refusals.is_refusal e ≡ true → ⊥) → FailsInCalls e old new
 fails_at e old at new before next quiet ends not = (
   not_true (refusals.is_refusal e) not,
   (before ++ next ∷ [], record { before = before; next = next; others = []; are = refl; at = at; quiet = quiet; ends = ends }),

@@ -7,23 +7,23 @@ use Rattle.lfs_lookup.specs.RefusalErrors as refusals
 use Rattle.lfs_model.specs.format.Names.{Name}
 use Rattle.lfs_model.specs.format.Slots.{Attributes}
 use Rattle.lfs_model.specs.format.Content.{attributes_with, attributes_without}
-use Rattle.lfs_model.specs.format.Disk.{ordered_disk}
+use Rattle.lfs_model.specs.format.Disk.{disk_with_order}
 use Rattle.lfs_model.specs.tree.Tree.{DirectoryNode, FileNode, Node, Path, Tree}
 use Rattle.lfs_model.specs.session.Operations as ops
 use Rattle.lfs_model.specs.session.Operations.{EntryFull, Exist, Invalid, NameTooLong, NoSpace, ReadOnly, Operation, Refusal, Reply, parse_path}
-use Rattle.lfs_model.specs.session.Session.{DiskSummary, OpenFilesByNumber, Session, directory_refusal, exceeds_charge, has_long_name, lacks_room, parents_refusal, refuse_if}
+use Rattle.lfs_model.specs.session.Session.{DiskSummary, OpenFilesByNumber, Session, directory_refusal, exceeds_half_pair, has_long_name, lacks_room, parents_refusal, refuse_if}
 use Rattle.lfs_model.specs.session.Refusals.{operation_refusal, path_or_root}
-use Rattle.lfs_model.specs.session.TreeEdits.{file_bytes, is_file, last_name, names_with, node_attributes_of, node_with_names, parent_path, same_path, tree_with, tree_with_change, with_attributes}
+use Rattle.lfs_model.specs.session.TreeEdits.{file_bytes, is_file, last_name, names_with, node_attributes_of, node_with_names, parent_path, same_path, tree_with_node, tree_with_change, with_attributes}
 use Rattle.lfs_model.specs.session.Effects as effects
 use Rattle.lfs_model.specs.session.Effects.{operation_effect}
 use Rattle.lfs_model.proofs.Paths.{path_from_same}
-use Rattle.lfs_tree.specs.TreeState.{shown_tree}
+use Rattle.lfs_tree.specs.TreeState.{visible_tree}
 use Rattle.lfs_fs.specs.CallEffects.{IsCall}
 use Rattle.lfs_fs.specs.SessionView.{viewed_session}
 use Rattle.lfs_volume.specs.declared.handles.Handle.{Handle}
-use Rattle.lfs_volume.specs.Opened.{AreNoFiles, LeadsToFile}
+use Rattle.lfs_volume.specs.Opened.{HasNoOpenFiles, LeadsToFile}
 use Rattle.lfs_volume.specs.Volume.{NodeView, VolumeView, entry_at, stored_bytes}
-use Rattle.lfs_volume.specs.VolumeCalls.{IsSound, IsSoundVolume}
+use Rattle.lfs_volume.specs.VolumeCalls.{IsSoundIfWorking, IsSoundVolume}
 use Rattle.lfs_volume.proofs.SessionOperations.{is_alone, no_refusal, not_remount, operation_keeps, with_files}
 use Rattle.lfs_volume.proofs.Soundness.{failed_not_working, node_carried}
 use Rattle.lfs_volume.proofs.Steps.{answered, none_at, not_refused_if}
@@ -70,7 +70,7 @@ created_directory node false true g None free e = absurd (cc)
 created_directory node false true g (Some (FileNode a bytes)) free e = absurd (cc)
 created_directory node false true g (Some (DirectoryNode a ns)) free e = refl
 
-pub keeps_with_new : (p : Path) (node : Node) (g : List Name → List Name) (t : Tree) → t p ≡ None → KeepsFiles t (tree_with p (Some node) (tree_with_change (parent_path p) (node_with_names g) t))
+pub keeps_with_new : (p : Path) (node : Node) (g : List Name → List Name) (t : Tree) → t p ≡ None → KeepsFiles t (tree_with_node p (Some node) (tree_with_change (parent_path p) (node_with_names g) t))
 keeps_with_new p node g t none = record {
   files = λ q e. created_file node (same_path p q) (same_path (parent_path p) q) g (t q) (λ same. sym (ap t (path_from_same p q same)) ∙ none) e;
   directories = λ q e. created_directory node (same_path p q) (same_path (parent_path p) q) g (t q) (λ same. sym (ap t (path_from_same p q same)) ∙ none) e;
@@ -87,7 +87,7 @@ mkdir_checks around s path =
     ∷ parents_refusal s.tree [] (path_or_root path)
     ∷ refuse_if (has_long_name around (path_or_root path)) NameTooLong
     ∷ refuse_if (is_some (s.tree (path_or_root path))) Exist
-    ∷ refuse_if (exceeds_charge around (last_name (path_or_root path)) []) EntryFull
+    ∷ refuse_if (exceeds_half_pair around (last_name (path_or_root path)) []) EntryFull
     ∷ refuse_if (lacks_room around s.files 4) NoSpace
     ∷ []
 
@@ -139,28 +139,28 @@ pub stored_kept : (t u : Tree) → KeepsFiles t u → (at : Option (List ℕ)) �
 stored_kept t u k None leads = refl
 stored_kept t u k (Some path) leads = (k.files (path_or_root path) (leads path refl).file).1
 
-pub performed_sound : (old new : VolumeView) (op : Operation) (x : Result Reply Error) → is_alone op ≡ true → IsSoundVolume old → IsCall old.session op x new.session → new.nodes ≡ old.nodes → new.handles ≡ old.handles → IsSound new
+pub performed_sound : (old new : VolumeView) (op : Operation) (x : Result Reply Error) → is_alone op ≡ true → IsSoundVolume old → IsCall old.session op x new.session → new.nodes ≡ old.nodes → new.handles ≡ old.handles → IsSoundIfWorking new
 performed_sound old new op (Err e) alone sound call nodes handles works =
     let not = no_refusal e old.session new.session op call.answers in
     absurd (failed_not_working e old.session new.session (not, (op ∷ [], record { before = []; next = op; others = []; are = refl; at = old.session; quiet = refl; ends = subst (λ b. IsCall old.session op (cond b (Ok (ops.Refused (refusals.error_refusal e))) (Err e)) new.session) (sym not) call })) works)
 performed_sound old new op (Ok reply) alone sound call nodes handles works =
-    let t = shown_tree old.session.tree in
+    let t = visible_tree old.session.tree in
     let other = not_remount op alone in
     let a = answered old.session op reply new.session other sound.idle.works call.answers in
     let k = result_keeps t a.around old.session.files op (operation_refusal a.around (with_files t old.session.files) op) alone refl in
     let after : (effects.unless_refused (operation_refusal a.around (with_files t old.session.files) op) (with_files t old.session.files) (operation_effect a.around (with_files t old.session.files) op)).1 ≡ viewed_session new.session = ap (λ (z : Reply × Session). z.1) a.is in
     let tree = subst (λ (s : Session). KeepsFiles t s.tree) after k.tree in
     let files : new.session.files ≡ old.session.files = sym (ap (λ (s : Session). s.files) after) ∙ k.same_files in
-    let profile : new.session.tree.disk.profile ≡ old.session.tree.disk.profile = call.answers.geometry.profile ∙ ap (λ r. (cond r (ordered_disk new.session.tree.disk.order old.session.tree.disk) old.session.tree.disk).profile) other in
+    let profile : new.session.tree.disk.profile ≡ old.session.tree.disk.profile = call.answers.geometry.profile ∙ ap (λ r. (cond r (disk_with_order new.session.tree.disk.order old.session.tree.disk) old.session.tree.disk).profile) other in
     record {
-      idle = record { works = works; shows = refl; files = subst AreNoFiles (sym files) sound.idle.files };
+      idle = record { works = works; shows = refl; files = subst HasNoOpenFiles (sym files) sound.idle.files };
       nodes = λ j n e.
           let s = sound.nodes j n (ap (λ (ns : List (Option NodeView)). entry_at ns j) (sym nodes) ∙ e) in
-          node_carried old.session new.session n (stored_kept t (shown_tree new.session.tree) tree n.path s.leads) (leads_kept t (shown_tree new.session.tree) tree) profile s;
+          node_carried old.session new.session n (stored_kept t (visible_tree new.session.tree) tree n.path s.leads) (leads_kept t (visible_tree new.session.tree) tree) profile s;
       named = λ j h e. subst (λ (ns : List (Option NodeView)). IsSome (entry_at ns h.node)) (sym nodes) (sound.named j h (ap (λ (hs : List (Option Handle)). entry_at hs j) (sym handles) ∙ e));
       apart = λ j l m n path p x y. sound.apart j l m n path p (ap (λ (ns : List (Option NodeView)). entry_at ns j) (sym nodes) ∙ x) (ap (λ (ns : List (Option NodeView)). entry_at ns l) (sym nodes) ∙ y);
     }
 
-pub performed_keeps : (old new : VolumeView) (op : Operation) (x : Result Reply Error) → is_alone op ≡ true → IsSound old → IsCall old.session op x new.session → new.nodes ≡ old.nodes → new.handles ≡ old.handles → IsSound new
+pub performed_keeps : (old new : VolumeView) (op : Operation) (x : Result Reply Error) → is_alone op ≡ true → IsSoundIfWorking old → IsCall old.session op x new.session → new.nodes ≡ old.nodes → new.handles ≡ old.handles → IsSoundIfWorking new
 performed_keeps old new op x alone sound call nodes handles =
     operation_keeps old new op x (not_remount op alone) call sound (λ s. performed_sound old new op x alone s call nodes handles)

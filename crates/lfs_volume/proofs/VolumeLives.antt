@@ -4,8 +4,8 @@ use Rattle.std.specs.Prelude.{◌⊎◌}
 use Rattle.std.proofs.lemmas.List.{append-nil, map-append}
 use Rattle.lfs_device.specs.declared.error.Error.{Error}
 use Rattle.lfs_lookup.specs.RefusalErrors as refusals
-use Rattle.lfs_tree.specs.TreeState.{shown_tree}
-use Rattle.lfs_model.specs.format.Disk.{Disk, ordered_disk}
+use Rattle.lfs_tree.specs.TreeState.{visible_tree}
+use Rattle.lfs_model.specs.format.Disk.{Disk, disk_with_order}
 use Rattle.lfs_model.specs.tree.Tree.{Tree}
 use Rattle.lfs_model.specs.session.Operations as ops
 use Rattle.lfs_model.specs.session.Operations.{Operation, Reply}
@@ -13,9 +13,9 @@ use Rattle.lfs_model.specs.session.Session.{DiskSummary, Session}
 use Rattle.lfs_model.specs.session.State.{HasFailed, Healthy, is_remount}
 use Rattle.lfs_model.specs.session.Effects.{operation_result}
 use Rattle.lfs_model.specs.session.Run.{HealthyHasDiskTree, SystemState}
-use Rattle.lfs_model.specs.crash.Lives.{Turn, IsLife, IsLifeOfRun, IsRunInTurns, all_answered, answered, failed, fails_last, is_last}
+use Rattle.lfs_model.specs.crash.Lives.{Turn, IsLife, IsLifeOfRun, IsRunInTurns, all_answered, answered, failed, only_last_may_fail, is_last}
 use Rattle.lfs_model.specs.crash.LifeHeadline.{LifeMatchesDisk}
-use Rattle.lfs_model.specs.crash.RepeatedPowerLoss.{LossInLife, LossInOperation, MeetsRunPremises}
+use Rattle.lfs_model.specs.crash.RepeatedPowerLoss.{LossInLife, LossInOperation, MeetsCrashSafetyPremises}
 use Rattle.lfs_model.proofs.JoinedLives.{lives_joined}
 use Rattle.lfs_model.proofs.LivedOn.{life_agrees, life_matches}
 use Rattle.lfs_model.proofs.LivesSurvived.{life_is_safe, life_survives}
@@ -23,13 +23,13 @@ use Rattle.lfs_model.proofs.RunTurns.{answered_last, none_inside}
 use Rattle.lfs_model.proofs.Surviving.{same_surroundings}
 use Rattle.lfs_fs.specs.CallEffects.{IsCall}
 use Rattle.lfs_fs.specs.SessionView.{SessionView, system_state, viewed_session}
-use Rattle.lfs_fs.specs.Turns.{IsSafeRun}
+use Rattle.lfs_fs.specs.Turns.{IsCrashSafeRun}
 use Rattle.lfs_fs.proofs.SessionTurns.{call_turn}
 use Rattle.lfs_volume.specs.Calls.{Call}
-use Rattle.lfs_volume.specs.SessionCalls.{AreQuietCalls, AreVolumeSteps, EndsInCall, FailsInCalls, IsAcceptedCall}
-use Rattle.lfs_volume.specs.Stops.{StopLeaves}
+use Rattle.lfs_volume.specs.SessionCalls.{AreTreePreservingCalls, MayChangeTreeOnce, EndsAtErrorOperation, FailsInCalls, IsAcceptedCall}
+use Rattle.lfs_volume.specs.Stops.{LossLeavesEitherTree}
 use Rattle.lfs_volume.specs.Volume.{VolumeView}
-use Rattle.lfs_volume.specs.VolumeCalls.{IsReplied, IsSessionPart, IsVolumeCall, IsWorkingCall}
+use Rattle.lfs_volume.specs.VolumeCalls.{IsVolumeReply, IsSessionCallSequence, IsVolumeCall, IsHealthyVolumeCall}
 use Rattle.lfs_volume.proofs.Steps.{IsAnswered, healthy_view, refusal_step, same_session}
 use Rattle.lfs_volume.proofs.Steps as definitions
 use Rattle.lfs_volume.proofs.Working.{no_remount}
@@ -48,40 +48,40 @@ answered_one old new op one = record { reply = one.reply; call = one.call; other
 -- the calls were answered one after another, and each left such a tree
 abbrev AreAnswered : (Tree → Type 0) → SessionView → List Operation → SessionView → Type 0
 AreAnswered P old [] new = old ≡ new
-AreAnswered P old (op ∷ operations) new = (next : SessionView) × (IsAnsweredCall old op next × (P (shown_tree next.tree) × AreAnswered P next operations new))
+AreAnswered P old (op ∷ operations) new = (next : SessionView) × (IsAnsweredCall old op next × (P (visible_tree next.tree) × AreAnswered P next operations new))
 
-quiet_answered : (P : Tree → Type 0) (old : SessionView) (operations : List Operation) (new : SessionView) → P (shown_tree old.tree) → AreQuietCalls old operations new → AreAnswered P old operations new
+quiet_answered : (P : Tree → Type 0) (old : SessionView) (operations : List Operation) (new : SessionView) → P (visible_tree old.tree) → AreTreePreservingCalls old operations new → AreAnswered P old operations new
 quiet_answered P old [] new p h = h
 quiet_answered P old (op ∷ operations) new p (next, (one, same, rest)) =
-    let q : P (shown_tree next.tree) = subst P (sym same) p in
+    let q : P (visible_tree next.tree) = subst P (sym same) p in
     (next, (answered_one old next op one, (q, quiet_answered P next operations new q rest)))
 
 answered_joined : (P : Tree → Type 0) (a : SessionView) (xs : List Operation) (b : SessionView) (ys : List Operation) (c : SessionView) → AreAnswered P a xs b → AreAnswered P b ys c → AreAnswered P a (xs ++ ys) c
 answered_joined P a [] b ys c h k = subst (λ z. AreAnswered P z ys c) (sym h) k
 answered_joined P a (op ∷ xs) b ys c (next, (one, (p, rest))) k = (next, (one, (p, answered_joined P next xs b ys c rest k)))
 
-quiet_tree : (old : SessionView) (operations : List Operation) (new : SessionView) → AreQuietCalls old operations new → shown_tree new.tree ≡ shown_tree old.tree
-quiet_tree old [] new h = ap (λ (z : SessionView). shown_tree z.tree) (sym h)
+quiet_tree : (old : SessionView) (operations : List Operation) (new : SessionView) → AreTreePreservingCalls old operations new → visible_tree new.tree ≡ visible_tree old.tree
+quiet_tree old [] new h = ap (λ (z : SessionView). visible_tree z.tree) (sym h)
 quiet_tree old (op ∷ operations) new (next, (one, same, rest)) = quiet_tree next operations new rest ∙ same
 
 abbrev IsEither : Tree → Tree → Tree → Type 0
 IsEither before after tree = (tree ≡ before) ⊎ (tree ≡ after)
 
-steps_answered_all : (old new : SessionView) (operations : List Operation) → AreVolumeSteps old operations new → AreAnswered (IsEither (shown_tree old.tree) (shown_tree new.tree)) old operations new
-steps_answered_all old new operations (inl quiet) = quiet_answered (IsEither (shown_tree old.tree) (shown_tree new.tree)) old operations new (inl refl) quiet
+steps_answered_all : (old new : SessionView) (operations : List Operation) → MayChangeTreeOnce old operations new → AreAnswered (IsEither (visible_tree old.tree) (visible_tree new.tree)) old operations new
+steps_answered_all old new operations (inl quiet) = quiet_answered (IsEither (visible_tree old.tree) (visible_tree new.tree)) old operations new (inl refl) quiet
 steps_answered_all old new operations (inr c) = subst (λ z. AreAnswered either old z new) (sym c.are) (answered_joined either old c.before c.first (c.change ∷ c.after) new (quiet_answered either old c.before c.first (inl refl) c.quiet) rest)
   where
     either : Tree → Type 0
-    either = IsEither (shown_tree old.tree) (shown_tree new.tree)
+    either = IsEither (visible_tree old.tree) (visible_tree new.tree)
 
-    changed : either (shown_tree c.second.tree)
+    changed : either (visible_tree c.second.tree)
     changed = inr (sym (quiet_tree c.second c.after new c.rest))
 
     rest : AreAnswered either c.first (c.change ∷ c.after) new
     rest = (c.second, (answered_one c.first c.second c.change c.changed, (changed, quiet_answered either c.second c.after new changed c.rest)))
 
 -- what the session did where it replied: it accepted all, or refused the last one
-part_answered : (old new : SessionView) (operations : List Operation) → IsSessionPart old operations new → (xs : List Operation) × AreAnswered (IsEither (shown_tree old.tree) (shown_tree new.tree)) old xs new
+part_answered : (old new : SessionView) (operations : List Operation) → IsSessionCallSequence old operations new → (xs : List Operation) × AreAnswered (IsEither (visible_tree old.tree) (visible_tree new.tree)) old xs new
 part_answered old new operations (inl steps) = (operations, steps_answered_all old new operations steps)
 part_answered old new operations (inr (e, (is, k))) = (
   k.before ++ k.next ∷ [],
@@ -89,7 +89,7 @@ part_answered old new operations (inr (e, (is, k))) = (
 )
   where
     either : Tree → Type 0
-    either = IsEither (shown_tree old.tree) (shown_tree new.tree)
+    either = IsEither (visible_tree old.tree) (visible_tree new.tree)
 
     one : IsAnsweredCall k.at k.next new
     one = record {
@@ -134,9 +134,9 @@ accepted_lived P old (op ∷ operations) new (next, (one, (p, rest))) =
     }
 
 abbrev EitherOf : SessionView → SessionView → Tree → Type 0
-EitherOf old new = IsEither (shown_tree old.tree) (shown_tree new.tree)
+EitherOf old new = IsEither (visible_tree old.tree) (visible_tree new.tree)
 
-steps_answered : (old new : SessionView) (operations : List Operation) (steps : AreVolumeSteps old operations new) →
+steps_answered : (old new : SessionView) (operations : List Operation) (steps : MayChangeTreeOnce old operations new) →
     let h = steps_answered_all old new operations steps in
     IsAnsweredLife (system_state old) (turns_of (EitherOf old new) old operations new h) operations (replies_of (EitherOf old new) old operations new h) (system_state new)
 steps_answered old new operations steps = accepted_lived (EitherOf old new) old operations new (steps_answered_all old new operations steps)
@@ -144,16 +144,16 @@ steps_answered old new operations steps = accepted_lived (EitherOf old new) old 
 life_of_run : (from : SystemState) (turns : List Turn) (operations : List Operation) (replies : List Reply) (to : SystemState) → IsAnsweredLife from turns operations replies to → IsLifeOfRun from operations replies to
 life_of_run from turns operations replies to r = record { turns = turns; lived = r.lived; did = r.did; replied = r.replied }
 
-pub steps_live : (old new : SessionView) (operations : List Operation) → AreVolumeSteps old operations new → (replies : List Reply) × IsLifeOfRun (system_state old) operations replies (system_state new)
+pub steps_live : (old new : SessionView) (operations : List Operation) → MayChangeTreeOnce old operations new → (replies : List Reply) × IsLifeOfRun (system_state old) operations replies (system_state new)
 steps_live old new operations steps = (_, life_of_run _ _ _ _ _ (steps_answered old new operations steps))
 
-pub steps_match : (from : SystemState) (turns : List Turn) (old new : SessionView) (operations : List Operation) → HealthyHasDiskTree from.disk from.state → IsLife from turns (system_state old) → AreVolumeSteps old operations new →
+pub steps_match : (from : SystemState) (turns : List Turn) (old new : SessionView) (operations : List Operation) → HealthyHasDiskTree from.disk from.state → IsLife from turns (system_state old) → MayChangeTreeOnce old operations new →
     (replies : List Reply) × ((life : IsLifeOfRun (system_state old) operations replies (system_state new)) × LifeMatchesDisk from (turns ++ life.turns) (system_state new))
 steps_match from turns old new operations known lived steps =
     let r = steps_live old new operations steps in
     (r.0, (r.1, life_matches from (turns ++ r.1.turns) (system_state new) known (lives_joined turns r.1.turns from (system_state old) (system_state new) lived r.1.lived)))
 
-pub steps_survive : (old new : SessionView) (operations : List Operation) → AreVolumeSteps old operations new → MeetsRunPremises (system_state old) (system_state new) → IsSafeRun (system_state old) operations (system_state new)
+pub steps_survive : (old new : SessionView) (operations : List Operation) → MayChangeTreeOnce old operations new → MeetsCrashSafetyPremises (system_state old) (system_state new) → IsCrashSafeRun (system_state old) operations (system_state new)
 steps_survive old new operations steps may =
     let turns = turns_of (EitherOf old new) old operations new (steps_answered_all old new operations steps) in
     let r = steps_answered old new operations steps in
@@ -169,17 +169,17 @@ both_true : (a b : Bool) → (a && b) ≡ true → (a ≡ true) × (b ≡ true)
 both_true true b e = (refl, e)
 both_true false b e = absurd (cc)
 
-ends_last : (turns : List Turn) (op : Operation) (to : SystemState) → all_answered turns ≡ true → fails_last (turns ++ failed op to ∷ []) ≡ true
+ends_last : (turns : List Turn) (op : Operation) (to : SystemState) → all_answered turns ≡ true → only_last_may_fail (turns ++ failed op to ∷ []) ≡ true
 ends_last [] op to all = refl
 ends_last (turn ∷ turns) op to all =
     let both = both_true _ _ all in
-    ap (λ b. (b || is_last (turns ++ failed op to ∷ [])) && fails_last (turns ++ failed op to ∷ [])) both.0 ∙ ends_last turns op to both.1
+    ap (λ b. (b || is_last (turns ++ failed op to ∷ [])) && only_last_may_fail (turns ++ failed op to ∷ [])) both.0 ∙ ends_last turns op to both.1
 
 never_all : (turns : List Turn) (op : Operation) (to : SystemState) → all_answered (turns ++ failed op to ∷ []) ≡ true → ⊥
 never_all [] op to all = absurd (cc)
 never_all (turn ∷ turns) op to all = never_all turns op to (both_true _ _ all).1
 
-pub steps_fail : (e : Error) (old new : SessionView) (operations : List Operation) → EndsInCall e old operations new → refusals.is_refusal e ≡ false → (turns : List Turn) × IsRunInTurns (system_state old) operations turns (system_state new)
+pub steps_fail : (e : Error) (old new : SessionView) (operations : List Operation) → EndsAtErrorOperation e old operations new → refusals.is_refusal e ≡ false → (turns : List Turn) × IsRunInTurns (system_state old) operations turns (system_state new)
 steps_fail e old new operations k is = (
   turns ++ failed k.next (system_state new) ∷ [],
   record {
@@ -236,11 +236,11 @@ in_call at op next one to left tree loss = go loss.either
 -- ---- a stop in several
 
 module _ (P : Tree → Type 0) (left : Disk) (tree : Tree) where
-  one_of : (at next : SessionView) → P (shown_tree at.tree) → P (shown_tree next.tree) → EitherOf at next tree → P tree
+  one_of : (at next : SessionView) → P (visible_tree at.tree) → P (visible_tree next.tree) → EitherOf at next tree → P tree
   one_of at next p q (inl e) = subst P (sym e) p
   one_of at next p q (inr e) = subst P (sym e) q
 
-  in_turn : (at : SystemState) (turns : List Turn) (old : SessionView) (operations : List Operation) (new : SessionView) → P (shown_tree old.tree) → (h : AreAnswered P old operations new) (cut : Turn) (others : List Turn)
+  in_turn : (at : SystemState) (turns : List Turn) (old : SessionView) (operations : List Operation) (new : SessionView) → P (visible_tree old.tree) → (h : AreAnswered P old operations new) (cut : Turn) (others : List Turn)
       → turns_of P old operations new h ≡ turns ++ cut ∷ others → IsLife (system_state old) turns at → LossInOperation at cut.op cut.to left tree → P tree
   in_turn at [] old [] new p h cut others are lived loss = absurd (cc)
   in_turn at (turn ∷ turns) old [] new p h cut others are lived loss = absurd (cc)
@@ -269,22 +269,22 @@ in_life : (old new : SessionView) (operations : List Operation) (h : AreAnswered
 in_life old new operations h left tree (inl loss) = in_turn (EitherOf old new) left tree loss.at loss.done old operations new (inl refl) h loss.cut loss.others loss.are loss.lived loss.loss
 in_life old new operations h left tree (inr loss) = inr (loss.is ∙ ap (λ (s : Session). s.tree) (viewed_if_healthy new loss.session loss.healthy))
 
-stop_in_answered : (old new : SessionView) (operations : List Operation) → AreAnswered (EitherOf old new) old operations new → StopLeaves old new
+stop_in_answered : (old new : SessionView) (operations : List Operation) → AreAnswered (EitherOf old new) old operations new → LossLeavesEitherTree old new
 stop_in_answered old new operations h may left stop =
     let turns = turns_of (EitherOf old new) old operations new h in
     let r = accepted_lived (EitherOf old new) old operations new h in
     let s = life_survives (system_state old) turns (system_state new) left r.lived (none_inside (system_state old) turns (answered_last turns r.all)) may stop in
-    record { order = s.order; tree = s.tree; is = in_life old new operations h (ordered_disk s.order left) s.tree s.cut; safe = s.safe }
+    record { order = s.order; tree = s.tree; is = in_life old new operations h (disk_with_order s.order left) s.tree s.cut; safe = s.safe }
 
-pub stop_leaves : (old new : SessionView) (operations : List Operation) → AreVolumeSteps old operations new → StopLeaves old new
+pub stop_leaves : (old new : SessionView) (operations : List Operation) → MayChangeTreeOnce old operations new → LossLeavesEitherTree old new
 stop_leaves old new operations steps = stop_in_answered old new operations (steps_answered_all old new operations steps)
 
 -- ---- a call of a volume
 
-pub stop_in_reply : (old new : VolumeView) (call : Call) (reply : Reply) → old.session.tree.failed ≡ false → IsVolumeCall old call (Ok reply) new → StopLeaves old.session new.session
+pub stop_in_reply : (old new : VolumeView) (call : Call) (reply : Reply) → old.session.tree.failed ≡ false → IsVolumeCall old call (Ok reply) new → LossLeavesEitherTree old.session new.session
 stop_in_reply old new call reply works is = go (is.works works)
   where
-    go : IsReplied old call reply new → StopLeaves old.session new.session
+    go : IsVolumeReply old call reply new → LossLeavesEitherTree old.session new.session
     go r = (let part = part_answered old.session new.session r.operations r.session_part in stop_in_answered old.session new.session part.0 part.1)
 
 answered_life : (old new : SessionView) (operations : List Operation) → AreAnswered (EitherOf old new) old operations new → (turns : List Turn) × IsLife (system_state old) turns (system_state new)
@@ -294,7 +294,7 @@ answered_life old new operations h = (turns_of (EitherOf old new) old operations
 failed_life : (e : Error) (old new : SessionView) → FailsInCalls e old new → (turns : List Turn) × IsLife (system_state old) turns (system_state new)
 failed_life e old new (not, (operations, k)) = (let r = steps_fail e old new operations k not in (r.0, r.1.lived))
 
-working_life : (old new : VolumeView) (call : Call) (r : Result Reply Error) → IsWorkingCall old call r new → (turns : List Turn) × IsLife (system_state old.session) turns (system_state new.session)
+working_life : (old new : VolumeView) (call : Call) (r : Result Reply Error) → IsHealthyVolumeCall old call r new → (turns : List Turn) × IsLife (system_state old.session) turns (system_state new.session)
 working_life old new call (Ok reply) r = (let part = part_answered old.session new.session r.operations r.session_part in answered_life old.session new.session part.0 part.1)
 working_life old new call (Err e) (inl (none, wants)) = answered_life old.session new.session wants.operations (quiet_answered (EitherOf old.session new.session) old.session wants.operations new.session (inl refl) wants.calls)
 working_life old new call (Err e) (inr fails) = failed_life e old.session new.session fails

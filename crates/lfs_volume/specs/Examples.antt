@@ -15,9 +15,9 @@ abbrev pub replies_from : DiskSummary → Volume → List Call → List Reply
 replies_from around v [] = []
 replies_from around v (call ∷ calls) = (call_result around v call).0 ∷ replies_from around (call_result around v call).1 calls
 
-abbrev pub volume_from : DiskSummary → Volume → List Call → Volume
-volume_from around v [] = v
-volume_from around v (call ∷ calls) = volume_from around (call_result around v call).1 calls
+abbrev pub volume_after_calls : DiskSummary → Volume → List Call → Volume
+volume_after_calls around v [] = v
+volume_after_calls around v (call ∷ calls) = volume_after_calls around (call_result around v call).1 calls
 
 -- the replies on a disk of `block_count` blocks of 128 bytes, of which two are used
 abbrev pub volume_replies : ℕ → List Call → List Reply
@@ -28,8 +28,8 @@ abbrev pub new_flags : FlagsOfOpen
 new_flags = record creating_flags { read = true }
 
 abbrev pub volume_after : ℕ → List Call → Volume
-volume_after block_count calls = volume_from (writable_summary 128 16 block_count 2) fresh_volume calls
+volume_after block_count calls = volume_after_calls (writable_summary 128 16 block_count 2) fresh_volume calls
 
 -- a file of four bytes that is open for reading and writing
-abbrev pub one_open_file : Volume
-one_open_file = record { tree = empty_tree; nodes = Some (opened_node (codes "/a") 4) ∷ []; handles = Some (record { node = 0; position = 0; reads = true; writes = true; appends = false }) ∷ [] }
+abbrev pub volume_with_open_file : Volume
+volume_with_open_file = record { tree = empty_tree; nodes = Some (opened_node (codes "/a") 4) ∷ []; handles = Some (record { node = 0; position = 0; reads = true; writes = true; appends = false }) ∷ [] }

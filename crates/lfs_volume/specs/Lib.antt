@@ -1,6 +1,6 @@
 pub mod Calls
 pub mod Examples
-pub mod Hulls
+pub mod DirtyRanges
 pub mod Nodes
 pub mod Opened
 pub mod Saves

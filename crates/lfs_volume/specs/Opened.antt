@@ -7,28 +7,28 @@ use Rattle.lfs_model.specs.tree.View.{IsAccepted}
 use Rattle.lfs_model.specs.tree.Shown.{used_blocks}
 use Rattle.lfs_model.specs.session.Operations.{FlagsOfOpen, parse_path}
 use Rattle.lfs_model.specs.session.Refusals.{path_or_root}
-use Rattle.lfs_model.specs.session.Session.{OpenFile, OpenFilesByNumber, Session, list_block_count, parents_refusal}
+use Rattle.lfs_model.specs.session.Session.{OpenFile, OpenFilesByNumber, Session, file_block_count, parents_refusal}
 use Rattle.lfs_model.specs.session.TreeEdits.{is_file}
-use Rattle.lfs_tree.specs.TreeState.{shown_tree}
+use Rattle.lfs_tree.specs.TreeState.{visible_tree}
 use Rattle.lfs_fs.specs.SessionView.{SessionView, viewed_session}
 
 -- no file is open in the session: none was, or the one that was is closed
-abbrev pub AreNoFiles : OpenFilesByNumber → Type 0
-AreNoFiles files = (files ≡ []) ⊎ (files ≡ None ∷ [])
+abbrev pub HasNoOpenFiles : OpenFilesByNumber → Type 0
+HasNoOpenFiles files = (files ≡ []) ⊎ (files ≡ None ∷ [])
 
 -- The session works, has this tree, and no file is open in it.
-pub record IsIdle (h : SessionView) (tree : Tree) : Type 0 where
+pub record IsIdleSession (h : SessionView) (tree : Tree) : Type 0 where
   pub works : h.tree.failed ≡ false
-  pub shows : shown_tree h.tree ≡ tree
-  pub files : AreNoFiles h.files
+  pub shows : visible_tree h.tree ≡ tree
+  pub files : HasNoOpenFiles h.files
 
-abbrev pub one_file : Tree → OpenFile → Session
-one_file tree file = record { tree = tree; files = Some file ∷ [] }
+abbrev pub session_with_file : Tree → OpenFile → Session
+session_with_file tree file = record { tree = tree; files = Some file ∷ [] }
 
 -- The session works, has this tree, and one file is open in it, with the number 0.
-pub record HasOneFile (h : SessionView) (tree : Tree) (file : OpenFile) : Type 0 where
+pub record HasOneOpenFile (h : SessionView) (tree : Tree) (file : OpenFile) : Type 0 where
   pub works : h.tree.failed ≡ false
-  pub is : viewed_session h ≡ one_file tree file
+  pub is : viewed_session h ≡ session_with_file tree file
 
 -- the flags with which the volume opens a file in the session
 abbrev pub reading_flags : FlagsOfOpen
@@ -46,12 +46,12 @@ pub record LeadsToFile (tree : Tree) (path : List ℕ) : Type 0 where
 -- ---- room
 
 -- the free blocks that a save of a file of `size` bytes needs: two, and those of its list, as for a writer that isn't turned
-abbrev pub saving_need : Disk → ℕ → ℕ
-saving_need disk size = 2 + list_block_count disk.profile disk.block_size size
+abbrev pub blocks_for_save : Disk → ℕ → ℕ
+blocks_for_save disk size = 2 + file_block_count disk.profile disk.block_size size
 
 -- at least `need` blocks of the disk aren't used
 abbrev pub HasRoom : SessionView → ℕ → Type 0
 HasRoom h need = (ps : List Pair) → IsAccepted h.tree.disk ps → length (used_blocks h.tree.disk ps) + need ≤ block_count h.tree.disk
 
-abbrev pub LacksRoom : SessionView → ℕ → Type 0
-LacksRoom h need = (ps : List Pair) → IsAccepted h.tree.disk ps → length (used_blocks h.tree.disk ps) + need ≤ block_count h.tree.disk → ⊥
+abbrev pub LacksFreeBlocks : SessionView → ℕ → Type 0
+LacksFreeBlocks h need = (ps : List Pair) → IsAccepted h.tree.disk ps → length (used_blocks h.tree.disk ps) + need ≤ block_count h.tree.disk → ⊥

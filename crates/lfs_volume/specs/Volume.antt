@@ -6,11 +6,11 @@ use Rattle.lfs_model.specs.session.TreeEdits.{file_bytes}
 use Rattle.lfs_model.specs.session.Refusals.{path_or_root}
 use Rattle.lfs_model.specs.session.Session.{Session}
 use Rattle.lfs_model.specs.session.Writers.{written_contents, zero_padded}
-use Rattle.lfs_tree.specs.TreeState.{shown_tree}
+use Rattle.lfs_tree.specs.TreeState.{visible_tree}
 use Rattle.lfs_fs.specs.SessionView.{SessionView}
-use Rattle.lfs_volume.specs.declared.hull.Hull.{Hull}
+use Rattle.lfs_volume.specs.declared.dirty_range.DirtyRange.{DirtyRange}
 use Rattle.lfs_volume.specs.declared.handles.Handle.{Handle}
-use Rattle.lfs_volume.specs.Hulls.{hull_with, resized_hull}
+use Rattle.lfs_volume.specs.DirtyRanges.{extend_dirty_range, resize_dirty_range}
 
 -- An open file. All handles on it see the same bytes.
 pub record NodeView : Type 0 where
@@ -21,7 +21,7 @@ pub record NodeView : Type 0 where
   -- None until bytes are read or written; the bytes are those of the tree then
   pub contents : Option (List ℕ)
   -- the range in which the contents may differ from the stored ones, if any
-  pub hull : Option Hull
+  pub dirty_range : Option DirtyRange
 
 -- what contracts see of a volume
 pub record VolumeView : Type 0 where
@@ -36,7 +36,7 @@ pub record Volume : Type 0 where
   pub handles : List (Option Handle)
 
 abbrev pub volume_of : VolumeView → Volume
-volume_of v = record { tree = shown_tree v.session.tree; nodes = v.nodes; handles = v.handles }
+volume_of v = record { tree = visible_tree v.session.tree; nodes = v.nodes; handles = v.handles }
 
 -- the session at the beginning of each call of a volume: no file is open in it
 abbrev pub idle_session : Tree → Session
@@ -57,7 +57,7 @@ node_bytes tree n = unwrap_or n.contents (stored_bytes tree n.path)
 
 -- a node that was opened just now
 abbrev pub opened_node : List ℕ → ℕ → NodeView
-opened_node path size = record { path = Some path; size = size; contents = None; hull = None }
+opened_node path size = record { path = Some path; size = size; contents = None; dirty_range = None }
 
 abbrev pub loaded_node : List ℕ → NodeView → NodeView
 loaded_node bytes n = record n { contents = Some bytes }
@@ -68,27 +68,27 @@ written_node at [] old n = n
 written_node at (b ∷ bytes) old n = record n {
   size = max n.size (at + length (b ∷ bytes));
   contents = Some (written_contents old at (b ∷ bytes));
-  hull = Some (hull_with n.hull (min at n.size) (at + length (b ∷ bytes)));
+  dirty_range = Some (extend_dirty_range n.dirty_range (min at n.size) (at + length (b ∷ bytes)));
 }
 
 -- the node after its file was resized
 abbrev pub resized_node : ℕ → List ℕ → NodeView → NodeView
 resized_node size old n =
     if size == n.size then n
-    else record n { size = size; contents = Some (take size (zero_padded size old)); hull = Some (resized_hull n.hull n.size size) }
+    else record n { size = size; contents = Some (take size (zero_padded size old)); dirty_range = Some (resize_dirty_range n.dirty_range n.size size) }
 
 -- the node after its contents were stored
 abbrev pub synced_node : NodeView → NodeView
-synced_node n = record n { hull = None }
+synced_node n = record n { dirty_range = None }
 
 -- the node after its file was removed or replaced
 abbrev pub unlinked_node : NodeView → NodeView
-unlinked_node n = record n { path = None; hull = None }
+unlinked_node n = record n { path = None; dirty_range = None }
 
 -- ---- a handle
 
 abbrev pub with_position : ℕ → Handle → Handle
 with_position position h = record h { position = position }
 
-abbrev pub write_place : Handle → NodeView → ℕ
-write_place h n = if h.appends then n.size else h.position
+abbrev pub write_offset : Handle → NodeView → ℕ
+write_offset h n = if h.appends then n.size else h.position

@@ -45,13 +45,13 @@ pub(crate) fn write_bytes(contents: &mut Vec<u8>, at: usize, bytes: &[u8]) -> Re
 pub(crate) fn bytes_from(contents: &[u8], at: usize, count: usize) -> &[u8]
     ensures { result.now ≡ take count (drop at contents.now) }
 {
-    let rest = bytes_behind(contents, at);
+    let rest = bytes_after(contents, at);
     &rest[..count.min(rest.len())]
 }
 
 // Returns the bytes of the contents from the offset `at`, or no bytes if the contents end before
 // it.
-pub(crate) fn bytes_behind(contents: &[u8], at: usize) -> &[u8]
+pub(crate) fn bytes_after(contents: &[u8], at: usize) -> &[u8]
     ensures { result.now ≡ drop at contents.now }
 {
     &contents[at.min(contents.len())..]

@@ -4,13 +4,13 @@ ghost use Rattle.std.specs.Prelude.{◌≡◌, ◌≢◌, ◌∷◌, ◌++◌, �
 ghost use Rattle.lfs_model.specs.session.Operations as ops;
 ghost use Rattle.lfs_model.specs.session.Operations.{BadFile, Exist, Failed, Invalid, NoEnt, NoSpace, NotEmpty, TooBig};
 ghost use Rattle.lfs_model.specs.examples.Sessions.{creating_flags, read_flags, write_flags};
-ghost use Rattle.lfs_tree.specs.TreeState.{shown_tree};
+ghost use Rattle.lfs_tree.specs.TreeState.{visible_tree};
 ghost use Rattle.lfs_fs.specs.SessionView.{SessionView};
 ghost use Rattle.lfs_volume.specs.declared.handles.Handle.{Handle};
-ghost use Rattle.lfs_volume.specs.declared.hull.Hull.{Hull};
-ghost use Rattle.lfs_volume.specs.Calls.{Call, Close, Open, Perform, Read, Seek, Size, Sync, Tell, Truncate, Write, may_want_memory, moved_path};
-ghost use Rattle.lfs_volume.specs.Examples.{fresh_volume, new_flags, one_open_file, volume_after, volume_replies};
-ghost use Rattle.lfs_volume.specs.Hulls.{DiffersInHull, DiffersWithin, hull_with, resized_hull};
+ghost use Rattle.lfs_volume.specs.declared.dirty_range.DirtyRange.{DirtyRange};
+ghost use Rattle.lfs_volume.specs.Calls.{Call, Close, Open, Perform, Read, Seek, Size, Sync, Tell, Truncate, Write, may_need_memory, renamed_path};
+ghost use Rattle.lfs_volume.specs.Examples.{fresh_volume, new_flags, volume_with_open_file, volume_after, volume_replies};
+ghost use Rattle.lfs_volume.specs.DirtyRanges.{DiffersInDirtyRange, DiffersOnlyWithinRange, extend_dirty_range, resize_dirty_range};
 ghost use Rattle.lfs_volume.specs.Opened.{LeadsToFile};
 ghost use Rattle.lfs_volume.specs.Volume.{VolumeView, loaded_node, opened_node, resized_node, stored_bytes, unlinked_node, written_node};
 ghost use Rattle.lfs_volume.specs.VolumeCalls.{IsSoundNode, IsSoundVolume, IsVolumeCall};
@@ -29,7 +29,7 @@ pub fn flags_of_volume_are_checked()
 
 /// Shows that an open returns the lowest free handle. A call with a handle that isn't open is
 /// refused, and so is a read or a write for which the handle wasn't opened.
-pub fn least_free_number_is_opened()
+pub fn open_returns_lowest_free_handle()
     ensures { volume_replies 16
         (Open (codes "/a") creating_flags ∷ Open (codes "/b") new_flags ∷ Open (codes "/a") read_flags ∷ Close 1
         ∷ Open (codes "/c") new_flags ∷ Open (codes "/d") new_flags ∷ Close 7 ∷ Read 0 1 ∷ Write 2 (codes "x") ∷ Tell 7 ∷ [])
@@ -60,7 +60,7 @@ pub fn positions_past_limit_are_refused()
 
 /// Shows that open files move with a directory that is renamed. A file doesn't move if its path
 /// only begins with the same characters.
-pub fn open_files_go_with_directory()
+pub fn renaming_directory_moves_open_files()
     ensures replies { volume_replies 16
         (Perform (ops.Mkdir (codes "/d")) ∷ Open (codes "/d/a") new_flags ∷ Open (codes "/dd") new_flags ∷ Write 0 (codes "moved")
         ∷ Write 1 (codes "stays") ∷ Perform (ops.Rename (codes "/d") (codes "/e")) ∷ Close 0 ∷ Close 1
@@ -68,10 +68,10 @@ pub fn open_files_go_with_directory()
         ∷ Perform (ops.Remove (codes "/e")) ∷ [])
         ≡ ops.Done ∷ ops.Opened 0 ∷ ops.Opened 1 ∷ ops.Count 5 ∷ ops.Count 5 ∷ ops.Done ∷ ops.Done ∷ ops.Done
         ∷ ops.Refused NoEnt ∷ ops.StatIs (Some 5) ∷ ops.StatIs (Some 5) ∷ ops.Refused NotEmpty ∷ [] }
-    ensures moves { moved_path (codes "/d") (codes "/e") (opened_node (codes "/d/a") 0) ≡ Some (codes "/e/a") }
-    ensures itself { moved_path (codes "/d") (codes "/e") (opened_node (codes "/d") 0) ≡ Some (codes "/e") }
-    ensures stays { moved_path (codes "/d") (codes "/e") (opened_node (codes "/dd") 0) ≡ None }
-    ensures removed { moved_path (codes "/d") (codes "/e") (unlinked_node (opened_node (codes "/d") 0)) ≡ None }
+    ensures moves { renamed_path (codes "/d") (codes "/e") (opened_node (codes "/d/a") 0) ≡ Some (codes "/e/a") }
+    ensures itself { renamed_path (codes "/d") (codes "/e") (opened_node (codes "/d") 0) ≡ Some (codes "/e") }
+    ensures stays { renamed_path (codes "/d") (codes "/e") (opened_node (codes "/dd") 0) ≡ None }
+    ensures removed { renamed_path (codes "/d") (codes "/e") (unlinked_node (opened_node (codes "/d") 0)) ≡ None }
 {}
 
 /// Shows that a file that was removed or replaced can still be read and written through its open
@@ -94,7 +94,7 @@ pub fn removed_file_stays_open()
 
 /// Shows that a sync needs two free blocks, and the blocks of a CTZ skip-list of the file's size.
 /// If the sync is refused, the bytes stay in memory until the file is closed, and are then lost.
-pub fn sync_without_room_is_refused()
+pub fn sync_without_free_blocks_is_refused()
     ensures full { volume_replies 6
         (Open (codes "/a") new_flags ∷ Write 0 (replicate 128 7) ∷ Write 0 (replicate 128 7) ∷ Sync 0 ∷ Write 0 (replicate 20 7) ∷ Sync 0
         ∷ Perform (ops.Stat (codes "/a")) ∷ Size 0 ∷ Close 0 ∷ Size 0 ∷ Perform (ops.Stat (codes "/a")) ∷ [])
@@ -105,36 +105,36 @@ pub fn sync_without_room_is_refused()
         ≡ ops.Opened 0 ∷ ops.Count 128 ∷ ops.Count 124 ∷ ops.Done ∷ ops.StatIs (Some 252) ∷ [] }
 {}
 
-/// Shows that bytes outside the hull never differ from the stored ones. The hull grows when bytes
+/// Shows that bytes outside the dirty range never differ from the stored ones. The dirty range grows when bytes
 /// are written or appended, and is truncated with the contents.
-pub fn changed_bytes_are_in_hull()
-    ensures first { hull_with None 3 5 ≡ record { from = 3; end = 5 } }
-    ensures grows { hull_with (Some (record { from = 3; end = 5 })) 7 9 ≡ record { from = 3; end = 9 } }
-    ensures longer { resized_hull (Some (record { from = 3; end = 5 })) 6 8 ≡ record { from = 3; end = 8 } }
-    ensures shorter { resized_hull (Some (record { from = 3; end = 5 })) 6 4 ≡ record { from = 3; end = 4 } }
-    ensures within { DiffersWithin (1 ∷ 2 ∷ 3 ∷ 4 ∷ []) (1 ∷ 2 ∷ 0 ∷ 4 ∷ []) (record { from = 2; end = 3 }) }
-    ensures behind { DiffersWithin (1 ∷ 2 ∷ 3 ∷ 4 ∷ []) (1 ∷ 2 ∷ 0 ∷ 5 ∷ []) (record { from = 2; end = 3 }) → ⊥ }
-    ensures same { DiffersInHull (1 ∷ 2 ∷ []) (1 ∷ 2 ∷ []) None }
-    ensures other { DiffersInHull (1 ∷ 2 ∷ []) (1 ∷ 3 ∷ []) None → ⊥ }
+pub fn changed_bytes_are_in_dirty_range()
+    ensures first { extend_dirty_range None 3 5 ≡ record { from = 3; end = 5 } }
+    ensures grows { extend_dirty_range (Some (record { from = 3; end = 5 })) 7 9 ≡ record { from = 3; end = 9 } }
+    ensures longer { resize_dirty_range (Some (record { from = 3; end = 5 })) 6 8 ≡ record { from = 3; end = 8 } }
+    ensures shorter { resize_dirty_range (Some (record { from = 3; end = 5 })) 6 4 ≡ record { from = 3; end = 4 } }
+    ensures within { DiffersOnlyWithinRange (1 ∷ 2 ∷ 3 ∷ 4 ∷ []) (1 ∷ 2 ∷ 0 ∷ 4 ∷ []) (record { from = 2; end = 3 }) }
+    ensures behind { DiffersOnlyWithinRange (1 ∷ 2 ∷ 3 ∷ 4 ∷ []) (1 ∷ 2 ∷ 0 ∷ 5 ∷ []) (record { from = 2; end = 3 }) → ⊥ }
+    ensures same { DiffersInDirtyRange (1 ∷ 2 ∷ []) (1 ∷ 2 ∷ []) None }
+    ensures other { DiffersInDirtyRange (1 ∷ 2 ∷ []) (1 ∷ 3 ∷ []) None → ⊥ }
 {}
 
 /// Shows the effects of writes, truncations and removals on an open file of four bytes.
 pub fn node_is_changed_in_memory()
-    ensures written { written_node 1 (codes "XY") (codes "abcd") (opened_node (codes "/a") 4) ≡ record { path = Some (codes "/a"); size = 4; contents = Some (codes "aXYd"); hull = Some (record { from = 1; end = 3 }) } }
-    ensures gap { written_node 5 (codes "X") (codes "abcd") (opened_node (codes "/a") 4) ≡ record { path = Some (codes "/a"); size = 6; contents = Some (codes "abcd" ++ 0 ∷ codes "X"); hull = Some (record { from = 4; end = 6 }) } }
-    ensures cut { resized_node 2 (codes "abcd") (opened_node (codes "/a") 4) ≡ record { path = Some (codes "/a"); size = 2; contents = Some (codes "ab"); hull = Some (record { from = 2; end = 2 }) } }
+    ensures written { written_node 1 (codes "XY") (codes "abcd") (opened_node (codes "/a") 4) ≡ record { path = Some (codes "/a"); size = 4; contents = Some (codes "aXYd"); dirty_range = Some (record { from = 1; end = 3 }) } }
+    ensures gap { written_node 5 (codes "X") (codes "abcd") (opened_node (codes "/a") 4) ≡ record { path = Some (codes "/a"); size = 6; contents = Some (codes "abcd" ++ 0 ∷ codes "X"); dirty_range = Some (record { from = 4; end = 6 }) } }
+    ensures cut { resized_node 2 (codes "abcd") (opened_node (codes "/a") 4) ≡ record { path = Some (codes "/a"); size = 2; contents = Some (codes "ab"); dirty_range = Some (record { from = 2; end = 2 }) } }
     ensures unchanged { resized_node 4 (codes "abcd") (opened_node (codes "/a") 4) ≡ opened_node (codes "/a") 4 }
-    ensures removed { unlinked_node (loaded_node (codes "abcd") (opened_node (codes "/a") 4)) ≡ record { path = None; size = 4; contents = Some (codes "abcd"); hull = None } }
+    ensures removed { unlinked_node (loaded_node (codes "abcd") (opened_node (codes "/a") 4)) ≡ record { path = None; size = 4; contents = Some (codes "abcd"); dirty_range = None } }
 {}
 
 /// Shows which calls may allocate memory for the volume itself, and which never do.
-pub fn calls_that_want_memory()
-    ensures open { may_want_memory fresh_volume (Open (codes "/a") read_flags) ≡ true }
-    ensures longer { may_want_memory one_open_file (Write 0 (codes "abcde")) ≡ true }
-    ensures within { may_want_memory one_open_file (Write 0 (codes "abcd")) ≡ false }
-    ensures cut { may_want_memory one_open_file (Truncate 0 3) ≡ false }
-    ensures sync { may_want_memory one_open_file (Sync 0) ≡ false }
-    ensures rename { may_want_memory one_open_file (Perform (ops.Rename (codes "/a") (codes "/b"))) ≡ true }
+pub fn growing_calls_may_need_memory()
+    ensures open { may_need_memory fresh_volume (Open (codes "/a") read_flags) ≡ true }
+    ensures longer { may_need_memory volume_with_open_file (Write 0 (codes "abcde")) ≡ true }
+    ensures within { may_need_memory volume_with_open_file (Write 0 (codes "abcd")) ≡ false }
+    ensures cut { may_need_memory volume_with_open_file (Truncate 0 3) ≡ false }
+    ensures sync { may_need_memory volume_with_open_file (Sync 0) ≡ false }
+    ensures rename { may_need_memory volume_with_open_file (Perform (ops.Rename (codes "/a") (codes "/b"))) ≡ true }
 {}
 
 /// Shows that a volume that has failed replies `Failed` to each call and changes nothing. A failed
@@ -146,17 +146,17 @@ pub fn failed_volume_changes_nothing()
 
 /// Shows that a volume without handles is sound if its session hasn't failed and has no open file.
 /// A volume isn't sound if a handle refers to no node. A node isn't sound if its bytes aren't in
-/// memory and it has a hull, or if its size isn't that of its file.
-pub fn volume_is_sound_or_not()
+/// memory and it has a dirty range, or if its size isn't that of its file.
+pub fn sound_handles_name_existing_nodes()
     ensures empty { (h : SessionView) → h.tree.failed ≡ false → h.files ≡ [] → IsSoundVolume (record { session = h; nodes = []; handles = [] }) }
     ensures handle { (h : SessionView) (g : Handle) → IsSoundVolume (record { session = h; nodes = []; handles = Some g ∷ [] }) → ⊥ }
-    ensures size { (h : SessionView) (path : List ℕ) (size : ℕ) → length (stored_bytes (shown_tree h.tree) (Some path)) ≢ size → IsSoundNode h (opened_node path size) → ⊥ }
-    ensures hull { (h : SessionView) (path : List ℕ) (size : ℕ) (hull : Hull) → IsSoundNode h (record (opened_node path size) { hull = Some hull }) → ⊥ }
+    ensures size { (h : SessionView) (path : List ℕ) (size : ℕ) → length (stored_bytes (visible_tree h.tree) (Some path)) ≢ size → IsSoundNode h (opened_node path size) → ⊥ }
+    ensures dirty_range { (h : SessionView) (path : List ℕ) (size : ℕ) (dirty_range : DirtyRange) → IsSoundNode h (record (opened_node path size) { dirty_range = Some dirty_range }) → ⊥ }
 {}
 
 /// Shows that the path of a file in the tree leads to a file, while the root's path and the path of
 /// a missing entry don't.
-pub fn path_leads_to_file_or_not()
+pub fn only_absolute_path_leads_to_file()
     ensures file { LeadsToFile (volume_after 16 (Open (codes "/a") new_flags ∷ [])).tree (codes "/a") }
     ensures none { LeadsToFile (volume_after 16 (Open (codes "/a") new_flags ∷ [])).tree (codes "/b") → ⊥ }
     ensures root { LeadsToFile (volume_after 16 (Open (codes "/a") new_flags ∷ [])).tree (codes "/") → ⊥ }

@@ -4,7 +4,7 @@ ghost use Rattle.std.specs.Prelude.{◌≡◌, ◌<◌, IfErr, IfOk, OnOk, is_no
 ghost use Rattle.std.specs.List.{position_or_len};
 ghost use Rattle.std.specs.Option.{option_map};
 ghost use Rattle.lfs_volume.specs.Volume.{entry_at, with_position};
-ghost use Rattle.lfs_volume.specs.Calls.{free_entry, named, names_node, new_handle, with_entry};
+ghost use Rattle.lfs_volume.specs.Calls.{free_entry_index, named, refers_to_node, new_handle, with_entry};
 ghost use Rattle.lfs_fs.specs.FlagsView.{flags_view};
 
 use bitflags::Flags;
@@ -46,7 +46,7 @@ pub(crate) fn handle_at(handles: &[Option<Handle>], handle: u32) -> Option<Handl
 }
 
 // Returns the lowest free index of a table, or the table's length if no index is free.
-pub(crate) fn free_entry<T>(entries: &[Option<T>]) -> usize
+pub(crate) fn free_entry_index<T>(entries: &[Option<T>]) -> usize
     ensures { result ≡ position_or_len is_none entries.now }
 {
     let mut number = 0;
@@ -74,10 +74,10 @@ pub(crate) fn reserve_entry<T>(entries: &mut Vec<Option<T>>) -> Result<(), Error
 // Returns the number for the next handle, which is the lowest free one. Returns `NoMemory` if this
 // number doesn't fit in a `u32`.
 pub(crate) fn free_number(handles: &[Option<Handle>]) -> Result<u32, Error>
-    ensures is { IfOk result (λ n. n ≡ free_entry handles.now) }
+    ensures is { IfOk result (λ n. n ≡ free_entry_index handles.now) }
     ensures none { IfErr result (λ e. e ≡ Error.NoMemory) }
 {
-    let number = free_entry(handles);
+    let number = free_entry_index(handles);
     if number > u32::MAX as usize {
         return Err(Error::NoMemory);
     }
@@ -97,7 +97,7 @@ pub(crate) fn put_entry<T: Drop>(entries: &mut Vec<Option<T>>, index: usize, ent
 }
 
 // Frees an index of a table.
-pub(crate) fn free_at<T: Drop>(entries: &mut Vec<Option<T>>, index: usize)
+pub(crate) fn free_entry_at<T: Drop>(entries: &mut Vec<Option<T>>, index: usize)
     ensures { entries.new.items ≡ slice_set entries.old.items index None }
 {
     if index < entries.len() {
@@ -110,15 +110,15 @@ pub(crate) fn is_named(handles: &[Option<Handle>], node: usize) -> bool
     ensures { result ≡ named handles.now node }
 {
     for entry in handles {
-        if names_node(entry, node) {
+        if refers_to_node(entry, node) {
             return true;
         }
     }
     false
 }
 
-fn names_node(entry: &Option<Handle>, node: usize) -> bool
-    ensures { result ≡ names_node node entry.now }
+fn refers_to_node(entry: &Option<Handle>, node: usize) -> bool
+    ensures { result ≡ refers_to_node node entry.now }
 {
     match entry {
         Some(handle) => handle.node == node,

@@ -5,10 +5,10 @@
 #![tactic(auto)]
 
 mod bytes;
+mod dirty_range;
 mod examples;
 mod flags;
 mod handles;
-mod hull;
 mod laws;
 mod loads;
 mod mounts;
@@ -18,15 +18,15 @@ mod saves;
 mod volume;
 
 pub use examples::{
-    calls_that_want_memory, changed_bytes_are_in_hull, failed_volume_changes_nothing,
-    flags_of_volume_are_checked, handles_share_one_contents, least_free_number_is_opened,
-    node_is_changed_in_memory, open_files_go_with_directory, path_leads_to_file_or_not,
-    positions_past_limit_are_refused, removed_file_stays_open, sync_without_room_is_refused,
-    volume_is_sound_or_not,
+    changed_bytes_are_in_dirty_range, failed_volume_changes_nothing, flags_of_volume_are_checked,
+    growing_calls_may_need_memory, handles_share_one_contents, node_is_changed_in_memory,
+    only_absolute_path_leads_to_file, open_returns_lowest_free_handle,
+    positions_past_limit_are_refused, removed_file_stays_open, renaming_directory_moves_open_files,
+    sound_handles_name_existing_nodes, sync_without_free_blocks_is_refused,
 };
 pub use flags::allows_volume_flags;
 pub use laws::{
-    replied_volume_works, stop_in_volume_call_leaves_either_tree, volume_calls_are_lives,
+    power_loss_leaves_old_or_new_tree, volume_call_is_session_calls, volume_works_after_each_reply,
 };
 pub use lfs_device::Error;
 pub use lfs_fs::{

@@ -2,13 +2,13 @@
 // during one of these calls.
 
 ghost use Rattle.std.specs.Prelude.{◌≡◌, ◌∷◌, [], IfErr, IfOk, IfSome, false, length};
-ghost use Rattle.lfs_tree.specs.TreeState.{shown_tree};
-ghost use Rattle.lfs_volume.specs.Opened.{IsIdle, LeadsToFile};
+ghost use Rattle.lfs_tree.specs.TreeState.{visible_tree};
+ghost use Rattle.lfs_volume.specs.Opened.{IsIdleSession, LeadsToFile};
 ghost use Rattle.lfs_model.specs.session.Operations as ops;
 ghost use Rattle.lfs_fs.specs.CallEffects.{IsCall};
 ghost use Rattle.lfs_fs.specs.FlagsView.{flags_view};
 ghost use Rattle.lfs_fs.specs.Replies.{reply_from};
-ghost use Rattle.lfs_volume.specs.Saves.{IsFileFound, IsIdleIfRefused, IsLoaded};
+ghost use Rattle.lfs_volume.specs.Saves.{OpensAndClosesFile, IsIdleIfRefused, IsLoaded};
 ghost use Rattle.lfs_volume.specs.SessionCalls.{FailsInCalls, error_result};
 
 use lfs_device::{BlockDevice, Error};
@@ -18,7 +18,7 @@ use std::mem;
 
 // Returns `count` bytes of memory from `spare`, or None if the capacity of `spare` is less than
 // `count` bytes, or so much more that too much memory would be wasted.
-fn spare_bytes(alloc: Global, spare: &mut Vec<u8>, count: usize) -> Option<Vec<u8>>
+fn take_spare_memory(alloc: Global, spare: &mut Vec<u8>, count: usize) -> Option<Vec<u8>>
     ensures { IfSome result (λ v. length v.items ≡ count) }
 {
     if spare.capacity() < count || spare.capacity() / 2 > count {
@@ -35,7 +35,7 @@ fn spare_bytes(alloc: Global, spare: &mut Vec<u8>, count: usize) -> Option<Vec<u
 // file ends earlier.
 //
 // Returns the same errors as the session's `read_into`.
-fn read_over<D: BlockDevice>(
+fn read_into_vec<D: BlockDevice>(
     session: &mut Session<D>,
     fd: u32,
     mut bytes: Vec<u8>,
@@ -59,8 +59,8 @@ fn read_bytes<D: BlockDevice>(
 ) -> Result<Vec<u8>, Error>
     ensures { IsCall session.old (ops.Read fd count) (reply_from (λ v. ops.Bytes v.items) result) session.new }
 {
-    match spare_bytes(alloc, spare, count as usize) {
-        Some(bytes) => read_over(session, fd, bytes),
+    match take_spare_memory(alloc, spare, count as usize) {
+        Some(bytes) => read_into_vec(session, fd, bytes),
         None => session.read(alloc, fd, count),
     }
 }
@@ -75,9 +75,9 @@ pub(crate) fn load<D: BlockDevice>(
     path: &[u8],
     spare: &mut Vec<u8>,
 ) -> Result<Vec<u8>, Error>
-    ensures loaded { IfOk result (λ v. IsIdle session.old (shown_tree session.old.tree) → IsLoaded session.old path.now v.items session.new) }
-    ensures refused { IfErr result (λ e. IsIdle session.old (shown_tree session.old.tree) → IsIdleIfRefused e session.old session.new) }
-    ensures failed { IfErr result (λ e. IsIdle session.old (shown_tree session.old.tree) → LeadsToFile (shown_tree session.old.tree) path.now → FailsInCalls e session.old session.new) }
+    ensures loaded { IfOk result (λ v. IsIdleSession session.old (visible_tree session.old.tree) → IsLoaded session.old path.now v.items session.new) }
+    ensures refused { IfErr result (λ e. IsIdleSession session.old (visible_tree session.old.tree) → IsIdleIfRefused e session.old session.new) }
+    ensures failed { IfErr result (λ e. IsIdleSession session.old (visible_tree session.old.tree) → LeadsToFile (visible_tree session.old.tree) path.now → FailsInCalls e session.old session.new) }
 {
     let fd = session.open(alloc, path, OpenFlags::READ)?;
     let size = session.size(fd)?;
@@ -96,8 +96,8 @@ pub(crate) fn find_file<D: BlockDevice>(
     path: &[u8],
     flags: OpenFlags,
 ) -> Result<u32, Error>
-    ensures found { IfOk result (λ size. IsIdle session.old (shown_tree session.old.tree) → (flags_view flags).truncate ≡ false → IsFileFound session.old path.now (flags_view flags) size session.new) }
-    ensures ended { IfErr result (λ e. IsIdle session.old (shown_tree session.old.tree) → (flags_view flags).truncate ≡ false → IsCall session.old (ops.Open path.now (flags_view flags)) (error_result e) session.new) }
+    ensures found { IfOk result (λ size. IsIdleSession session.old (visible_tree session.old.tree) → (flags_view flags).truncate ≡ false → OpensAndClosesFile session.old path.now (flags_view flags) size session.new) }
+    ensures ended { IfErr result (λ e. IsIdleSession session.old (visible_tree session.old.tree) → (flags_view flags).truncate ≡ false → IsCall session.old (ops.Open path.now (flags_view flags)) (error_result e) session.new) }
 {
     let fd = session.open(alloc, path, flags)?;
     let size = session.size(fd)?;

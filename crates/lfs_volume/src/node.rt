@@ -7,7 +7,7 @@ ghost use Rattle.lfs_model.specs.format.Names.{same_name};
 ghost use Rattle.lfs_volume.specs.Calls.{has_path};
 
 use crate::bytes::{resize_bytes, write_bytes};
-use crate::hull::{Hull, hull_with, resized_hull};
+use crate::dirty_range::{DirtyRange, extend_dirty_range, resize_dirty_range};
 use std::alloc::{AllocError, Global};
 use std::marker::Model;
 
@@ -25,19 +25,19 @@ pub struct Node {
     contents: Option<Vec<u8>>,
     // The range in which the contents may differ from the stored ones, or None if they are the
     // same.
-    hull: Option<Hull>,
+    dirty_range: Option<DirtyRange>,
 }
 
 impl Model for Node {
     ghost use Rattle.std.specs.Option.{option_map};
     ghost use Rattle.lfs_volume.specs.Volume.{NodeView};
-    ghost use Rattle.lfs_volume.specs.Nodes.{IsNode};
+    ghost use Rattle.lfs_volume.specs.Nodes.{HasNodeInvariant};
 
     ghost Value = { NodeView };
 
-    ghost view = { λ n. record { path = option_map (λ v. v.items) n.path; size = n.size; contents = option_map (λ v. v.items) n.contents; hull = n.hull } };
+    ghost view = { λ n. record { path = option_map (λ v. v.items) n.path; size = n.size; contents = option_map (λ v. v.items) n.contents; dirty_range = n.dirty_range } };
 
-    ghost invariant = { λ n. IsNode n.size (option_map (λ v. v.items) n.contents) n.hull };
+    ghost invariant = { λ n. HasNodeInvariant n.size (option_map (λ v. v.items) n.contents) n.dirty_range };
 }
 
 impl Node {
@@ -49,7 +49,7 @@ impl Node {
             path: Some(path),
             size,
             contents: None,
-            hull: None,
+            dirty_range: None,
         }
     }
 
@@ -91,12 +91,12 @@ impl Node {
     }
 
     // Returns the range in which the contents may differ from the stored ones.
-    pub(crate) fn hull(&self) -> Option<Hull>
-        ensures is { result ≡ self.now.hull }
+    pub(crate) fn dirty_range(&self) -> Option<DirtyRange>
+        ensures is { result ≡ self.now.dirty_range }
         ensures within { IfSome result (λ h. (h.from ≤ h.end) × (h.end ≤ self.now.size)) }
         ensures loaded { IfSome result (λ _. IsSome self.now.contents) }
     {
-        self.hull
+        self.dirty_range
     }
 
     // Returns whether the node's path is `path`.
@@ -110,7 +110,7 @@ impl Node {
     }
 
     // Stores the contents of the file in the node. Their length must be the node's size.
-    pub(crate) fn keep_contents(&mut self, contents: Vec<u8>)
+    pub(crate) fn set_contents(&mut self, contents: Vec<u8>)
         requires { length contents.items ≡ self.old.size }
         ensures { self.new ≡ loaded_node contents.items self.old }
     {
@@ -132,7 +132,7 @@ impl Node {
         }
         write_bytes(contents, at as usize, bytes)?;
         let end = at + bytes.len() as u32;
-        self.hull = Some(hull_with(self.hull, at.min(self.size), end));
+        self.dirty_range = Some(extend_dirty_range(self.dirty_range, at.min(self.size), end));
         self.size = self.size.max(end);
         Ok(())
     }
@@ -150,7 +150,7 @@ impl Node {
             return Ok(());
         }
         resize_bytes(contents, size as usize)?;
-        self.hull = Some(resized_hull(self.hull, self.size, size));
+        self.dirty_range = Some(resize_dirty_range(self.dirty_range, self.size, size));
         self.size = size;
         Ok(())
     }
@@ -161,16 +161,16 @@ impl Node {
     {
         if self.size > 0 {
             self.contents = Some(Vec::new(alloc));
-            self.hull = Some(resized_hull(self.hull, self.size, 0));
+            self.dirty_range = Some(resize_dirty_range(self.dirty_range, self.size, 0));
             self.size = 0;
         }
     }
 
     // Marks the contents as stored.
-    pub(crate) fn note_synced(&mut self)
+    pub(crate) fn mark_synced(&mut self)
         ensures { self.new ≡ synced_node self.old }
     {
-        self.hull = None;
+        self.dirty_range = None;
     }
 
     // Removes the node's path, but keeps the contents.
@@ -178,19 +178,19 @@ impl Node {
         ensures { self.new ≡ unlinked_node self.old }
     {
         self.path = None;
-        self.hull = None;
+        self.dirty_range = None;
     }
 
     // Drops the node. Moves the memory of its contents to `spare` if it is larger than the memory
     // in `spare`, but at most `SPARE_MAX` bytes.
-    pub(crate) fn leave_contents(self, spare: &mut Vec<u8>)
+    pub(crate) fn recycle_contents(self, spare: &mut Vec<u8>)
         ensures { vec_capacity spare.old ≤ vec_capacity spare.new }
     {
         let Node {
             path: _,
             size: _,
             contents,
-            hull: _,
+            dirty_range: _,
         } = self;
         if let Some(contents) = contents {
             if contents.capacity() > spare.capacity() && contents.capacity() <= SPARE_MAX {

@@ -3,15 +3,15 @@
 ghost use Rattle.std.specs.Prelude.{◌≡◌, ◌+◌, ◌<◌, ◌≤◌, ◌^◌, [], if◌then◌else◌, IfErr, IfOk, IfSome, OnErr, OnOk, List, ℕ, None, Some, drop, false, length, map, slice_set, take, unwrap_or, vec_capacity, vec_len};
 ghost use Rattle.std.specs.List.{position_or_len};
 ghost use Rattle.std.specs.Option.{option_and_then, option_map};
-ghost use Rattle.lfs_tree.specs.TreeState.{shown_tree};
-ghost use Rattle.lfs_volume.specs.Calls.{changed_at, has_path, is_at_or_beneath, moved_path, named, node_of_path, opened_nodes, with_path, with_paths, without_path};
-ghost use Rattle.lfs_volume.specs.Opened.{IsIdle};
+ghost use Rattle.lfs_tree.specs.TreeState.{visible_tree};
+ghost use Rattle.lfs_volume.specs.Calls.{nodes_with_change_at, has_path, is_at_or_beneath, renamed_path, named, node_index_for_path, nodes_after_open, with_path, nodes_with_paths, nodes_without_path};
+ghost use Rattle.lfs_volume.specs.Opened.{IsIdleSession};
 ghost use Rattle.lfs_volume.specs.SessionCalls.{FailsInCalls};
-ghost use Rattle.lfs_volume.specs.Volume.{NodeView, entry_at, resized_node, write_place, written_node};
-ghost use Rattle.lfs_volume.specs.VolumeCalls.{AreStoredBytes, EndsNodeSync, EndsSyncAt, IsLoadedAt, IsNodeLoaded, IsNodeSynced, IsSoundAt, IsSoundNode, IsSyncedAt};
+ghost use Rattle.lfs_volume.specs.Volume.{NodeView, entry_at, resized_node, write_offset, written_node};
+ghost use Rattle.lfs_volume.specs.VolumeCalls.{AreStoredBytes, FailsNodeSync, FailsSyncAt, IsLoadedAt, IsNodeLoaded, IsNodeSynced, IsSoundAt, IsSoundNode, IsSyncedAt};
 
-use crate::bytes::{bytes_behind, bytes_from, copy_of};
-use crate::handles::{Handle, free_entry, is_named, put_entry};
+use crate::bytes::{bytes_after, bytes_from, copy_of};
+use crate::handles::{Handle, free_entry_index, is_named, put_entry};
 use crate::loads::load;
 use crate::node::Node;
 use crate::saves::save;
@@ -20,7 +20,7 @@ use lfs_fs::Session;
 use std::alloc::{AllocError, Global};
 
 // Returns the index of the node with the path `path`, or the length of the table if there is none.
-pub(crate) fn node_with_path(nodes: &[Option<Node>], path: &[u8]) -> usize
+pub(crate) fn find_node_index(nodes: &[Option<Node>], path: &[u8]) -> usize
     ensures { result ≡ position_or_len (has_path path.now) nodes.now }
 {
     let mut number = 0;
@@ -51,8 +51,8 @@ fn stored_bytes<D: BlockDevice>(
     node: &Node,
     spare: &mut Vec<u8>,
 ) -> Result<Vec<u8>, Error>
-    ensures are { IfOk result (λ v. IsIdle session.old (shown_tree session.old.tree) → AreStoredBytes session.old node.now session.new v.items) }
-    ensures failed { IfErr result (λ e. IsIdle session.old (shown_tree session.old.tree) → IsSoundNode session.old node.now → FailsInCalls e session.old session.new) }
+    ensures are { IfOk result (λ v. IsIdleSession session.old (visible_tree session.old.tree) → AreStoredBytes session.old node.now session.new v.items) }
+    ensures failed { IfErr result (λ e. IsIdleSession session.old (visible_tree session.old.tree) → IsSoundNode session.old node.now → FailsInCalls e session.old session.new) }
 {
     match node.path() {
         Some(path) => {
@@ -73,8 +73,8 @@ pub(crate) fn load_node<D: BlockDevice>(
     node: &mut Node,
     spare: &mut Vec<u8>,
 ) -> Result<(), Error>
-    ensures loaded { IfOk result (λ _. IsIdle session.old (shown_tree session.old.tree) → IsSoundNode session.old node.old → IsNodeLoaded session.old node.old session.new node.new) }
-    ensures failed { IfErr result (λ e. IsIdle session.old (shown_tree session.old.tree) → IsSoundNode session.old node.old → FailsInCalls e session.old session.new) }
+    ensures loaded { IfOk result (λ _. IsIdleSession session.old (visible_tree session.old.tree) → IsSoundNode session.old node.old → IsNodeLoaded session.old node.old session.new node.new) }
+    ensures failed { IfErr result (λ e. IsIdleSession session.old (visible_tree session.old.tree) → IsSoundNode session.old node.old → FailsInCalls e session.old session.new) }
 {
     if node.is_loaded() {
         return Ok(());
@@ -83,7 +83,7 @@ pub(crate) fn load_node<D: BlockDevice>(
     if bytes.len() != node.size() as usize {
         return Err(Error::Corrupt);
     }
-    node.keep_contents(bytes);
+    node.set_contents(bytes);
     Ok(())
 }
 
@@ -95,11 +95,11 @@ pub(crate) fn sync_node<D: BlockDevice>(
     session: &mut Session<D>,
     node: &mut Node,
 ) -> Result<(), Error>
-    ensures synced { IfOk result (λ _. IsIdle session.old (shown_tree session.old.tree) → IsSoundNode session.old node.old → IsNodeSynced session.old node.old session.new node.new) }
-    ensures ended { IfErr result (λ e. IsIdle session.old (shown_tree session.old.tree) → IsSoundNode session.old node.old → EndsNodeSync e session.old node.old session.new) }
+    ensures synced { IfOk result (λ _. IsIdleSession session.old (visible_tree session.old.tree) → IsSoundNode session.old node.old → IsNodeSynced session.old node.old session.new node.new) }
+    ensures ended { IfErr result (λ e. IsIdleSession session.old (visible_tree session.old.tree) → IsSoundNode session.old node.old → FailsNodeSync e session.old node.old session.new) }
     ensures kept { OnErr result (node.new ≡ node.old) }
 {
-    let Some(hull) = node.hull() else {
+    let Some(dirty_range) = node.dirty_range() else {
         return Ok(());
     };
     let Some(path) = node.path() else {
@@ -108,21 +108,21 @@ pub(crate) fn sync_node<D: BlockDevice>(
     let Some(contents) = node.contents() else {
         return Ok(());
     };
-    save(alloc, session, path, contents, hull)?;
-    node.note_synced();
+    save(alloc, session, path, contents, dirty_range)?;
+    node.mark_synced();
     Ok(())
 }
 
 // Loads the bytes of the node with the index `number` into memory, if there is such a node.
-pub(crate) fn load_at<D: BlockDevice>(
+pub(crate) fn load_node_at<D: BlockDevice>(
     alloc: Global,
     session: &mut Session<D>,
     nodes: &mut Vec<Option<Node>>,
     number: usize,
     spare: &mut Vec<u8>,
 ) -> Result<(), Error>
-    ensures loaded { IfOk result (λ _. IsIdle session.old (shown_tree session.old.tree) → IsSoundAt session.old nodes.old.items number → IsLoadedAt session.old nodes.old.items number session.new nodes.new.items) }
-    ensures failed { IfErr result (λ e. IsIdle session.old (shown_tree session.old.tree) → IsSoundAt session.old nodes.old.items number → FailsInCalls e session.old session.new) }
+    ensures loaded { IfOk result (λ _. IsIdleSession session.old (visible_tree session.old.tree) → IsSoundAt session.old nodes.old.items number → IsLoadedAt session.old nodes.old.items number session.new nodes.new.items) }
+    ensures failed { IfErr result (λ e. IsIdleSession session.old (visible_tree session.old.tree) → IsSoundAt session.old nodes.old.items number → FailsInCalls e session.old session.new) }
 {
     if number >= nodes.len() {
         return Ok(());
@@ -137,14 +137,14 @@ pub(crate) fn load_at<D: BlockDevice>(
 }
 
 // Stores the changes of the node with the index `number`, if there is such a node.
-pub(crate) fn sync_at<D: BlockDevice>(
+pub(crate) fn sync_node_at<D: BlockDevice>(
     alloc: Global,
     session: &mut Session<D>,
     nodes: &mut Vec<Option<Node>>,
     number: usize,
 ) -> Result<(), Error>
-    ensures synced { IfOk result (λ _. IsIdle session.old (shown_tree session.old.tree) → IsSoundAt session.old nodes.old.items number → IsSyncedAt session.old nodes.old.items number session.new nodes.new.items) }
-    ensures ended { IfErr result (λ e. IsIdle session.old (shown_tree session.old.tree) → IsSoundAt session.old nodes.old.items number → EndsSyncAt e session.old nodes.old.items number session.new) }
+    ensures synced { IfOk result (λ _. IsIdleSession session.old (visible_tree session.old.tree) → IsSoundAt session.old nodes.old.items number → IsSyncedAt session.old nodes.old.items number session.new nodes.new.items) }
+    ensures ended { IfErr result (λ e. IsIdleSession session.old (visible_tree session.old.tree) → IsSoundAt session.old nodes.old.items number → FailsSyncAt e session.old nodes.old.items number session.new) }
     ensures kept { OnErr result (nodes.new.items ≡ nodes.old.items) }
 {
     if number >= nodes.len() {
@@ -182,8 +182,8 @@ pub(crate) fn bytes_of(node: &Node, at: u32, count: usize) -> &[u8]
 }
 
 // Returns the offset at which a handle's next write begins.
-pub(crate) fn write_place(found: Handle, node: &Node) -> u32
-    ensures { result ≡ write_place found node.now }
+pub(crate) fn write_offset(found: Handle, node: &Node) -> u32
+    ensures { result ≡ write_offset found node.now }
 {
     if found.appends {
         node.size()
@@ -204,7 +204,7 @@ fn take_node(nodes: &mut Vec<Option<Node>>, number: usize) -> Option<Node>
 
 // Removes the node with the index `number` from the table if no handle refers to it. May move the
 // memory of the node's contents to `spare`.
-pub(crate) fn drop_unnamed(
+pub(crate) fn drop_unreferenced_node(
     handles: &[Option<Handle>],
     nodes: &mut Vec<Option<Node>>,
     number: usize,
@@ -214,7 +214,7 @@ pub(crate) fn drop_unnamed(
 {
     if !is_named(handles, number) {
         if let Some(node) = take_node(nodes, number) {
-            node.leave_contents(spare);
+            node.recycle_contents(spare);
         }
     }
 }
@@ -268,7 +268,7 @@ pub(crate) fn resize_at(
 }
 
 // Makes the contents of the node with the index `number` empty.
-fn clear_at(alloc: Global, nodes: &mut Vec<Option<Node>>, number: usize)
+fn clear_node_at(alloc: Global, nodes: &mut Vec<Option<Node>>, number: usize)
     ensures { nodes.new.items ≡ slice_set nodes.old.items number (option_map (resized_node 0 []) (entry_at nodes.old.items number)) }
 {
     if number >= nodes.len() {
@@ -282,16 +282,16 @@ fn clear_at(alloc: Global, nodes: &mut Vec<Option<Node>>, number: usize)
 
 // Returns the index of the node with the path `path`. If there is none, adds a node with this size.
 // The table has memory for one more entry.
-fn open_path(nodes: &mut Vec<Option<Node>>, path: Vec<u8>, size: u32) -> usize
+fn find_or_add(nodes: &mut Vec<Option<Node>>, path: Vec<u8>, size: u32) -> usize
     requires { vec_len nodes.old < vec_capacity nodes.old }
-    ensures number { result ≡ node_of_path nodes.old.items path.items }
-    ensures nodes { nodes.new.items ≡ opened_nodes path.items size false nodes.old.items }
+    ensures number { result ≡ node_index_for_path nodes.old.items path.items }
+    ensures nodes { nodes.new.items ≡ nodes_after_open path.items size false nodes.old.items }
 {
-    let open = node_with_path(nodes, &path);
+    let open = find_node_index(nodes, &path);
     if open < nodes.len() {
         return open;
     }
-    let number = free_entry(nodes);
+    let number = free_entry_index(nodes);
     put_entry(nodes, number, Node::opened(path, size));
     number
 }
@@ -306,22 +306,22 @@ pub(crate) fn open_node(
     truncates: bool,
 ) -> usize
     requires { vec_len nodes.old < vec_capacity nodes.old }
-    ensures number { result ≡ node_of_path nodes.old.items path.items }
-    ensures nodes { nodes.new.items ≡ opened_nodes path.items size truncates nodes.old.items }
+    ensures number { result ≡ node_index_for_path nodes.old.items path.items }
+    ensures nodes { nodes.new.items ≡ nodes_after_open path.items size truncates nodes.old.items }
 {
-    let number = open_path(nodes, path, size);
+    let number = find_or_add(nodes, path, size);
     if !truncates {
         return number;
     }
-    clear_at(alloc, nodes, number);
+    clear_node_at(alloc, nodes, number);
     number
 }
 
 // Removes the path from the node that has it, if there is one.
 pub(crate) fn unlink_path(nodes: &mut Vec<Option<Node>>, path: &[u8])
-    ensures { nodes.new.items ≡ without_path path.now nodes.old.items }
+    ensures { nodes.new.items ≡ nodes_without_path path.now nodes.old.items }
 {
-    let number = node_with_path(nodes, path);
+    let number = find_node_index(nodes, path);
     if number >= nodes.len() {
         return;
     }
@@ -335,17 +335,17 @@ fn is_at_or_beneath(old: &[u8], path: &[u8]) -> bool
     ensures { result ≡ is_at_or_beneath old.now path.now }
 {
     path.starts_with(old)
-        && (path.len() == old.len() || bytes_behind(path, old.len()).starts_with(b"/"))
+        && (path.len() == old.len() || bytes_after(path, old.len()).starts_with(b"/"))
 }
 
 // Returns the new path of a node after a rename, or None if the rename doesn't move the node.
-fn moved_path(
+fn renamed_path(
     alloc: Global,
     entry: &Option<Node>,
     from: &[u8],
     to: &[u8],
 ) -> Result<Option<Vec<u8>>, AllocError>
-    ensures { IfOk result (λ o. option_map (λ p. p.items) o ≡ option_and_then (moved_path from.now to.now) entry.now) }
+    ensures { IfOk result (λ o. option_map (λ p. p.items) o ≡ option_and_then (renamed_path from.now to.now) entry.now) }
 {
     let Some(node) = entry else {
         return Ok(None);
@@ -357,31 +357,31 @@ fn moved_path(
         return Ok(None);
     }
     let mut moved = copy_of(alloc, to)?;
-    moved.extend_from_slice(bytes_behind(path, from.len()))?;
+    moved.extend_from_slice(bytes_after(path, from.len()))?;
     Ok(Some(moved))
 }
 
 // Returns for each index the new path of its node after a rename, or None if the rename doesn't
 // move the node.
-pub(crate) fn moved_paths(
+pub(crate) fn renamed_paths(
     alloc: Global,
     nodes: &[Option<Node>],
     from: &[u8],
     to: &[u8],
 ) -> Result<Vec<Option<Vec<u8>>>, AllocError>
-    ensures { IfOk result (λ v. map (option_map (λ p. p.items)) v.items ≡ map (option_and_then (moved_path from.now to.now)) nodes.now) }
+    ensures { IfOk result (λ v. map (option_map (λ p. p.items)) v.items ≡ map (option_and_then (renamed_path from.now to.now)) nodes.now) }
 {
     let mut paths = Vec::new(alloc);
     for entry in nodes {
-        let path = moved_path(alloc, entry, from, to)?;
+        let path = renamed_path(alloc, entry, from, to)?;
         paths.push(path)?;
     }
     Ok(paths)
 }
 
 // Sets the path of the node with the index `number`, unless `path` is None.
-fn move_node(nodes: &mut Vec<Option<Node>>, number: usize, path: Option<Vec<u8>>)
-    ensures { nodes.new.items ≡ changed_at number (with_path (option_map (λ p. p.items) path)) nodes.old.items }
+fn set_renamed_path(nodes: &mut Vec<Option<Node>>, number: usize, path: Option<Vec<u8>>)
+    ensures { nodes.new.items ≡ nodes_with_change_at number (with_path (option_map (λ p. p.items) path)) nodes.old.items }
 {
     let Some(path) = path else {
         return;
@@ -395,10 +395,10 @@ fn move_node(nodes: &mut Vec<Option<Node>>, number: usize, path: Option<Vec<u8>>
 }
 
 // Sets the new path of each node that a rename moves.
-pub(crate) fn move_nodes(nodes: &mut Vec<Option<Node>>, mut paths: Vec<Option<Vec<u8>>>)
-    ensures { nodes.new.items ≡ with_paths (map (option_map (λ p. p.items)) paths.items) nodes.old.items }
+pub(crate) fn set_renamed_paths(nodes: &mut Vec<Option<Node>>, mut paths: Vec<Option<Vec<u8>>>)
+    ensures { nodes.new.items ≡ nodes_with_paths (map (option_map (λ p. p.items)) paths.items) nodes.old.items }
 {
     while let Some(path) = paths.pop() {
-        move_node(nodes, paths.len(), path);
+        set_renamed_path(nodes, paths.len(), path);
     }
 }

@@ -1,9 +1,9 @@
 // A volume and its calls.
 
 ghost use Rattle.std.specs.Prelude.{◌≡◌, ◌↔◌, ◌+◌, ◌<◌, ◌≤◌, ◌^◌, ℕ, [], false, true, IfErr, IfOk, IsTrue, MatchResult, Ok, OnOk, Some, drop, length, map, take, unwrap_or};
-ghost use Rattle.lfs_model.specs.format.Disk.{ordered_disk, profile_file_max};
+ghost use Rattle.lfs_model.specs.format.Disk.{disk_with_order, profile_file_max};
 ghost use Rattle.lfs_model.specs.format.Names.{same_name};
-ghost use Rattle.lfs_model.specs.tree.Profile.{image_fields};
+ghost use Rattle.lfs_model.specs.tree.Profile.{image_superblock_fields};
 ghost use Rattle.lfs_model.specs.session.History.{read_count};
 ghost use Rattle.lfs_model.specs.session.Operations as ops;
 ghost use Rattle.lfs_tag.specs.FieldsView.{superblock_view};
@@ -11,24 +11,25 @@ ghost use Rattle.lfs_thread.specs.Kept.{disk_of_device};
 ghost use Rattle.lfs_fs.specs.FlagsView.{flags_view};
 ghost use Rattle.lfs_fs.specs.GstateView.{returned_gstate_reply};
 ghost use Rattle.lfs_fs.specs.ImageLimits.{FailedByRead, OnlyReadsSession};
-ghost use Rattle.lfs_fs.specs.ReadOnly.{IsReadOnlyReason, MayWrite};
+ghost use Rattle.lfs_fs.specs.ReadOnly.{IsReadOnlyReason, IsWritableSession};
 ghost use Rattle.lfs_fs.specs.Replies.{reply_from};
 ghost use Rattle.lfs_lookup.specs.Finds.{listed_item_view, stat_view};
 ghost use Rattle.lfs_volume.specs.Calls as calls;
 ghost use Rattle.lfs_volume.specs.SessionCalls.{error_result};
 ghost use Rattle.lfs_volume.specs.Volume.{NodeView, VolumeView, entry_at};
-ghost use Rattle.lfs_volume.specs.VolumeCalls.{FitsAt, HasSameTables, IsDropped, IsFoundHandle, IsReadyToRead, IsRemount, IsSessionCall, IsSoundVolume, IsTooLong, IsVolumeCall, IsWorking};
+ghost use Rattle.lfs_volume.specs.VolumeCalls.{IsAllowedWriteOffset, HasSameOpenFiles, IsHandleDropped, IsHandleLookup, IsReadyToRead, IsVolumeRemount, IsSessionCall, IsSoundVolume, WriteExceedsFileMax, IsVolumeCall, IsWorkingSession};
 
 use crate::bytes::{copied, copy_into};
 use crate::flags::{allows_volume_flags, session_flags, truncates};
 use crate::handles::{
-    Handle, free_at, free_number, handle_at, new_handle, put_entry, reserve_entry, set_position,
+    Handle, free_entry_at, free_number, handle_at, new_handle, put_entry, reserve_entry,
+    set_position,
 };
 use crate::loads::find_file;
 use crate::node::{Node, is_same_path};
 use crate::nodes::{
-    bytes_of, drop_unnamed, load_at, move_nodes, moved_paths, node_at, node_with_path, open_node,
-    resize_at, sync_at, unlink_path, write_at, write_place,
+    bytes_of, drop_unreferenced_node, find_node_index, load_node_at, node_at, open_node,
+    renamed_paths, resize_at, set_renamed_paths, sync_node_at, unlink_path, write_at, write_offset,
 };
 use lfs_device::{BlockDevice, Error};
 use lfs_fs::{Gstate, Item, NameOrder, OpenFlags, ProfileBreach, Session, Stat, Superblock};
@@ -58,19 +59,19 @@ pub struct Volume<D: BlockDevice> {
 
 impl<D: BlockDevice> Model for Volume<D> {
     ghost use Rattle.lfs_volume.specs.Volume.{VolumeView};
-    ghost use Rattle.lfs_volume.specs.VolumeCalls.{IsSound};
+    ghost use Rattle.lfs_volume.specs.VolumeCalls.{IsSoundIfWorking};
 
     ghost Value = { VolumeView };
 
     ghost view = { λ v. record { session = v.session; nodes = v.nodes.items; handles = v.handles.items } };
 
-    ghost invariant = { λ v. IsSound (record { session = v.session; nodes = v.nodes.items; handles = v.handles.items }) };
+    ghost invariant = { λ v. IsSoundIfWorking (record { session = v.session; nodes = v.nodes.items; handles = v.handles.items }) };
 }
 
 impl<D: BlockDevice> Volume<D> {
     // Returns `Failed` if the session has failed.
-    fn check_works(&self) -> Result<(), Error>
-        ensures works { OnOk result (IsWorking self.now.session) }
+    fn check_not_failed(&self) -> Result<(), Error>
+        ensures works { OnOk result (IsWorkingSession self.now.session) }
         ensures sound { OnOk result (IsSoundVolume self.now) }
         ensures failed { IfErr result (λ e. (e ≡ Error.Failed) × (self.now.session.tree.failed ≡ true)) }
     {
@@ -80,10 +81,10 @@ impl<D: BlockDevice> Volume<D> {
 
     // Returns the handle with the number `handle`. Returns `Failed` if the session has failed.
     fn find_handle(&self, handle: u32) -> Result<Handle, Error>
-        ensures found { IsFoundHandle self.now handle result }
+        ensures found { IsHandleLookup self.now handle result }
         ensures sound { OnOk result (IsSoundVolume self.now) }
     {
-        self.check_works()?;
+        self.check_not_failed()?;
         match handle_at(&self.handles, handle) {
             Some(found) => Ok(found),
             None => Err(Error::BadFile),
@@ -102,7 +103,7 @@ impl<D: BlockDevice> Volume<D> {
     pub fn open(&mut self, alloc: Global, path: &[u8], flags: OpenFlags) -> Result<u32, Error>
         ensures { IsVolumeCall self.old (calls.Open path.now (flags_view flags)) (reply_from ops.Opened result) self.new }
     {
-        self.check_works()?;
+        self.check_not_failed()?;
         if !allows_volume_flags(flags) {
             return Err(Error::Invalid);
         }
@@ -125,7 +126,7 @@ impl<D: BlockDevice> Volume<D> {
 
     // Returns the handle with the number `handle`, which must be open for reading. Loads the bytes
     // of its file into memory.
-    fn handle_to_read(&mut self, alloc: Global, handle: u32) -> Result<Handle, Error>
+    fn find_readable_handle(&mut self, alloc: Global, handle: u32) -> Result<Handle, Error>
         ensures found { IfOk result (λ h. IsReadyToRead self.old handle h self.new) }
         ensures ended { IfErr result (λ e. (count : ℕ) → IsVolumeCall self.old (calls.Read handle count) (error_result e) self.new) }
     {
@@ -133,7 +134,7 @@ impl<D: BlockDevice> Volume<D> {
         if !found.reads {
             return Err(Error::BadFile);
         }
-        load_at(
+        load_node_at(
             alloc,
             &mut self.session,
             &mut self.nodes,
@@ -164,7 +165,7 @@ impl<D: BlockDevice> Volume<D> {
     pub fn read(&mut self, alloc: Global, handle: u32, count: u32) -> Result<Vec<u8>, Error>
         ensures { IsVolumeCall self.old (calls.Read handle count) (reply_from (λ v. ops.Bytes v.items) result) self.new }
     {
-        let found = self.handle_to_read(alloc, handle)?;
+        let found = self.find_readable_handle(alloc, handle)?;
         let bytes = copied(alloc, self.bytes_at(found, count as usize))?;
         let position = found.position + bytes.len() as u32;
         set_position(&mut self.handles, handle, position);
@@ -183,7 +184,7 @@ impl<D: BlockDevice> Volume<D> {
         ensures rest { MatchResult result (λ n. (n ≤ length buf.old) × (drop n buf.new ≡ drop n buf.old)) (λ _. buf.new ≡ buf.old) }
         ensures ended { IfErr result (λ e. IsVolumeCall self.old (calls.Read handle (length buf.old)) (error_result e) self.new) }
     {
-        let found = self.handle_to_read(alloc, handle)?;
+        let found = self.find_readable_handle(alloc, handle)?;
         let bytes = self.bytes_at(found, buf.len());
         copy_into(buf, bytes);
         let count = bytes.len();
@@ -193,15 +194,15 @@ impl<D: BlockDevice> Volume<D> {
 
     // Returns the offset at which a handle would write `count` bytes. Returns `TooBig` if the
     // profile doesn't allow a file of the resulting size.
-    fn place_to_write(&self, found: Handle, count: usize) -> Result<u32, Error>
-        ensures fits { IfOk result (λ at. FitsAt self.now found count at) }
+    fn checked_write_offset(&self, found: Handle, count: usize) -> Result<u32, Error>
+        ensures fits { IfOk result (λ at. IsAllowedWriteOffset self.now found count at) }
         ensures small { IfOk result (λ at. at + count < 2 ^ 31) }
-        ensures long { IfErr result (λ e. (e ≡ Error.TooBig) × IsTooLong self.now found count) }
+        ensures long { IfErr result (λ e. (e ≡ Error.TooBig) × WriteExceedsFileMax self.now found count) }
     {
         let Some(node) = node_at(&self.nodes, found.node) else {
             return Err(Error::TooBig);
         };
-        let at = write_place(found, node);
+        let at = write_offset(found, node);
         let end = (at as usize).saturating_add(count);
         if end.max(node.size() as usize) > self.file_max() as usize {
             return Err(Error::TooBig);
@@ -228,8 +229,8 @@ impl<D: BlockDevice> Volume<D> {
         if bytes.len() == 0 {
             return Ok(0);
         }
-        let at = self.place_to_write(found, bytes.len())?;
-        load_at(
+        let at = self.checked_write_offset(found, bytes.len())?;
+        load_node_at(
             alloc,
             &mut self.session,
             &mut self.nodes,
@@ -303,7 +304,7 @@ impl<D: BlockDevice> Volume<D> {
         if size > self.file_max() {
             return Err(Error::TooBig);
         }
-        load_at(
+        load_node_at(
             alloc,
             &mut self.session,
             &mut self.nodes,
@@ -325,7 +326,7 @@ impl<D: BlockDevice> Volume<D> {
         ensures { IsVolumeCall self.old (calls.Sync handle) (reply_from (λ _. ops.Done) result) self.new }
     {
         let found = self.find_handle(handle)?;
-        sync_at(alloc, &mut self.session, &mut self.nodes, found.node)?;
+        sync_node_at(alloc, &mut self.session, &mut self.nodes, found.node)?;
         Ok(())
     }
 
@@ -339,7 +340,7 @@ impl<D: BlockDevice> Volume<D> {
         ensures { IsVolumeCall self.old (calls.Close handle) (reply_from (λ _. ops.Done) result) self.new }
     {
         let found = self.find_handle(handle)?;
-        match sync_at(alloc, &mut self.session, &mut self.nodes, found.node) {
+        match sync_node_at(alloc, &mut self.session, &mut self.nodes, found.node) {
             Ok(()) => {
                 self.drop_handle(handle, found);
                 Ok(())
@@ -353,10 +354,10 @@ impl<D: BlockDevice> Volume<D> {
 
     // Frees a handle's number, and drops the node if no other handle refers to it.
     fn drop_handle(&mut self, handle: u32, found: Handle)
-        ensures { IsDropped self.old handle found self.new }
+        ensures { IsHandleDropped self.old handle found self.new }
     {
-        free_at(&mut self.handles, handle as usize);
-        drop_unnamed(&self.handles, &mut self.nodes, found.node, &mut self.spare);
+        free_entry_at(&mut self.handles, handle as usize);
+        drop_unreferenced_node(&self.handles, &mut self.nodes, found.node, &mut self.spare);
     }
 
     /// Returns the kind of the entry at a path, and the size in bytes if the entry is a file. The
@@ -486,9 +487,9 @@ impl<D: BlockDevice> Volume<D> {
     pub fn remove(&mut self, alloc: Global, path: &[u8]) -> Result<(), Error>
         ensures { IsVolumeCall self.old (calls.Perform (ops.Remove path.now)) (reply_from (λ _. ops.Done) result) self.new }
     {
-        self.check_works()?;
-        let place = node_with_path(&self.nodes, path);
-        load_at(
+        self.check_not_failed()?;
+        let place = find_node_index(&self.nodes, path);
+        load_node_at(
             alloc,
             &mut self.session,
             &mut self.nodes,
@@ -520,19 +521,19 @@ impl<D: BlockDevice> Volume<D> {
         requires { same_name from.now to.now ≡ false }
         ensures { IsVolumeCall self.old (calls.Perform (ops.Rename from.now to.now)) (reply_from (λ _. ops.Done) result) self.new }
     {
-        self.check_works()?;
-        let place = node_with_path(&self.nodes, to);
-        load_at(
+        self.check_not_failed()?;
+        let place = find_node_index(&self.nodes, to);
+        load_node_at(
             alloc,
             &mut self.session,
             &mut self.nodes,
             place,
             &mut self.spare,
         )?;
-        let paths = moved_paths(alloc, &self.nodes, from, to)?;
+        let paths = renamed_paths(alloc, &self.nodes, from, to)?;
         self.session.rename(alloc, from, to)?;
         unlink_path(&mut self.nodes, to);
-        move_nodes(&mut self.nodes, paths);
+        set_renamed_paths(&mut self.nodes, paths);
         Ok(())
     }
 
@@ -543,7 +544,7 @@ impl<D: BlockDevice> Volume<D> {
     ///
     /// Returns the same errors as a session's `remount`.
     pub fn remount(&mut self, alloc: Global) -> Result<(), Error>
-        ensures { IsRemount self.old (reply_from (λ _. ops.Done) result) self.new }
+        ensures { IsVolumeRemount self.old (reply_from (λ _. ops.Done) result) self.new }
     {
         self.handles.clear();
         self.nodes.clear();
@@ -562,7 +563,7 @@ impl<D: BlockDevice> Volume<D> {
     /// image is in the writing profile. If files may be written, no call is refused as `ReadOnly`.
     /// Doesn't access the device.
     pub fn is_writable(&self) -> bool
-        ensures { IsTrue result ↔ MayWrite self.now.session }
+        ensures { IsTrue result ↔ IsWritableSession self.now.session }
     {
         self.session.is_writable()
     }
@@ -578,8 +579,8 @@ impl<D: BlockDevice> Volume<D> {
         ensures is { IfOk result (IsReadOnlyReason self.old.session) }
         ensures read { OnOk result (OnlyReadsSession self.old.session self.new.session) }
         ensures failed { IfErr result (FailedByRead self.old.session self.new.session) }
-        ensures silent { MayWrite self.old.session → self.new ≡ self.old }
-        ensures tables { HasSameTables self.old self.new }
+        ensures silent { IsWritableSession self.old.session → self.new ≡ self.old }
+        ensures tables { HasSameOpenFiles self.old self.new }
     {
         self.session.read_only_reason(alloc)
     }
@@ -601,18 +602,18 @@ impl<D: BlockDevice> Volume<D> {
     /// `Failed` if the volume has failed. `Io` if the read fails. `NoMemory` if memory can't be
     /// allocated. After `Io` or `NoMemory` the volume has failed.
     pub fn superblock(&mut self, alloc: Global) -> Result<Superblock, Error>
-        ensures is { IfOk result (λ f. image_fields self.old.session.tree.pairs ≡ Some (superblock_view f)) }
+        ensures is { IfOk result (λ f. image_superblock_fields self.old.session.tree.pairs ≡ Some (superblock_view f)) }
         ensures read { OnOk result (OnlyReadsSession self.old.session self.new.session) }
         ensures failed { IfErr result (FailedByRead self.old.session self.new.session) }
         ensures few { read_count self.new.session.tree.history ≤ read_count self.old.session.tree.history + 1 }
-        ensures tables { HasSameTables self.old self.new }
+        ensures tables { HasSameOpenFiles self.old self.new }
     {
         self.session.superblock(alloc)
     }
 
     /// Returns a reference to the device in the state that the last call left.
     pub fn device(&self) -> &D
-        ensures disk { ordered_disk self.now.session.tree.disk.order (disk_of_device D.BlockDevice result.now) ≡ self.now.session.tree.disk }
+        ensures disk { disk_with_order self.now.session.tree.disk.order (disk_of_device D.BlockDevice result.now) ≡ self.now.session.tree.disk }
         ensures history { D.history result.now ≡ self.now.session.tree.history }
     {
         self.session.device()
@@ -621,7 +622,7 @@ impl<D: BlockDevice> Volume<D> {
     /// Ends the volume and returns the device. Writes nothing, so changes that aren't synced are
     /// lost.
     pub fn unmount(self) -> D
-        ensures disk { ordered_disk self.session.tree.disk.order (disk_of_device D.BlockDevice result) ≡ self.session.tree.disk }
+        ensures disk { disk_with_order self.session.tree.disk.order (disk_of_device D.BlockDevice result) ≡ self.session.tree.disk }
         ensures history { D.history result ≡ self.session.tree.history }
     {
         self.session.unmount()

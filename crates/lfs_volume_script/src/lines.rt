@@ -2,7 +2,7 @@
 
 use lfs_device::CountedCalls;
 use lfs_model::NameOrder;
-use lfs_script_lines::{Command, LineError, LineObjection, read_line};
+use lfs_script_lines::{Command, LineError, LineRefusal, read_line};
 use std::alloc::Global;
 use std::str;
 
@@ -38,7 +38,7 @@ fn number_at(words: &[&[u8]], place: usize) -> Result<u32, LineError> {
     };
     match number {
         Some(number) => Ok(number),
-        None => Err(LineError::Refused(LineObjection::Word(
+        None => Err(LineError::Refused(LineRefusal::Word(
             place,
             "no decimal number up to 4294967295",
         ))),
@@ -56,7 +56,7 @@ fn kind_of_word(word: &[u8]) -> Result<CountedCalls, LineError> {
     } else if word == b"erase".as_slice() {
         Ok(CountedCalls::Erase)
     } else {
-        Err(LineError::Refused(LineObjection::Word(1, "no kind of calls (--help lists them)")))
+        Err(LineError::Refused(LineRefusal::Word(1, "no kind of calls (--help lists them)")))
     }
 }
 
@@ -87,15 +87,13 @@ fn checked_command(command: Command) -> Result<VolumeCommand, LineError> {
         | Command::Bytes { .. }
         | Command::Calls
         | Command::Compare(_)
-        | Command::CompareWith(_) => Err(LineError::Refused(LineObjection::Line(
+        | Command::CompareWith(_) => Err(LineError::Refused(LineRefusal::Line(
             "scripts of volumes have no such command",
         ))),
         Command::Fresh {
             order: NameOrder::ShorterFirst,
             ..
-        } => Err(LineError::Refused(LineObjection::Line(
-            "volumes are made with longer names first",
-        ))),
+        } => Err(LineError::Refused(LineRefusal::Line("volumes are made with longer names first"))),
         command => Ok(VolumeCommand::Command(command)),
     }
 }

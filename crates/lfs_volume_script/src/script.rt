@@ -37,7 +37,7 @@ fn device_with_fault(
         FaultExtent::Nothing => Ok(device),
         FaultExtent::FirstBytes(count) => Ok(device.torn(count)),
         FaultExtent::AllButFirst(count) => {
-            Ok(device.torn_erase(count, Vec::from_elem(alloc, 0u8, block_size)?))
+            Ok(device.with_torn_erase(count, Vec::from_elem(alloc, 0u8, block_size)?))
         }
         FaultExtent::Whole => Ok(device.whole()),
     }
@@ -173,7 +173,7 @@ impl<'a, R: Files + AllocGlobal> Script<'a, R> {
             Err(error) => return Answer::Error(error),
         };
         match RamDevice::blank(self.rt.alloc(), geometry) {
-            Ok(device) => self.format(device.with_erased(erased), NO_FAULT),
+            Ok(device) => self.format(device.with_erase_behavior(erased), NO_FAULT),
             Err(error) => Answer::Error(error),
         }
     }
@@ -186,7 +186,7 @@ impl<'a, R: Files + AllocGlobal> Script<'a, R> {
             return Answer::Input;
         };
         match device_of_bytes(bytes, block_size, page, self.profile) {
-            Ok(device) => self.mount(device.with_erased(erased), NO_FAULT),
+            Ok(device) => self.mount(device.with_erase_behavior(erased), NO_FAULT),
             Err(error) => Answer::Error(error),
         }
     }

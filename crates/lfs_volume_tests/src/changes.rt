@@ -3,8 +3,8 @@
 use crate::rows::Call::{
     Close, Open, Position, Read, Remount, Seek, Size, Stat, Sync, Truncate, Write,
 };
-use crate::rows::Want::{Bytes, Done, Number, Refused};
-use crate::rows::{Row, first_wrong_row_on_new};
+use crate::rows::ExpectedResult::{Bytes, Done, Number, Refused};
+use crate::rows::{Row, run_on_volume};
 use bitflags::Flags;
 use lfs_device::Error;
 use lfs_volume::OpenFlags;
@@ -31,7 +31,7 @@ fn handles_on_one_path_see_one_contents(rt: HostRuntime) -> Result<(), Fail> {
         (Read(1, 1), Refused(Error::BadFile)),
         (Close(0), Done),
     ];
-    assert_eq!(rt; first_wrong_row_on_new(rt.alloc(), 16, &rows)?, None);
+    assert_eq!(rt; run_on_volume(rt.alloc(), 16, &rows)?, None);
     Ok(())
 }
 
@@ -61,7 +61,7 @@ fn what_is_written_is_there_after_a_remount(rt: HostRuntime) -> Result<(), Fail>
         (Read(0, 99), Bytes(b"0123xy67\0\0\0\0z")),
         (Write(0, b"no"), Refused(Error::BadFile)),
     ];
-    assert_eq!(rt; first_wrong_row_on_new(rt.alloc(), 16, &rows)?, None);
+    assert_eq!(rt; run_on_volume(rt.alloc(), 16, &rows)?, None);
     Ok(())
 }
 
@@ -79,7 +79,7 @@ fn appending_handles_write_at_the_end(rt: HostRuntime) -> Result<(), Fail> {
         (Read(0, 99), Bytes(b"onetwothree")),
         (Read(1, 1), Refused(Error::BadFile)),
     ];
-    assert_eq!(rt; first_wrong_row_on_new(rt.alloc(), 16, &rows)?, None);
+    assert_eq!(rt; run_on_volume(rt.alloc(), 16, &rows)?, None);
     Ok(())
 }
 
@@ -104,7 +104,7 @@ fn flags_are_checked(rt: HostRuntime) -> Result<(), Fail> {
         (Open(b"/a", both | OpenFlags::TRUNCATE), Number(1)),
         (Size(0), Number(0)),
     ];
-    assert_eq!(rt; first_wrong_row_on_new(rt.alloc(), 16, &rows)?, None);
+    assert_eq!(rt; run_on_volume(rt.alloc(), 16, &rows)?, None);
     Ok(())
 }
 
@@ -130,6 +130,6 @@ fn positions_sizes_and_handles_are_checked(rt: HostRuntime) -> Result<(), Fail> 
         (Sync(7), Refused(Error::BadFile)),
         (Close(7), Refused(Error::BadFile)),
     ];
-    assert_eq!(rt; first_wrong_row_on_new(rt.alloc(), 16, &rows)?, None);
+    assert_eq!(rt; run_on_volume(rt.alloc(), 16, &rows)?, None);
     Ok(())
 }

@@ -12,7 +12,7 @@ use std::test::Fail;
 
 // A format uses two blocks, and a directory uses two more.
 #[test]
-fn entries_and_blocks_are_the_session_s(rt: HostRuntime) -> Result<(), Fail> {
+fn volume_answers_like_its_session(rt: HostRuntime) -> Result<(), Fail> {
     let alloc = rt.alloc();
     let mut volume = new_volume(alloc, 16)?;
     volume.mkdir(alloc, b"/d")?;
@@ -72,7 +72,7 @@ fn blank_device(alloc: Global) -> Result<RamDevice, Error> {
     RamDevice::blank(alloc, Geometry::new(1024, 128, 16)?)
 }
 
-fn kind_of_a(alloc: Global, volume: &mut Volume<RamDevice>) -> Result<Kind, Error> {
+fn kind_at_a(alloc: Global, volume: &mut Volume<RamDevice>) -> Result<Kind, Error> {
     Ok(volume.stat(alloc, b"/a")?.kind)
 }
 
@@ -82,7 +82,7 @@ fn an_unmounted_device_is_mounted_again(rt: HostRuntime) -> Result<(), Fail> {
     let mut first = format(alloc, blank_device(alloc)?).map_err(|(_, error)| error)?;
     first.mkdir(alloc, b"/a")?;
     let mut second = mount(alloc, first.unmount()).map_err(|(_, error)| error)?;
-    assert_eq!(rt; kind_of_a(alloc, &mut second)?, Kind::Dir);
+    assert_eq!(rt; kind_at_a(alloc, &mut second)?, Kind::Dir);
     let mut third = mount_with_limits(alloc, second.unmount(), Profile::new()).map_err(|(
         _,
         error,

@@ -1,8 +1,8 @@
 // Tests that rename, replace and remove files while they are open.
 
 use crate::rows::Call::{Close, Mkdir, Open, Read, Remove, Rename, Seek, Stat, Sync, Write};
-use crate::rows::Want::{Bytes, Done, Number, Refused};
-use crate::rows::{Row, first_wrong_row_on_new};
+use crate::rows::ExpectedResult::{Bytes, Done, Number, Refused};
+use crate::rows::{Row, run_on_volume};
 use bitflags::Flags;
 use lfs_device::Error;
 use lfs_volume::OpenFlags;
@@ -27,7 +27,7 @@ fn a_removed_file_keeps_its_bytes_for_its_handles(rt: HostRuntime) -> Result<(),
         (Close(0), Done),
         (Stat(b"/a"), Number(0)),
     ];
-    assert_eq!(rt; first_wrong_row_on_new(rt.alloc(), 16, &rows)?, None);
+    assert_eq!(rt; run_on_volume(rt.alloc(), 16, &rows)?, None);
     Ok(())
 }
 
@@ -48,7 +48,7 @@ fn an_open_file_goes_with_its_path(rt: HostRuntime) -> Result<(), Fail> {
         (Stat(b"/dd"), Number(5)),
         (Rename(b"/e/a", b"/e/a"), Done),
     ];
-    assert_eq!(rt; first_wrong_row_on_new(rt.alloc(), 32, &rows)?, None);
+    assert_eq!(rt; run_on_volume(rt.alloc(), 32, &rows)?, None);
     Ok(())
 }
 
@@ -70,7 +70,7 @@ fn a_replaced_file_keeps_its_bytes_for_its_handles(rt: HostRuntime) -> Result<()
         (Stat(b"/b"), Number(5)),
         (Seek(1, 0), Refused(Error::BadFile)),
     ];
-    assert_eq!(rt; first_wrong_row_on_new(rt.alloc(), 16, &rows)?, None);
+    assert_eq!(rt; run_on_volume(rt.alloc(), 16, &rows)?, None);
     Ok(())
 }
 
@@ -92,6 +92,6 @@ fn refused_renames_and_removes_change_nothing(rt: HostRuntime) -> Result<(), Fai
         (Stat(b"/d/a"), Number(3)),
         (Stat(b"/b"), Number(3)),
     ];
-    assert_eq!(rt; first_wrong_row_on_new(rt.alloc(), 32, &rows)?, None);
+    assert_eq!(rt; run_on_volume(rt.alloc(), 32, &rows)?, None);
     Ok(())
 }

@@ -26,7 +26,7 @@ pub enum Call<'a> {
 
 /// The expected result of a call.
 #[derive(Clone, Copy)]
-pub enum Want<'a> {
+pub enum ExpectedResult<'a> {
     Done,
     Number(u32),
     Bytes(&'a [u8]),
@@ -34,47 +34,47 @@ pub enum Want<'a> {
 }
 
 /// A call and its expected result.
-pub type Row<'a> = (Call<'a>, Want<'a>);
+pub type Row<'a> = (Call<'a>, ExpectedResult<'a>);
 
-fn is_done(answer: Result<(), Error>, want: Want<'_>) -> bool {
+fn is_done(answer: Result<(), Error>, want: ExpectedResult<'_>) -> bool {
     match answer {
-        Ok(()) => matches!(want, Want::Done),
-        Err(error) => matches!(want, Want::Refused(wanted) if wanted == error),
+        Ok(()) => matches!(want, ExpectedResult::Done),
+        Err(error) => matches!(want, ExpectedResult::Refused(wanted) if wanted == error),
     }
 }
 
-fn is_number(answer: Result<u32, Error>, want: Want<'_>) -> bool {
+fn is_number(answer: Result<u32, Error>, want: ExpectedResult<'_>) -> bool {
     match answer {
-        Ok(number) => matches!(want, Want::Number(wanted) if wanted == number),
-        Err(error) => matches!(want, Want::Refused(wanted) if wanted == error),
+        Ok(number) => matches!(want, ExpectedResult::Number(wanted) if wanted == number),
+        Err(error) => matches!(want, ExpectedResult::Refused(wanted) if wanted == error),
     }
 }
 
-fn are_bytes(answer: Result<Vec<u8>, Error>, want: Want<'_>) -> bool {
+fn are_bytes(answer: Result<Vec<u8>, Error>, want: ExpectedResult<'_>) -> bool {
     match answer {
-        Ok(bytes) => matches!(want, Want::Bytes(wanted) if wanted == bytes.as_slice()),
-        Err(error) => matches!(want, Want::Refused(wanted) if wanted == error),
+        Ok(bytes) => matches!(want, ExpectedResult::Bytes(wanted) if wanted == bytes.as_slice()),
+        Err(error) => matches!(want, ExpectedResult::Refused(wanted) if wanted == error),
     }
 }
 
-fn is_size<D: BlockDevice>(
+fn is_expected_size<D: BlockDevice>(
     alloc: Global,
     volume: &mut Volume<D>,
     path: &[u8],
-    want: Want<'_>,
+    want: ExpectedResult<'_>,
 ) -> bool {
     match volume.stat(alloc, path) {
-        Ok(stat) => matches!(want, Want::Number(wanted) if wanted == stat.size),
-        Err(error) => matches!(want, Want::Refused(wanted) if wanted == error),
+        Ok(stat) => matches!(want, ExpectedResult::Number(wanted) if wanted == stat.size),
+        Err(error) => matches!(want, ExpectedResult::Refused(wanted) if wanted == error),
     }
 }
 
 // Returns whether a call has the expected result.
-fn is_wanted<D: BlockDevice>(
+fn has_expected_result<D: BlockDevice>(
     alloc: Global,
     volume: &mut Volume<D>,
     call: Call<'_>,
-    want: Want<'_>,
+    want: ExpectedResult<'_>,
 ) -> bool {
     match call {
         Call::Open(path, flags) => is_number(volume.open(alloc, path, flags), want),
@@ -89,19 +89,19 @@ fn is_wanted<D: BlockDevice>(
         Call::Mkdir(path) => is_done(volume.mkdir(alloc, path), want),
         Call::Remove(path) => is_done(volume.remove(alloc, path), want),
         Call::Rename(from, to) => is_done(volume.rename(alloc, from, to), want),
-        Call::Stat(path) => is_size(alloc, volume, path, want),
+        Call::Stat(path) => is_expected_size(alloc, volume, path, want),
         Call::Remount => is_done(volume.remount(alloc), want),
     }
 }
 
 /// Performs the calls on a volume. Returns the index of the first call with an unexpected result.
-pub fn first_wrong_row<D: BlockDevice>(
+pub fn first_unexpected_call<D: BlockDevice>(
     alloc: Global,
     volume: &mut Volume<D>,
     rows: &[Row<'_>],
 ) -> Option<usize> {
     for (index, row) in rows.iter().enumerate() {
-        if !is_wanted(alloc, volume, row.0, row.1) {
+        if !has_expected_result(alloc, volume, row.0, row.1) {
             return Some(index);
         }
     }
@@ -119,11 +119,11 @@ pub fn new_volume(alloc: Global, block_count: u32) -> Result<Volume<RamDevice>, 
 
 /// Performs the calls on a new volume. Returns the index of the first call with an unexpected
 /// result.
-pub fn first_wrong_row_on_new(
+pub fn run_on_volume(
     alloc: Global,
     block_count: u32,
     rows: &[Row<'_>],
 ) -> Result<Option<usize>, Error> {
     let mut volume = new_volume(alloc, block_count)?;
-    Ok(first_wrong_row(alloc, &mut volume, rows))
+    Ok(first_unexpected_call(alloc, &mut volume, rows))
 }

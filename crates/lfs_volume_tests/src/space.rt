@@ -1,8 +1,8 @@
 // Tests of files that don't fit on the device, and of devices that fail.
 
 use crate::rows::Call::{Close, Open, Read, Remount, Size, Stat, Sync, Truncate, Write};
-use crate::rows::Want::{Bytes, Done, Number, Refused};
-use crate::rows::{Row, first_wrong_row, first_wrong_row_on_new};
+use crate::rows::ExpectedResult::{Bytes, Done, Number, Refused};
+use crate::rows::{Row, first_unexpected_call, run_on_volume};
 use bitflags::Flags;
 use lfs_device::{CountedCalls, Error, FaultDevice, Geometry, RamDevice};
 use lfs_volume::{OpenFlags, format};
@@ -33,7 +33,7 @@ fn a_sync_without_room_changes_nothing(rt: HostRuntime) -> Result<(), Fail> {
         (Open(b"/a", OpenFlags::READ), Number(0)),
         (Size(0), Number(4000)),
     ];
-    assert_eq!(rt; first_wrong_row_on_new(rt.alloc(), 8, &rows)?, None);
+    assert_eq!(rt; run_on_volume(rt.alloc(), 8, &rows)?, None);
     Ok(())
 }
 
@@ -54,17 +54,17 @@ fn a_refused_close_leaves_bytes_to_other_handles(rt: HostRuntime) -> Result<(), 
         (Close(1), Done),
         (Stat(b"/a"), Number(3000)),
     ];
-    assert_eq!(rt; first_wrong_row_on_new(rt.alloc(), 8, &rows)?, None);
+    assert_eq!(rt; run_on_volume(rt.alloc(), 8, &rows)?, None);
     Ok(())
 }
 
-fn first_wrong_row_on_failing(alloc: Global, rows: &[Row<'_>]) -> Result<Option<usize>, Error> {
+fn run_on_failing(alloc: Global, rows: &[Row<'_>]) -> Result<Option<usize>, Error> {
     let device = RamDevice::blank(alloc, Geometry::new(1024, 128, 16)?)?;
     match format(
         alloc,
         FaultDevice::new(device, CountedCalls::Program, 3, false),
     ) {
-        Ok(mut volume) => Ok(first_wrong_row(alloc, &mut volume, rows)),
+        Ok(mut volume) => Ok(first_unexpected_call(alloc, &mut volume, rows)),
         Err((_, error)) => Err(error),
     }
 }
@@ -82,6 +82,6 @@ fn a_failed_volume_answers_so_until_a_remount(rt: HostRuntime) -> Result<(), Fai
         (Open(b"/a", new), Number(0)),
         (Read(0, 9), Bytes(b"")),
     ];
-    assert_eq!(rt; first_wrong_row_on_failing(rt.alloc(), &rows)?, None);
+    assert_eq!(rt; run_on_failing(rt.alloc(), &rows)?, None);
     Ok(())
 }

@@ -22,5 +22,5 @@ history_writes [] = []
 history_writes (e ∷ older) = history_writes older ++ call_if_writing e.call
 
 -- The kept changes are the calls from the number `first` on, all of them and in order, as long as there are numbers for them.
-abbrev pub AreNoted : ℕ → List Change → List DeviceCall → Type 0
-AreNoted first kept calls = first < 2 ^ 62 → (first + length kept ≡ length calls) × (map change_call kept ≡ drop first calls)
+abbrev pub AreRecordedChanges : ℕ → List Change → List DeviceCall → Type 0
+AreRecordedChanges first kept calls = first < 2 ^ 62 → (first + length kept ≡ length calls) × (map change_call kept ≡ drop first calls)

@@ -31,7 +31,7 @@ pub record IsImageDevice (block_size page : ℕ) (profile : Profile) (image : Li
 
 -- A session at its mount of the image by that profile. The image is accepted. If both orders of names fit, the session's is the
 -- one with the longer names first.
-pub record IsImageSession (block_size page : ℕ) (profile : Profile) (image : List ℕ) (from : SystemState) : Type 0 where
+pub record IsSessionOverImage (block_size page : ℕ) (profile : Profile) (image : List ℕ) (from : SystemState) : Type 0 where
   pub whole : IsWholeImage block_size page image
   pub disk : from.disk ≡ disk_of_image block_size page profile from.disk.order image
   pub longer : from.disk.order ≡ ShorterFirst → (ps : List Pair) → ¬ IsAccepted (disk_of_image block_size page profile LongerFirst image) ps

@@ -14,11 +14,11 @@ use Rattle.lfs_volume.specs.Calls as calls
 use Rattle.lfs_volume.specs.Calls.{Call}
 use Rattle.lfs_volume.specs.SessionCalls.{error_result}
 use Rattle.lfs_volume.specs.Volume.{VolumeView}
-use Rattle.lfs_volume.specs.VolumeCalls.{IsRemount, IsSessionCall, IsVolumeCall}
+use Rattle.lfs_volume.specs.VolumeCalls.{IsVolumeRemount, IsSessionCall, IsVolumeCall}
 use Rattle.littlefs_values.specs.Buffers.{FillsWithLines, buffer_if_fitting, filled_buffer}
 use Rattle.littlefs_values.specs.Codes.{bool_number, closed_code, result_code, stat_number}
-use Rattle.littlefs_c.specs.Directories.{ClosesDirectory, IsListing, KeepsListing, ReadsDirectory, RewindsDirectory, SeeksDirectory, TellsDirectory}
-use Rattle.littlefs_c.specs.declared.shown_entries.ShownEntry.{ShownEntry}
+use Rattle.littlefs_c.specs.Directories.{ClosesDirectory, IsListing, StoresOpenDirectory, ReadsDirectory, RewindsDirectory, SeeksDirectory, ReturnsDirectoryPosition}
+use Rattle.littlefs_c.specs.declared.entry_infos.EntryInfo.{EntryInfo}
 use Rattle.littlefs_c.specs.declared.mounted.Mounted.{Mounted}
 use Rattle.std.specs.Global.{Global}
 
@@ -59,7 +59,7 @@ IsBoolCall op reply code old new = IsCodedCall {X = Bool} bool_number (λ v r w.
 -- the volume's remount, whose result has this code; no directory is open then
 abbrev pub IsRemountCall : ℤ → Mounted → Mounted → Type 0
 IsRemountCall code old new =
-    (new.directories.items ≡ []) × ((r : Result Unit Error) × ((code ≡ result_code (λ _. 0) r) × IsRemount old.volume (reply_from (λ _. ops.Done) r) new.volume))
+    (new.directories.items ≡ []) × ((r : Result Unit Error) × ((code ≡ result_code (λ _. 0) r) × IsVolumeRemount old.volume (reply_from (λ _. ops.Done) r) new.volume))
 
 -- ---- calls with a buffer
 
@@ -89,13 +89,13 @@ IsListCall path code buffer filled old new =
 -- a directory is opened: a listing is kept
 abbrev pub IsDirOpen : List ℕ → ℤ → Mounted → Mounted → Type 0
 IsDirOpen path code old new =
-    (r : Result (Vec ListItem Global) Error) × ((t : Result ℕ Error) × ((code ≡ result_code (λ n. n) t) × (KeepsListing path r t old.directories.items new.directories.items × IsListing path r old.volume new.volume)))
+    (r : Result (Vec ListItem Global) Error) × ((t : Result ℕ Error) × ((code ≡ result_code (λ n. n) t) × (StoresOpenDirectory path r t old.directories.items new.directories.items × IsListing path r old.volume new.volume)))
 
 -- a call of open directories alone, whose result has this code
 abbrev pub IsDirCall : {X : Type 0} → (X → ℕ) → (Result X Error → Mounted → Mounted → Type 0) → ℤ → Mounted → Mounted → Type 0
 IsDirCall {X} number P code old new = (new.volume ≡ old.volume) × ((r : Result X Error) × ((code ≡ result_code number r) × P r old new))
 
-abbrev pub IsDirRead : ℕ → ShownEntry → ShownEntry → List ℕ → List ℕ → ℤ → Mounted → Mounted → Type 0
+abbrev pub IsDirRead : ℕ → EntryInfo → EntryInfo → List ℕ → List ℕ → ℤ → Mounted → Mounted → Type 0
 IsDirRead dir before after name filled code old new =
     IsDirCall {X = Bool} bool_number (λ r m n. ReadsDirectory dir r m.directories.items n.directories.items before after name filled) code old new
 
@@ -103,7 +103,7 @@ abbrev pub IsDirSeek : ℕ → ℕ → ℤ → Mounted → Mounted → Type 0
 IsDirSeek dir position code old new = IsDirCall {X = Unit} (λ _. 0) (λ r m n. SeeksDirectory dir position r m.directories.items n.directories.items) code old new
 
 abbrev pub IsDirTell : ℕ → ℤ → Mounted → Mounted → Type 0
-IsDirTell dir code old new = IsDirCall {X = ℕ} (λ n. n) (λ r m n. (n.directories ≡ m.directories) × TellsDirectory dir m.directories.items r) code old new
+IsDirTell dir code old new = IsDirCall {X = ℕ} (λ n. n) (λ r m n. (n.directories ≡ m.directories) × ReturnsDirectoryPosition dir m.directories.items r) code old new
 
 abbrev pub IsDirClose : ℕ → ℤ → Mounted → Mounted → Type 0
 IsDirClose dir code old new = IsDirCall {X = Unit} (λ _. 0) (λ r m n. ClosesDirectory dir r m.directories.items n.directories.items) code old new
@@ -133,12 +133,12 @@ pub record CopiesImage (s : SessionView) (room : ℕ) (buffer filled : List ℕ)
   pub copied : filled ≡ buffer_if_fitting bytes buffer
 
 -- The buffer begins with as many bytes of the session's image as it has room for, from an offset on.
-pub record CopiesPart (s : SessionView) (offset count : ℕ) (buffer filled : List ℕ) : Type 0 where
+pub record CopiesImageRange (s : SessionView) (offset count : ℕ) (buffer filled : List ℕ) : Type 0 where
   pub bytes : List ℕ
   pub image : IsDiskImage s.tree.disk bytes
   pub takes : count ≡ length (take (length buffer) (drop offset bytes))
   pub copied : filled ≡ overwritten_at buffer 0 (take (length buffer) (drop offset bytes))
 
 -- all stays, and P holds of the session and the code
-abbrev pub FromSession : (SessionView → ℕ → Type 0) → ℤ → Mounted → Mounted → Type 0
-FromSession P code old new = (new ≡ old) × ((n : ℕ) × ((code ≡ pos n) × P old.volume.session n))
+abbrev pub IsAnswerFromSession : (SessionView → ℕ → Type 0) → ℤ → Mounted → Mounted → Type 0
+IsAnswerFromSession P code old new = (new ≡ old) × ((n : ℕ) × ((code ≡ pos n) × P old.volume.session n))

@@ -2,13 +2,13 @@
 
 ghost use Rattle.std.specs.Prelude.{◌≡◌, ◌<◌, ◌^◌, IfNone, IfSome, List};
 ghost use Rattle.lfs_model.specs.session.History.{DeviceCall};
-ghost use Rattle.littlefs_c.specs.ChangeLog.{AreNoted, change_call, history_writes};
-ghost use Rattle.littlefs_c.specs.Fetches.{FetchesChange, IsFetchAnswer, IsChangeNumber, IsNextChange, IsShownChange, buffer_after_change, next_change_code, code_of_fetched};
+ghost use Rattle.littlefs_c.specs.ChangeLog.{AreRecordedChanges, change_call, history_writes};
+ghost use Rattle.littlefs_c.specs.Fetches.{FetchesChange, IsFetchAnswer, IsChangeNumber, IsNextChange, IsChangeInfo, buffer_after_change, next_change_code, code_of_fetch_result};
 ghost use Rattle.littlefs_c.specs.Volumes.{CallsVolume};
 
 use crate::handle::{Handle, put_volume, take_volume};
-use crate::noted::HeldDevice;
-use crate::notes::{Change, Notes};
+use crate::noted::ImageDevice;
+use crate::notes::{Change, ChangeRecord};
 use lfs_volume::Volume;
 use littlefs_values::{CLOSED, copy_if_fitting};
 use std::alloc::Global;
@@ -18,7 +18,7 @@ use std::alloc::Global;
 /// `offset` and `len` are 0.
 #[repr(C)]
 #[derive(Drop)]
-pub struct ShownChange {
+pub struct ChangeInfo {
     pub kind: u32,
     pub block: u32,
     pub offset: u32,
@@ -35,8 +35,8 @@ pub enum Fetched {
 // The code that is returned if a change isn't kept.
 const NOT_KEPT: i64 = -202;
 
-fn fetched_code(fetched: Fetched) -> i64
-    ensures { result ≡ code_of_fetched fetched }
+fn fetch_result_code(fetched: Fetched) -> i64
+    ensures { result ≡ code_of_fetch_result fetched }
 {
     match fetched {
         Fetched::Change => 1,
@@ -56,13 +56,13 @@ fn change_number_code(number: Option<u64>) -> i64
 }
 
 // Writes a change to `shown`, and copies its bytes to a buffer if all of them fit.
-fn show_change(change: &Change, shown: &mut ShownChange, buffer: &mut [u8])
-    ensures shown { IsShownChange (change_call change.now) shown.new }
+fn show_change(change: &Change, shown: &mut ChangeInfo, buffer: &mut [u8])
+    ensures shown { IsChangeInfo (change_call change.now) shown.new }
     ensures buffer { buffer.new ≡ buffer_after_change (change_call change.now) buffer.old }
 {
     match change {
         Change::Program(block, offset, bytes) => {
-            *shown = ShownChange {
+            *shown = ChangeInfo {
                 kind: 1,
                 block: *block,
                 offset: *offset,
@@ -71,7 +71,7 @@ fn show_change(change: &Change, shown: &mut ShownChange, buffer: &mut [u8])
             let _ = copy_if_fitting(bytes, buffer);
         }
         Change::Erase(block) => {
-            *shown = ShownChange {
+            *shown = ChangeInfo {
                 kind: 2,
                 block: *block,
                 offset: 0,
@@ -82,11 +82,16 @@ fn show_change(change: &Change, shown: &mut ShownChange, buffer: &mut [u8])
 }
 
 // Fetches the change with this number, and marks all earlier changes as unwanted.
-fn fetch_change(notes: &Notes, number: u64, shown: &mut ShownChange, buffer: &mut [u8]) -> Fetched
-    ensures { (calls : List DeviceCall) → AreNoted notes.now.first notes.now.changes.items calls → FetchesChange calls number result shown.old shown.new buffer.old buffer.new }
+fn fetch_change(
+    notes: &ChangeRecord,
+    number: u64,
+    shown: &mut ChangeInfo,
+    buffer: &mut [u8],
+) -> Fetched
+    ensures { (calls : List DeviceCall) → AreRecordedChanges notes.now.first notes.now.changes.items calls → FetchesChange calls number result shown.old shown.new buffer.old buffer.new }
 {
     notes.want(number);
-    if notes.is_to_come(number) {
+    if notes.is_future(number) {
         return Fetched::NoneYet;
     }
     match notes.change(number) {
@@ -100,9 +105,9 @@ fn fetch_change(notes: &Notes, number: u64, shown: &mut ShownChange, buffer: &mu
 
 // Fetches the change with this number from a volume's record.
 fn fetch_volume_change(
-    volume: &Volume<HeldDevice>,
+    volume: &Volume<ImageDevice>,
     number: u64,
-    shown: &mut ShownChange,
+    shown: &mut ChangeInfo,
     buffer: &mut [u8],
 ) -> Fetched
     ensures { FetchesChange (history_writes volume.now.session.tree.history) number result shown.old shown.new buffer.old buffer.new }
@@ -111,7 +116,7 @@ fn fetch_volume_change(
 }
 
 // Keeps the changes of a volume's image from the next one on, and returns that change's number.
-fn next_change_number(volume: &Volume<HeldDevice>) -> Option<u64>
+fn next_change_number(volume: &Volume<ImageDevice>) -> Option<u64>
     ensures number { IsNextChange (history_writes volume.now.session.tree.history) result }
     ensures small { IfSome result (λ n. n < 2 ^ 63) }
 {
@@ -152,7 +157,7 @@ pub extern "C" fn lfs_c_fetch_change(
     alloc: Global,
     volume: &mut Handle,
     number: u64,
-    change: &mut ShownChange,
+    change: &mut ChangeInfo,
     buffer: &mut [u8],
 ) -> i64
     ensures call { CallsVolume (IsFetchAnswer number change.old change.new buffer.old buffer.new result) result volume.old.slot.mounted volume.new.slot.mounted }
@@ -163,5 +168,5 @@ pub extern "C" fn lfs_c_fetch_change(
     };
     let answer = fetch_volume_change(&inner.volume, number, change, buffer);
     put_volume(volume, inner);
-    fetched_code(answer)
+    fetch_result_code(answer)
 }

@@ -1,12 +1,12 @@
 // Open directories, each a list of entries with a position.
 
 ghost use Rattle.std.specs.Prelude.{◌≡◌, ◌<◌, ◌^◌, IfErr, IfOk};
-ghost use Rattle.lfs_volume.specs.Calls.{free_entry, with_entry};
+ghost use Rattle.lfs_volume.specs.Calls.{free_entry_index, with_entry};
 ghost use Rattle.lfs_volume.specs.Volume.{entry_at};
-ghost use Rattle.littlefs_c.specs.Directories.{ClosesDirectory, KeepsListing, ListsAgain, ReadsDirectory, RewindsDirectory, SeeksDirectory, ShowsNext, TellsDirectory, opened_directory};
+ghost use Rattle.littlefs_c.specs.Directories.{ClosesDirectory, StoresOpenDirectory, RelistsDirectory, ReadsDirectory, RewindsDirectory, SeeksDirectory, ReadsNextEntry, ReturnsDirectoryPosition, opened_directory};
 
-use crate::noted::HeldDevice;
-use crate::shown_entries::{ShownEntry, show_entry};
+use crate::entry_infos::{EntryInfo, show_entry};
+use crate::noted::ImageDevice;
 use lfs_volume::{Error, Item, Volume};
 use std::alloc::Global;
 use std::marker::Model;
@@ -33,7 +33,7 @@ impl Model for Directory {
 
 // Returns the lowest free number.
 fn free_number(directories: &[Option<Directory>]) -> usize
-    ensures { result ≡ free_entry directories.now }
+    ensures { result ≡ free_entry_index directories.now }
 {
     let mut number = 0;
     for entry in directories {
@@ -83,13 +83,13 @@ fn put_directory(
 
 // Stores a listing as an open directory, and returns its number, the lowest that is free. Errors:
 // the error in `answer`. `NoMemory` if memory can't be allocated.
-pub(crate) fn keep_listing(
+pub(crate) fn store_open_directory(
     alloc: Global,
     directories: &mut Vec<Option<Directory>>,
     path: &[u8],
     answer: Result<Vec<Item>, Error>,
 ) -> Result<u32, Error>
-    ensures { KeepsListing path.now answer result directories.old.items directories.new.items }
+    ensures { StoresOpenDirectory path.now answer result directories.old.items directories.new.items }
 {
     let items = answer?;
     let directory = new_directory(alloc, path, items)?;
@@ -103,8 +103,8 @@ pub(crate) fn keep_listing(
 
 // Copies the entry at a directory's position to `shown` and `name`, and advances the position.
 // Returns false at the end of the list.
-fn read_next(directory: &mut Directory, shown: &mut ShownEntry, name: &mut [u8]) -> bool
-    ensures { ShowsNext directory.old result directory.new shown.old shown.new name.old name.new }
+fn read_next_entry(directory: &mut Directory, shown: &mut EntryInfo, name: &mut [u8]) -> bool
+    ensures { ReadsNextEntry directory.old result directory.new shown.old shown.new name.old name.new }
 {
     let position = directory.position;
     if position >= directory.items.len() {
@@ -115,12 +115,12 @@ fn read_next(directory: &mut Directory, shown: &mut ShownEntry, name: &mut [u8])
     true
 }
 
-// Reads the next entry of the open directory with this number, as `read_next` does. Errors:
+// Reads the next entry of the open directory with this number, as `read_next_entry` does. Errors:
 // `BadFile` if no directory is open under the number.
 pub(crate) fn read_directory(
     directories: &mut Vec<Option<Directory>>,
     number: u32,
-    shown: &mut ShownEntry,
+    shown: &mut EntryInfo,
     name: &mut [u8],
 ) -> Result<bool, Error>
     ensures { ReadsDirectory number result directories.old.items directories.new.items shown.old shown.new name.old name.new }
@@ -130,7 +130,7 @@ pub(crate) fn read_directory(
         return Err(Error::BadFile);
     }
     match &mut directories[index] {
-        Some(directory) => Ok(read_next(directory, shown, name)),
+        Some(directory) => Ok(read_next_entry(directory, shown, name)),
         None => Err(Error::BadFile),
     }
 }
@@ -166,7 +166,7 @@ pub(crate) fn directory_position(
     directories: &[Option<Directory>],
     number: u32,
 ) -> Result<usize, Error>
-    ensures is { TellsDirectory number directories.now result }
+    ensures is { ReturnsDirectoryPosition number directories.now result }
     ensures small { IfOk result (λ n. n < 2 ^ 63) }
 {
     let index = number as usize;
@@ -184,12 +184,12 @@ pub(crate) fn directory_position(
 }
 
 // Lists a directory again, and sets its position to 0. Errors: those of `Volume::list`.
-fn list_again(
+fn relist_directory(
     alloc: Global,
-    volume: &mut Volume<HeldDevice>,
+    volume: &mut Volume<ImageDevice>,
     directory: &mut Directory,
 ) -> Result<(), Error>
-    ensures { ListsAgain volume.old directory.old result volume.new directory.new }
+    ensures { RelistsDirectory volume.old directory.old result volume.new directory.new }
 {
     let items = volume.list(alloc, &directory.path)?;
     directory.position = 0;
@@ -201,7 +201,7 @@ fn list_again(
 // no directory is open under the number. Otherwise those of `Volume::list`.
 pub(crate) fn rewind_directory(
     alloc: Global,
-    volume: &mut Volume<HeldDevice>,
+    volume: &mut Volume<ImageDevice>,
     directories: &mut Vec<Option<Directory>>,
     number: u32,
 ) -> Result<(), Error>
@@ -212,7 +212,7 @@ pub(crate) fn rewind_directory(
         return Err(Error::BadFile);
     }
     match &mut directories[index] {
-        Some(directory) => list_again(alloc, volume, directory),
+        Some(directory) => relist_directory(alloc, volume, directory),
         None => Err(Error::BadFile),
     }
 }

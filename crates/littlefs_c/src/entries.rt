@@ -6,7 +6,7 @@ ghost use Rattle.lfs_volume.specs.Calls as calls;
 ghost use Rattle.littlefs_c.specs.Volumes.{CallsVolume, IsBytesCall, IsListCall, IsStatCall, IsUnitCall, IsUnitOperation};
 
 use crate::handle::{Handle, put_volume, take_volume};
-use littlefs_values::{CLOSED, fill_with_bytes, fill_with_lines, room_code, size_code, unit_code};
+use littlefs_values::{CLOSED, fill_with_bytes, fill_with_lines, size_code, unit_code, usize_code};
 use std::alloc::Global;
 
 /// Returns a file's size in bytes, or 4,294,967,296 for a directory.
@@ -52,7 +52,7 @@ pub extern "C" fn lfs_c_list_at(
     };
     let answer = inner.volume.list(alloc, path);
     put_volume(volume, inner);
-    room_code(fill_with_lines(alloc, answer, buffer))
+    usize_code(fill_with_lines(alloc, answer, buffer))
 }
 
 /// Makes an empty directory, and returns 0.

@@ -3,9 +3,9 @@
 ghost use Rattle.std.specs.Prelude.{◌≡◌, []};
 ghost use Rattle.lfs_device.specs.RamDevice.{ram_history};
 ghost use Rattle.lfs_device.specs.declared.geometry.Geometry.{Geometry};
-ghost use Rattle.littlefs_c.specs.ChangeLog.{AreNoted, history_writes};
+ghost use Rattle.littlefs_c.specs.ChangeLog.{AreRecordedChanges, history_writes};
 
-use crate::notes::Notes;
+use crate::notes::ChangeRecord;
 use lfs_device::{BlockDevice, Error, Geometry, Profile, Profiled, RamDevice};
 use std::alloc::Global;
 
@@ -13,8 +13,8 @@ use std::alloc::Global;
 #[derive(Drop)]
 pub struct Noted<D: BlockDevice> {
     inner: D,
-    notes: Notes,
-    ghost noted: { AreNoted notes.first notes.changes.items (history_writes (D.history inner)) },
+    notes: ChangeRecord,
+    ghost noted: { AreRecordedChanges notes.first notes.changes.items (history_writes (D.history inner)) },
 }
 
 impl<D: BlockDevice> Noted<D> {
@@ -25,7 +25,7 @@ impl<D: BlockDevice> Noted<D> {
     {
         Noted {
             inner,
-            notes: Notes::new(alloc),
+            notes: ChangeRecord::new(alloc),
         }
     }
 
@@ -37,8 +37,8 @@ impl<D: BlockDevice> Noted<D> {
     }
 
     /// Borrows the record of programs and erases.
-    pub fn notes(&self) -> &Notes
-        ensures { AreNoted result.now.first result.now.changes.items (history_writes (D.history self.now.inner)) }
+    pub fn notes(&self) -> &ChangeRecord
+        ensures { AreRecordedChanges result.now.first result.now.changes.items (history_writes (D.history self.now.inner)) }
     {
         &self.notes
     }
@@ -83,10 +83,10 @@ impl<D: BlockDevice> BlockDevice for Noted<D> {
 
 /// The device of an image that C has mounted: a [`RamDevice`] with a record of its changes and a
 /// profile.
-pub type HeldDevice = Profiled<Noted<RamDevice>>;
+pub type ImageDevice = Profiled<Noted<RamDevice>>;
 
-// Returns a `HeldDevice` over a device in memory that hasn't been called yet.
-pub(crate) fn held_device(alloc: Global, ram: RamDevice, profile: Profile) -> HeldDevice
+// Returns a `ImageDevice` over a device in memory that hasn't been called yet.
+pub(crate) fn image_device(alloc: Global, ram: RamDevice, profile: Profile) -> ImageDevice
     requires { ram_history ram ≡ [] }
     ensures ram { result.inner.inner ≡ ram }
     ensures profile { result.profile ≡ profile }

@@ -3,7 +3,7 @@
 ghost use Rattle.std.specs.Prelude.{◌≡◌, ◌≤◌, ◌<◌, ◌+◌, ◌^◌, ◌∷◌, ◌++◌, [], List, IfSome, length, slice_get, Some, true};
 ghost use Rattle.lfs_model.specs.session.History.{DeviceCall};
 ghost use Rattle.lfs_model.specs.session.History.DeviceCall.{Program, Erase};
-ghost use Rattle.littlefs_c.specs.ChangeLog.{AreNoted, change_call};
+ghost use Rattle.littlefs_c.specs.ChangeLog.{AreRecordedChanges, change_call};
 
 use std::alloc::Global;
 use std::cell::Cell;
@@ -26,7 +26,7 @@ pub enum Change {
 /// The latest changes of a device, oldest first. Changes are numbered from 0. A change may be
 /// dropped once its reader wants only later ones.
 #[derive(Drop)]
-pub struct Notes {
+pub struct ChangeRecord {
     alloc: Global,
     first: u64,
     changes: Vec<Change>,
@@ -36,13 +36,13 @@ pub struct Notes {
     ghost small: { first ≤ 2 ^ 62 },
 }
 
-impl Notes {
+impl ChangeRecord {
     /// Returns an empty record for a device without any program or erase. Keeps no changes until
     /// `begin` is called.
-    pub fn new(alloc: Global) -> Notes
-        ensures { AreNoted result.first result.changes.items [] }
+    pub fn new(alloc: Global) -> ChangeRecord
+        ensures { AreRecordedChanges result.first result.changes.items [] }
     {
-        Notes {
+        ChangeRecord {
             alloc,
             first: 0,
             changes: Vec::new(alloc),
@@ -59,7 +59,7 @@ impl Notes {
 
     // Drops all changes, and counts the next one without keeping it.
     fn skip_change(&mut self)
-        ensures { (before : List DeviceCall) (call : DeviceCall) → AreNoted self.old.first self.old.changes.items before → AreNoted self.new.first self.new.changes.items (before ++ call ∷ []) }
+        ensures { (before : List DeviceCall) (call : DeviceCall) → AreRecordedChanges self.old.first self.old.changes.items before → AreRecordedChanges self.new.first self.new.changes.items (before ++ call ∷ []) }
     {
         self.first = self.next().saturating_add(1).min(NUMBERS);
         self.changes.clear();
@@ -67,7 +67,7 @@ impl Notes {
 
     // Drops all changes if none of them is wanted.
     fn let_go(&mut self)
-        ensures { (before : List DeviceCall) → AreNoted self.old.first self.old.changes.items before → AreNoted self.new.first self.new.changes.items before }
+        ensures { (before : List DeviceCall) → AreRecordedChanges self.old.first self.old.changes.items before → AreRecordedChanges self.new.first self.new.changes.items before }
     {
         let next = self.next();
         if self.wanted.get() >= next {
@@ -78,7 +78,7 @@ impl Notes {
 
     // Appends a change. Drops all changes, including this one, if memory can't be allocated.
     fn keep_change(&mut self, change: Change)
-        ensures { (before : List DeviceCall) → AreNoted self.old.first self.old.changes.items before → AreNoted self.new.first self.new.changes.items (before ++ change_call change ∷ []) }
+        ensures { (before : List DeviceCall) → AreRecordedChanges self.old.first self.old.changes.items before → AreRecordedChanges self.new.first self.new.changes.items (before ++ change_call change ∷ []) }
     {
         self.let_go();
         if self.changes.push(change).is_err() {
@@ -89,7 +89,7 @@ impl Notes {
     /// Counts a program. Also keeps the program if a caller asked for changes and memory can be
     /// allocated.
     pub fn note_program(&mut self, block: u32, off: u32, bytes: &[u8])
-        ensures { (before : List DeviceCall) → AreNoted self.old.first self.old.changes.items before → AreNoted self.new.first self.new.changes.items (before ++ Program block off bytes.now ∷ []) }
+        ensures { (before : List DeviceCall) → AreRecordedChanges self.old.first self.old.changes.items before → AreRecordedChanges self.new.first self.new.changes.items (before ++ Program block off bytes.now ∷ []) }
     {
         if self.wanted.get() == NONE_WANTED {
             self.skip_change();
@@ -104,7 +104,7 @@ impl Notes {
     /// Counts an erase. Also keeps the erase if a caller asked for changes and memory can be
     /// allocated.
     pub fn note_erase(&mut self, block: u32)
-        ensures { (before : List DeviceCall) → AreNoted self.old.first self.old.changes.items before → AreNoted self.new.first self.new.changes.items (before ++ Erase block ∷ []) }
+        ensures { (before : List DeviceCall) → AreRecordedChanges self.old.first self.old.changes.items before → AreRecordedChanges self.new.first self.new.changes.items (before ++ Erase block ∷ []) }
     {
         if self.wanted.get() == NONE_WANTED {
             self.skip_change();
@@ -116,7 +116,7 @@ impl Notes {
     /// Returns the number of the next change, or None if change numbers have run out. Keeps changes
     /// from that number on, unless a caller already asked for changes.
     pub fn begin(&self) -> Option<u64>
-        ensures number { IfSome result (λ n. (calls : List DeviceCall) → AreNoted self.now.first self.now.changes.items calls → n ≡ length calls) }
+        ensures number { IfSome result (λ n. (calls : List DeviceCall) → AreRecordedChanges self.now.first self.now.changes.items calls → n ≡ length calls) }
         ensures small { IfSome result (λ n. n < 2 ^ 63) }
     {
         if self.first >= NUMBERS || self.changes.len() as u64 >= NUMBERS {
@@ -136,15 +136,15 @@ impl Notes {
 
     /// Returns whether the change with this number is yet to be made. Returns false if change
     /// numbers have run out.
-    pub fn is_to_come(&self, number: u64) -> bool
-        ensures { (calls : List DeviceCall) → AreNoted self.now.first self.now.changes.items calls → result ≡ true → length calls ≤ number }
+    pub fn is_future(&self, number: u64) -> bool
+        ensures { (calls : List DeviceCall) → AreRecordedChanges self.now.first self.now.changes.items calls → result ≡ true → length calls ≤ number }
     {
         self.first < NUMBERS && number >= self.next()
     }
 
     /// Borrows the change with this number, or returns None if it isn't kept.
     pub fn change(&self, number: u64) -> Option<&Change>
-        ensures { IfSome result (λ c. (calls : List DeviceCall) → AreNoted self.now.first self.now.changes.items calls → slice_get calls number ≡ Some (change_call c.now)) }
+        ensures { IfSome result (λ c. (calls : List DeviceCall) → AreRecordedChanges self.now.first self.now.changes.items calls → slice_get calls number ≡ Some (change_call c.now)) }
     {
         if self.first >= NUMBERS || number < self.first {
             return None;

@@ -5,14 +5,14 @@ ghost use Rattle.littlefs_c.specs.Directories.{RewindsDirectory};
 ghost use Rattle.littlefs_c.specs.Volumes.{CallsVolume, IsDirClose, IsDirOpen, IsDirRead, IsDirRewind, IsDirSeek, IsDirTell};
 
 use crate::directories::{
-    close_directory, directory_position, keep_listing, read_directory, rewind_directory,
-    seek_directory,
+    close_directory, directory_position, read_directory, rewind_directory, seek_directory,
+    store_open_directory,
 };
+use crate::entry_infos::EntryInfo;
 use crate::handle::{Handle, put_volume, take_volume};
 use crate::mounted::Mounted;
-use crate::shown_entries::ShownEntry;
 use lfs_volume::Error;
-use littlefs_values::{CLOSED, bool_code, count_code, room_code, unit_code};
+use littlefs_values::{CLOSED, bool_code, count_code, unit_code, usize_code};
 use std::alloc::Global;
 
 /// Opens a directory by reading the list of its entries, and returns its number, the lowest that is
@@ -32,7 +32,7 @@ pub extern "C" fn lfs_c_dir_open(alloc: Global, volume: &mut Handle, path: &[u8]
         return CLOSED;
     };
     let answer = inner.volume.list(alloc, path);
-    let kept = keep_listing(alloc, &mut inner.directories, path, answer);
+    let kept = store_open_directory(alloc, &mut inner.directories, path, answer);
     put_volume(volume, inner);
     count_code(kept)
 }
@@ -50,7 +50,7 @@ pub extern "C" fn lfs_c_dir_read(
     alloc: Global,
     volume: &mut Handle,
     dir: u32,
-    entry: &mut ShownEntry,
+    entry: &mut EntryInfo,
     name: &mut [u8],
 ) -> i64
     ensures call { CallsVolume (IsDirRead dir entry.old entry.new name.old name.new result) result volume.old.slot.mounted volume.new.slot.mounted }
@@ -97,7 +97,7 @@ pub extern "C" fn lfs_c_dir_tell(alloc: Global, volume: &mut Handle, dir: u32) -
     };
     let answer = directory_position(&inner.directories, dir);
     put_volume(volume, inner);
-    room_code(answer)
+    usize_code(answer)
 }
 
 // Lists an open directory of a mounted image again. `dir` is the directory's number.

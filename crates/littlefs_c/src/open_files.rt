@@ -8,10 +8,10 @@ ghost use Rattle.littlefs_c.specs.Volumes.{CallsVolume, IsCountCall, IsReadCall,
 ghost use Rattle.littlefs_values.specs.Flags.{flags_of_number};
 
 use crate::handle::{Handle, put_volume, take_volume};
-use crate::noted::HeldDevice;
+use crate::noted::ImageDevice;
 use bitflags::Flags;
 use lfs_volume::{Error, OpenFlags, Volume};
-use littlefs_values::{CLOSED, count_code, room_code, unit_code};
+use littlefs_values::{CLOSED, count_code, unit_code, usize_code};
 use std::alloc::Global;
 
 /// Opens a file, and returns its number, the lowest that is free. The bits of `flags` select
@@ -38,7 +38,7 @@ pub extern "C" fn lfs_c_open(alloc: Global, volume: &mut Handle, path: &[u8], fl
 // Reads an open file into a buffer, and returns the number of bytes read.
 fn read_file(
     alloc: Global,
-    volume: &mut Volume<HeldDevice>,
+    volume: &mut Volume<ImageDevice>,
     file: u32,
     buffer: &mut [u8],
 ) -> Result<usize, Error>
@@ -75,7 +75,7 @@ pub extern "C" fn lfs_c_file_read(
     };
     let answer = read_file(alloc, &mut inner.volume, file, buffer);
     put_volume(volume, inner);
-    room_code(answer)
+    usize_code(answer)
 }
 
 /// Writes bytes at the position of a file that is open for writing, or at the file's end if it was

@@ -3,20 +3,20 @@
 ghost use Rattle.std.specs.Prelude.{◌≡◌, [], pos, None, IfOk, IfErr};
 ghost use Rattle.littlefs_c.specs.Images.{IsImageDevice};
 ghost use Rattle.littlefs_c.specs.Configs.{IsValidConfig, config_profile};
-ghost use Rattle.littlefs_c.specs.Mounts.{BeginsInHandle, FormatsImage, IsBeginningCode, IsBlankDevice, MountsImage, MountsLimited, PreventsFormat, PreventsMount};
+ghost use Rattle.littlefs_c.specs.Mounts.{PutsVolumeInHandle, FormatsImage, IsHandleCallCode, IsBlankDevice, MountsImage, MountsWithImageLimits, PreventsFormat, PreventsMount};
 
 use crate::config::ImageConfig;
 use crate::handle::{Handle, put_volume, take_volume};
-use crate::image::device_by_profile;
+use crate::image::new_image_device;
 use crate::mounted::Mounted;
-use crate::noted::{HeldDevice, Noted, held_device};
+use crate::noted::{ImageDevice, Noted, image_device};
 use lfs_device::{Geometry, RamDevice};
 use lfs_volume::{Error, Volume, format_ordered, mount, mount_with_limits};
 use littlefs_values::unit_code;
 use std::alloc::Global;
 
 // Returns a mounted image of a volume, without open directories.
-fn new_mounted(alloc: Global, volume: Volume<HeldDevice>) -> Mounted
+fn new_mounted(alloc: Global, volume: Volume<ImageDevice>) -> Mounted
     ensures volume { result.volume ≡ volume }
     ensures none { result.directories.items ≡ [] }
 {
@@ -48,7 +48,7 @@ fn copy_of_image(alloc: Global, config: &ImageConfig, image: &[u8]) -> Result<Ra
         return Err(Error::Invalid);
     }
     let profile = config.profile();
-    device_by_profile(alloc, image, config.block_size, config.page, profile)
+    new_image_device(alloc, image, config.block_size, config.page, profile)
 }
 
 // Mounts a volume over a copy of an image, with the limits of `config`.
@@ -58,15 +58,15 @@ fn mount_volume(alloc: Global, config: &ImageConfig, image: &[u8]) -> Result<Mou
 {
     let ram = copy_of_image(alloc, config, image)?;
     let profile = config.profile();
-    match mount(alloc, held_device(alloc, ram, profile)) {
+    match mount(alloc, image_device(alloc, ram, profile)) {
         Ok(volume) => Ok(new_mounted(alloc, volume)),
         Err((_device, error)) => Err(error),
     }
 }
 
 // Mounts a volume over a copy of an image, with the limits that the image's superblock states.
-fn mount_by_limits(alloc: Global, config: &ImageConfig, image: &[u8]) -> Result<Mounted, Error>
-    ensures ok { IfOk result (MountsLimited config.now image.now) }
+fn mount_limited_volume(alloc: Global, config: &ImageConfig, image: &[u8]) -> Result<Mounted, Error>
+    ensures ok { IfOk result (MountsWithImageLimits config.now image.now) }
     ensures err { IfErr result (PreventsMount config.now image.now) }
 {
     let ram = copy_of_image(alloc, config, image)?;
@@ -84,7 +84,7 @@ fn mount_into_handle(
     config: &ImageConfig,
     image: &[u8],
 ) -> Result<(), Error>
-    ensures { BeginsInHandle (MountsImage config.now image.now) (PreventsMount config.now image.now) result volume.old.slot.mounted volume.new.slot.mounted }
+    ensures { PutsVolumeInHandle (MountsImage config.now image.now) (PreventsMount config.now image.now) result volume.old.slot.mounted volume.new.slot.mounted }
 {
     if let Some(open) = take_volume(alloc, volume) {
         put_volume(volume, open);
@@ -112,25 +112,25 @@ pub extern "C" fn lfs_c_mount(
     config: &ImageConfig,
     image: &[u8],
 ) -> i64
-    ensures { IsBeginningCode (MountsImage config.now image.now) (PreventsMount config.now image.now) result volume.old.slot.mounted volume.new.slot.mounted }
+    ensures { IsHandleCallCode (MountsImage config.now image.now) (PreventsMount config.now image.now) result volume.old.slot.mounted volume.new.slot.mounted }
 {
     unit_code(mount_into_handle(alloc, volume, config, image))
 }
 
 // Mounts a copy of an image with the image's own limits, and puts the volume into an empty handle.
-fn begin_by_limits(
+fn mount_limited_handle(
     alloc: Global,
     volume: &mut Handle,
     config: &ImageConfig,
     image: &[u8],
 ) -> Result<(), Error>
-    ensures { BeginsInHandle (MountsLimited config.now image.now) (PreventsMount config.now image.now) result volume.old.slot.mounted volume.new.slot.mounted }
+    ensures { PutsVolumeInHandle (MountsWithImageLimits config.now image.now) (PreventsMount config.now image.now) result volume.old.slot.mounted volume.new.slot.mounted }
 {
     if let Some(open) = take_volume(alloc, volume) {
         put_volume(volume, open);
         return Err(Error::Busy);
     }
-    let inner = mount_by_limits(alloc, config, image)?;
+    let inner = mount_limited_volume(alloc, config, image)?;
     let b = box_mounted(alloc, inner)?;
     put_volume(volume, b);
     Ok(())
@@ -150,9 +150,9 @@ pub extern "C" fn lfs_c_mount_with_limits(
     config: &ImageConfig,
     image: &[u8],
 ) -> i64
-    ensures { IsBeginningCode (MountsLimited config.now image.now) (PreventsMount config.now image.now) result volume.old.slot.mounted volume.new.slot.mounted }
+    ensures { IsHandleCallCode (MountsWithImageLimits config.now image.now) (PreventsMount config.now image.now) result volume.old.slot.mounted volume.new.slot.mounted }
 {
-    unit_code(begin_by_limits(alloc, volume, config, image))
+    unit_code(mount_limited_handle(alloc, volume, config, image))
 }
 
 // Returns a device in memory with `block_count` blocks, in which every byte is 255.
@@ -173,7 +173,7 @@ fn format_volume(alloc: Global, config: &ImageConfig, block_count: u32) -> Resul
     ensures err { IfErr result (PreventsFormat config.now block_count) }
 {
     let ram = blank_device(alloc, config, block_count)?;
-    let device = held_device(alloc, ram, config.profile());
+    let device = image_device(alloc, ram, config.profile());
     match format_ordered(alloc, device, config.name_order()) {
         Ok(volume) => Ok(new_mounted(alloc, volume)),
         // A device in memory never fails, so the only possible error is `NoMemory`.
@@ -188,7 +188,7 @@ fn format_into_handle(
     config: &ImageConfig,
     block_count: u32,
 ) -> Result<(), Error>
-    ensures { BeginsInHandle (FormatsImage config.now block_count) (PreventsFormat config.now block_count) result volume.old.slot.mounted volume.new.slot.mounted }
+    ensures { PutsVolumeInHandle (FormatsImage config.now block_count) (PreventsFormat config.now block_count) result volume.old.slot.mounted volume.new.slot.mounted }
 {
     if let Some(open) = take_volume(alloc, volume) {
         put_volume(volume, open);
@@ -215,7 +215,7 @@ pub extern "C" fn lfs_c_mkfs(
     config: &ImageConfig,
     block_count: u32,
 ) -> i64
-    ensures { IsBeginningCode (FormatsImage config.now block_count) (PreventsFormat config.now block_count) result volume.old.slot.mounted volume.new.slot.mounted }
+    ensures { IsHandleCallCode (FormatsImage config.now block_count) (PreventsFormat config.now block_count) result volume.old.slot.mounted volume.new.slot.mounted }
 {
     unit_code(format_into_handle(alloc, volume, config, block_count))
 }

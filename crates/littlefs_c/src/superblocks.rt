@@ -1,7 +1,7 @@
 // Calls that read an image's superblock, or report why the image is read-only.
 
 ghost use Rattle.std.specs.Prelude.{◌≡◌, IfNone};
-ghost use Rattle.littlefs_c.specs.Superblocks.{IsReasonCall, IsSuperblockCall, IsWritableCall, ShowsReason, ShowsSuperblock, breach_number, limit_number, limit_value, shown_breach};
+ghost use Rattle.littlefs_c.specs.Superblocks.{IsReasonCall, IsSuperblockCall, IsWritableCall, FillsReasonInfo, FillsSuperblockInfo, breach_number, limit_number, limit_value, breach_info};
 ghost use Rattle.littlefs_c.specs.Volumes.{CallsVolume};
 
 use crate::handle::{Handle, put_volume, take_volume};
@@ -14,15 +14,15 @@ use std::alloc::Global;
 /// the rule doesn't refer to one.
 #[repr(C)]
 #[derive(Drop)]
-pub struct ShownBreach {
+pub struct BreachInfo {
     pub pair: [u32; 2],
     pub slot: usize,
     pub limit: u32,
 }
 
 // Writes a superblock's fields to `shown`, or returns the error.
-fn show_superblock(answer: Result<Superblock, Error>, shown: &mut FsInfo) -> Result<(), Error>
-    ensures { ShowsSuperblock answer result shown.old shown.new }
+fn fill_superblock_info(answer: Result<Superblock, Error>, shown: &mut FsInfo) -> Result<(), Error>
+    ensures { FillsSuperblockInfo answer result shown.old shown.new }
 {
     let fields = answer?;
     *shown = FsInfo::of(&fields);
@@ -46,7 +46,7 @@ pub extern "C" fn lfs_c_superblock(alloc: Global, volume: &mut Handle, info: &mu
     };
     let answer = inner.volume.superblock(alloc);
     put_volume(volume, inner);
-    unit_code(show_superblock(answer, info))
+    unit_code(fill_superblock_info(answer, info))
 }
 
 /// Returns 1 if the image may be changed, and 0 otherwise. In the second case, changes are refused
@@ -100,26 +100,26 @@ fn breach_number(breach: ProfileBreach) -> u32
     }
 }
 
-fn shown_breach(breach: ProfileBreach) -> ShownBreach
-    ensures { result ≡ shown_breach breach }
+fn breach_info(breach: ProfileBreach) -> BreachInfo
+    ensures { result ≡ breach_info breach }
 {
     match breach {
-        ProfileBreach::OtherLimits { pair, slot, limit } => ShownBreach {
+        ProfileBreach::OtherLimits { pair, slot, limit } => BreachInfo {
             pair,
             slot,
             limit: limit_value(limit),
         },
-        ProfileBreach::LongInline { pair, slot } => ShownBreach {
+        ProfileBreach::LongInline { pair, slot } => BreachInfo {
             pair,
             slot,
             limit: 0,
         },
-        ProfileBreach::EmptyPair { pair } => ShownBreach {
+        ProfileBreach::EmptyPair { pair } => BreachInfo {
             pair,
             slot: 0,
             limit: 0,
         },
-        ProfileBreach::TooLarge { pair } => ShownBreach {
+        ProfileBreach::TooLarge { pair } => BreachInfo {
             pair,
             slot: 0,
             limit: 0,
@@ -129,15 +129,15 @@ fn shown_breach(breach: ProfileBreach) -> ShownBreach
 
 // Writes the location at which an image breaks a rule to `shown`, and returns the rule's number.
 // Returns 0 if the image breaks no rule.
-fn show_breach(
+fn fill_breach_info(
     answer: Result<Option<ProfileBreach>, Error>,
-    shown: &mut ShownBreach,
+    shown: &mut BreachInfo,
 ) -> Result<u32, Error>
-    ensures { ShowsReason answer result shown.old shown.new }
+    ensures { FillsReasonInfo answer result shown.old shown.new }
 {
     match answer? {
         Some(breach) => {
-            *shown = shown_breach(breach);
+            *shown = breach_info(breach);
             Ok(breach_number(breach))
         }
         None => Ok(0),
@@ -155,7 +155,7 @@ fn show_breach(
 pub extern "C" fn lfs_c_read_only_reason(
     alloc: Global,
     volume: &mut Handle,
-    breach: &mut ShownBreach,
+    breach: &mut BreachInfo,
 ) -> i64
     ensures call { CallsVolume (IsReasonCall breach.old breach.new result) result volume.old.slot.mounted volume.new.slot.mounted }
     ensures closed { IfNone volume.old.slot.mounted (breach.new ≡ breach.old) }
@@ -165,5 +165,5 @@ pub extern "C" fn lfs_c_read_only_reason(
     };
     let answer = inner.volume.read_only_reason(alloc);
     put_volume(volume, inner);
-    count_code(show_breach(answer, breach))
+    count_code(fill_breach_info(answer, breach))
 }

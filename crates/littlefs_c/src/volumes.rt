@@ -2,12 +2,14 @@
 
 ghost use Rattle.std.specs.Prelude.{◌≡◌, ◌^◌, ◌<◌, IfNone};
 ghost use Rattle.lfs_model.specs.session.Operations as ops;
-ghost use Rattle.littlefs_c.specs.Volumes.{CallsVolume, CopiesImage, CopiesPart, FromSession, IsBoolCall, IsCountOperation, IsDiskImage, IsRemountCall, IsUnitOperation};
+ghost use Rattle.littlefs_c.specs.Volumes.{CallsVolume, CopiesImage, CopiesImageRange, IsAnswerFromSession, IsBoolCall, IsCountOperation, IsDiskImage, IsRemountCall, IsUnitOperation};
 
 use crate::handle::{Handle, put_volume, take_volume};
-use crate::noted::HeldDevice;
+use crate::noted::ImageDevice;
 use lfs_volume::Volume;
-use littlefs_values::{CLOSED, bool_code, copy_if_fitting, copy_part, count_code, unit_code};
+use littlefs_values::{
+    CLOSED, bool_code, copy_from_offset, copy_if_fitting, count_code, unit_code,
+};
 use std::alloc::Global;
 
 /// Closes all files and directories, and mounts the image again, even if the volume has failed.
@@ -84,14 +86,14 @@ pub extern "C" fn lfs_c_is_used(alloc: Global, volume: &mut Handle, block: u32) 
 }
 
 // Borrows the bytes of a volume's image.
-fn image_of_volume(volume: &Volume<HeldDevice>) -> &[u8]
+fn image_of_volume(volume: &Volume<ImageDevice>) -> &[u8]
     ensures { IsDiskImage volume.now.session.tree.disk result.now }
 {
     volume.device().inner().inner().bytes()
 }
 
 // Copies a volume's image to a buffer if it fits, and returns the image's size in bytes.
-fn copy_image(volume: &Volume<HeldDevice>, buffer: &mut [u8]) -> usize
+fn copy_image(volume: &Volume<ImageDevice>, buffer: &mut [u8]) -> usize
     ensures copied { CopiesImage volume.now.session result buffer.old buffer.new }
     ensures small { result < 2 ^ 63 }
 {
@@ -106,7 +108,7 @@ fn copy_image(volume: &Volume<HeldDevice>, buffer: &mut [u8]) -> usize
 /// Returns -77 if nothing is mounted.
 #[unsafe(no_mangle)]
 pub extern "C" fn lfs_c_image(alloc: Global, volume: &mut Handle, buffer: &mut [u8]) -> i64
-    ensures call { CallsVolume (FromSession (λ s room. CopiesImage s room buffer.old buffer.new) result) result volume.old.slot.mounted volume.new.slot.mounted }
+    ensures call { CallsVolume (IsAnswerFromSession (λ s room. CopiesImage s room buffer.old buffer.new) result) result volume.old.slot.mounted volume.new.slot.mounted }
     ensures closed { IfNone volume.old.slot.mounted (buffer.new ≡ buffer.old) }
 {
     let Some(inner) = take_volume(alloc, volume) else {
@@ -118,11 +120,11 @@ pub extern "C" fn lfs_c_image(alloc: Global, volume: &mut Handle, buffer: &mut [
 }
 
 // Copies a part of a volume's image to a buffer, and returns the part's length in bytes.
-fn copy_image_part(volume: &Volume<HeldDevice>, offset: usize, buffer: &mut [u8]) -> usize
-    ensures copied { CopiesPart volume.now.session offset result buffer.old buffer.new }
+fn copy_image_range(volume: &Volume<ImageDevice>, offset: usize, buffer: &mut [u8]) -> usize
+    ensures copied { CopiesImageRange volume.now.session offset result buffer.old buffer.new }
     ensures small { result < 2 ^ 63 }
 {
-    copy_part(image_of_volume(volume), offset, buffer)
+    copy_from_offset(image_of_volume(volume), offset, buffer)
 }
 
 /// Copies the image's bytes to the buffer, starting at `offset` in the image, and returns the
@@ -139,13 +141,13 @@ pub extern "C" fn lfs_c_image_part(
     offset: usize,
     buffer: &mut [u8],
 ) -> i64
-    ensures call { CallsVolume (FromSession (λ s count. CopiesPart s offset count buffer.old buffer.new) result) result volume.old.slot.mounted volume.new.slot.mounted }
+    ensures call { CallsVolume (IsAnswerFromSession (λ s count. CopiesImageRange s offset count buffer.old buffer.new) result) result volume.old.slot.mounted volume.new.slot.mounted }
     ensures closed { IfNone volume.old.slot.mounted (buffer.new ≡ buffer.old) }
 {
     let Some(inner) = take_volume(alloc, volume) else {
         return CLOSED;
     };
-    let count = copy_image_part(&inner.volume, offset, buffer);
+    let count = copy_image_range(&inner.volume, offset, buffer);
     put_volume(volume, inner);
     count as i64
 }

@@ -17,9 +17,9 @@ order_number LongerFirst = 0
 order_number ShorterFirst = 1
 
 -- the number of a rule that an image breaks, or 0 if it breaks none
-abbrev pub rule_number : Option ProfileBreach → ℕ
-rule_number None = 0
-rule_number (Some (breach.OtherLimits pair slot limit)) = 1
-rule_number (Some (breach.LongInline pair slot)) = 2
-rule_number (Some (breach.EmptyPair pair)) = 3
-rule_number (Some (breach.TooLarge pair)) = 4
+abbrev pub optional_breach_number : Option ProfileBreach → ℕ
+optional_breach_number None = 0
+optional_breach_number (Some (breach.OtherLimits pair slot limit)) = 1
+optional_breach_number (Some (breach.LongInline pair slot)) = 2
+optional_breach_number (Some (breach.EmptyPair pair)) = 3
+optional_breach_number (Some (breach.TooLarge pair)) = 4

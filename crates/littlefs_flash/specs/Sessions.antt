@@ -10,33 +10,33 @@ use Rattle.lfs_lookup.specs.declared.kinds.ListItem.{ListItem}
 use Rattle.lfs_lookup.specs.declared.kinds.Stat.{Stat}
 use Rattle.lfs_model.specs.declared.breaches.ProfileBreach.{ProfileBreach}
 use Rattle.lfs_model.specs.format.EntryTypes.{SuperblockFields}
-use Rattle.lfs_model.specs.tree.Profile.{image_fields}
+use Rattle.lfs_model.specs.tree.Profile.{image_superblock_fields}
 use Rattle.lfs_fs.specs.CallEffects.{IsCall}
 use Rattle.lfs_fs.specs.GstateView.{returned_gstate_reply}
 use Rattle.lfs_fs.specs.ImageLimits.{FailedByRead, OnlyReadsSession}
-use Rattle.lfs_fs.specs.ReadOnly.{IsReadOnlyReason, MayWrite}
+use Rattle.lfs_fs.specs.ReadOnly.{IsReadOnlyReason, IsWritableSession}
 use Rattle.lfs_fs.specs.Replies.{reply_from}
 use Rattle.lfs_fs.specs.SessionView.{SessionView}
 use Rattle.lfs_fs.specs.declared.gstate.Gstate.{Gstate}
 use Rattle.littlefs_values.specs.Buffers.{FillsWithLines, filled_buffer}
 use Rattle.littlefs_values.specs.declared.info.FsInfo.{FsInfo}
 use Rattle.littlefs_values.specs.Codes.{bool_number, closed_code, result_code, stat_number}
-use Rattle.littlefs_flash.specs.Codes.{gstate_number, order_number, rule_number}
+use Rattle.littlefs_flash.specs.Codes.{gstate_number, order_number, optional_breach_number}
 use Rattle.std.specs.Global.{Global}
 
 -- There is no session before or after, and the code says so; or there is one before and after, and P holds of them.
-abbrev pub CallsSession : (SessionView → SessionView → Type 0) → ℤ → Option SessionView → Option SessionView → Type 0
-CallsSession P code None None = code ≡ closed_code
-CallsSession P code (Some old) (Some new) = P old new
-CallsSession P code old new = ⊥
+abbrev pub IsCallOnSession : (SessionView → SessionView → Type 0) → ℤ → Option SessionView → Option SessionView → Type 0
+IsCallOnSession P code None None = code ≡ closed_code
+IsCallOnSession P code (Some old) (Some new) = P old new
+IsCallOnSession P code old new = ⊥
 
 -- the value in a box, if there is one
 abbrev pub boxed_value : {X : Type 0} → Option (Box X Global) → Option X
 boxed_value held = option_map (λ b. b.value) held
 
 -- the same of a session in a box
-abbrev pub CallsHeld : (SessionView → SessionView → Type 0) → ℤ → Option (Box SessionView Global) → Option (Box SessionView Global) → Type 0
-CallsHeld P code old new = CallsSession P code (boxed_value old) (boxed_value new)
+abbrev pub IsCallOnBox : (SessionView → SessionView → Type 0) → ℤ → Option (Box SessionView Global) → Option (Box SessionView Global) → Type 0
+IsCallOnBox P code old new = IsCallOnSession P code (boxed_value old) (boxed_value new)
 
 -- ---- calls with a number alone
 
@@ -87,7 +87,7 @@ IsFileAnswer P code old new = WithCode {X = Result ℕ Error} (λ r. result_code
 
 -- the answer whether a session may write, and the one that tells its image's order of names
 abbrev pub IsWritableAnswer : ℤ → SessionView → SessionView → Type 0
-IsWritableAnswer code old new = WithCode {X = Bool} (λ b. pos (bool_number b)) (λ s b. IsTrue b ↔ MayWrite s) code old new
+IsWritableAnswer code old new = WithCode {X = Bool} (λ b. pos (bool_number b)) (λ s b. IsTrue b ↔ IsWritableSession s) code old new
 
 abbrev pub IsOrderAnswer : ℤ → SessionView → SessionView → Type 0
 IsOrderAnswer code old new = (new ≡ old) × (code ≡ pos (order_number old.tree.disk.order))
@@ -101,7 +101,7 @@ ReadsReason (Err e) old new = FailedByRead old new e
 
 -- the same of an answer with this code; a session that may write stays
 abbrev pub IsReasonCall : ℤ → SessionView → SessionView → Type 0
-IsReasonCall code old new = (r : Result (Option ProfileBreach) Error) × ((code ≡ result_code rule_number r) × (ReadsReason r old new × (MayWrite old → new ≡ old)))
+IsReasonCall code old new = (r : Result (Option ProfileBreach) Error) × ((code ≡ result_code optional_breach_number r) × (ReadsReason r old new × (IsWritableSession old → new ≡ old)))
 
 -- ---- the superblock
 
@@ -117,7 +117,7 @@ info_fields i = record {
 
 -- The fields are those of the image's superblock, and the session was only read; or they are as they were, and the session failed by a read.
 abbrev pub ReadsInfo : Result Unit Error → FsInfo → FsInfo → SessionView → SessionView → Type 0
-ReadsInfo (Ok x) info filled old new = (image_fields old.tree.pairs ≡ Some (info_fields filled)) × OnlyReadsSession old new
+ReadsInfo (Ok x) info filled old new = (image_superblock_fields old.tree.pairs ≡ Some (info_fields filled)) × OnlyReadsSession old new
 ReadsInfo (Err e) info filled old new = (filled ≡ info) × FailedByRead old new e
 
 -- the same of a result with this code

@@ -3,7 +3,7 @@
 ghost use Rattle.std.specs.Prelude.{◌≡◌, List, []};
 ghost use Rattle.std.specs.Borrow.{ftrue};
 ghost use Rattle.lfs_model.specs.format.Blocks.{Blocks, HasBlockSizes};
-ghost use Rattle.lfs_model.specs.session.History.{CallEvent, LeftByLatest};
+ghost use Rattle.lfs_model.specs.session.History.{CallEvent, LeftByLatestCall};
 ghost use Rattle.lfs_model.specs.crash.Conformance.{CallsConform};
 ghost use Rattle.lfs_device.specs.Bytes.{AreByteBlocks};
 
@@ -45,7 +45,7 @@ pub struct Chip {
     pub state: FlashState,
     pub ghost shape: { HasBlockSizes block_size block_count state.blocks },
     pub ghost bytes: { AreByteBlocks state.blocks },
-    pub ghost newest: { LeftByLatest state.history state.blocks },
+    pub ghost newest: { LeftByLatestCall state.history state.blocks },
     pub ghost conforms: { CallsConform state.history },
 }
 

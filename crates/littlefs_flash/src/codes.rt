@@ -2,7 +2,7 @@
 
 ghost use Rattle.std.specs.Prelude.{◌≡◌, pos};
 ghost use Rattle.littlefs_values.specs.Codes.{result_code};
-ghost use Rattle.littlefs_flash.specs.Codes.{gstate_number, order_number, rule_number};
+ghost use Rattle.littlefs_flash.specs.Codes.{gstate_number, order_number, optional_breach_number};
 
 use lfs_device::Error;
 use lfs_fs::Gstate;
@@ -10,7 +10,7 @@ use lfs_model::{NameOrder, ProfileBreach};
 use littlefs_values::error_code;
 
 // Returns the sum of 1 if metadata pairs may be orphans, and 2 if a move is pending.
-fn gstate_bits(gstate: &Gstate) -> i64
+fn recovery_bits(gstate: &Gstate) -> i64
     ensures { result ≡ pos (gstate_number gstate.now) }
 {
     match (gstate.sync, gstate.moving.is_some()) {
@@ -26,7 +26,7 @@ pub(crate) fn gstate_code(answer: Result<Gstate, Error>) -> i64
     ensures { result ≡ result_code gstate_number answer }
 {
     match answer {
-        Ok(gstate) => gstate_bits(&gstate),
+        Ok(gstate) => recovery_bits(&gstate),
         Err(error) => error_code(error),
     }
 }
@@ -42,8 +42,8 @@ pub(crate) fn order_code(order: NameOrder) -> i64
 }
 
 // Returns the number of the broken rule, or 0 for None.
-fn rule_code(reason: Option<ProfileBreach>) -> i64
-    ensures { result ≡ pos (rule_number reason) }
+fn breach_code(reason: Option<ProfileBreach>) -> i64
+    ensures { result ≡ pos (optional_breach_number reason) }
 {
     match reason {
         None => 0,
@@ -55,11 +55,11 @@ fn rule_code(reason: Option<ProfileBreach>) -> i64
 }
 
 // Returns the number of the broken rule, 0 for None, or the negated error number.
-pub(crate) fn reason_code(answer: Result<Option<ProfileBreach>, Error>) -> i64
-    ensures { result ≡ result_code rule_number answer }
+pub(crate) fn breach_result_code(answer: Result<Option<ProfileBreach>, Error>) -> i64
+    ensures { result ≡ result_code optional_breach_number answer }
 {
     match answer {
-        Ok(reason) => rule_code(reason),
+        Ok(reason) => breach_code(reason),
         Err(error) => error_code(error),
     }
 }

@@ -1,11 +1,11 @@
 // Calls on the file or directory at a path.
 
 ghost use Rattle.lfs_model.specs.session.Operations as ops;
-ghost use Rattle.littlefs_flash.specs.Sessions.{CallsHeld, IsBytesCall, IsListCall, IsStatCall, IsUnitCall};
+ghost use Rattle.littlefs_flash.specs.Sessions.{IsCallOnBox, IsBytesCall, IsListCall, IsStatCall, IsUnitCall};
 
 use lfs_device::BlockDevice;
 use lfs_fs::Session;
-use littlefs_values::{CLOSED, fill_with_bytes, fill_with_lines, room_code, size_code, unit_code};
+use littlefs_values::{CLOSED, fill_with_bytes, fill_with_lines, size_code, unit_code, usize_code};
 use std::alloc::Global;
 
 /// Returns a file's size in bytes, or 4,294,967,296 for a directory.
@@ -19,7 +19,7 @@ pub fn stat_entry<D: BlockDevice + Drop>(
     held: &mut Option<Box<Session<D>, Global>>,
     path: &[u8],
 ) -> i64
-    ensures { CallsHeld (IsStatCall path.now result) result held.old held.new }
+    ensures { IsCallOnBox (IsStatCall path.now result) result held.old held.new }
 {
     let Some(session) = held else {
         return CLOSED;
@@ -42,12 +42,12 @@ pub fn list_lines<D: BlockDevice + Drop>(
     path: &[u8],
     buffer: &mut [u8],
 ) -> i64
-    ensures { CallsHeld (IsListCall path.now result buffer.old buffer.new) result held.old held.new }
+    ensures { IsCallOnBox (IsListCall path.now result buffer.old buffer.new) result held.old held.new }
 {
     let Some(session) = held else {
         return CLOSED;
     };
-    room_code(fill_with_lines(alloc, session.list(alloc, path), buffer))
+    usize_code(fill_with_lines(alloc, session.list(alloc, path), buffer))
 }
 
 /// Makes an empty directory, and returns 0.
@@ -61,7 +61,7 @@ pub fn mkdir<D: BlockDevice + Drop>(
     held: &mut Option<Box<Session<D>, Global>>,
     path: &[u8],
 ) -> i64
-    ensures { CallsHeld (IsUnitCall (ops.Mkdir path.now) result) result held.old held.new }
+    ensures { IsCallOnBox (IsUnitCall (ops.Mkdir path.now) result) result held.old held.new }
 {
     let Some(session) = held else {
         return CLOSED;
@@ -80,7 +80,7 @@ pub fn remove_entry<D: BlockDevice + Drop>(
     held: &mut Option<Box<Session<D>, Global>>,
     path: &[u8],
 ) -> i64
-    ensures { CallsHeld (IsUnitCall (ops.Remove path.now) result) result held.old held.new }
+    ensures { IsCallOnBox (IsUnitCall (ops.Remove path.now) result) result held.old held.new }
 {
     let Some(session) = held else {
         return CLOSED;
@@ -101,7 +101,7 @@ pub fn rename_entry<D: BlockDevice + Drop>(
     from: &[u8],
     to: &[u8],
 ) -> i64
-    ensures { CallsHeld (IsUnitCall (ops.Rename from.now to.now) result) result held.old held.new }
+    ensures { IsCallOnBox (IsUnitCall (ops.Rename from.now to.now) result) result held.old held.new }
 {
     let Some(session) = held else {
         return CLOSED;
@@ -123,7 +123,7 @@ pub fn get_attr<D: BlockDevice + Drop>(
     kind: u8,
     buffer: &mut [u8],
 ) -> i64
-    ensures { CallsHeld (IsBytesCall (ops.GetAttr path.now kind) result buffer.old buffer.new) result held.old held.new }
+    ensures { IsCallOnBox (IsBytesCall (ops.GetAttr path.now kind) result buffer.old buffer.new) result held.old held.new }
 {
     let Some(session) = held else {
         return CLOSED;
@@ -145,7 +145,7 @@ pub fn set_attr<D: BlockDevice + Drop>(
     kind: u8,
     bytes: &[u8],
 ) -> i64
-    ensures { CallsHeld (IsUnitCall (ops.SetAttr path.now kind bytes.now) result) result held.old held.new }
+    ensures { IsCallOnBox (IsUnitCall (ops.SetAttr path.now kind bytes.now) result) result held.old held.new }
 {
     let Some(session) = held else {
         return CLOSED;
@@ -165,7 +165,7 @@ pub fn remove_attr<D: BlockDevice + Drop>(
     path: &[u8],
     kind: u8,
 ) -> i64
-    ensures { CallsHeld (IsUnitCall (ops.RemoveAttr path.now kind) result) result held.old held.new }
+    ensures { IsCallOnBox (IsUnitCall (ops.RemoveAttr path.now kind) result) result held.old held.new }
 {
     let Some(session) = held else {
         return CLOSED;

@@ -1,14 +1,14 @@
 // Calls on open files.
 
 ghost use Rattle.lfs_model.specs.session.Operations as ops;
-ghost use Rattle.lfs_fs.specs.FileAnswers.{FileAnswersOf, file_position, file_size};
-ghost use Rattle.littlefs_flash.specs.Sessions.{CallsHeld, IsCountCall, IsFileAnswer, IsReadCall, IsUnitCall};
+ghost use Rattle.lfs_fs.specs.FileAnswers.{IsFileQueryResult, file_position, file_size};
+ghost use Rattle.littlefs_flash.specs.Sessions.{IsCallOnBox, IsCountCall, IsFileAnswer, IsReadCall, IsUnitCall};
 ghost use Rattle.littlefs_values.specs.Flags.{flags_of_number};
 
 use bitflags::Flags;
 use lfs_device::BlockDevice;
 use lfs_fs::{OpenFlags, Session};
-use littlefs_values::{CLOSED, count_code, room_code, unit_code};
+use littlefs_values::{CLOSED, count_code, unit_code, usize_code};
 use std::alloc::Global;
 
 /// Opens a file in the mode that the bits of `flags` select, and returns its number, the lowest
@@ -24,7 +24,7 @@ pub fn file_open<D: BlockDevice + Drop>(
     path: &[u8],
     flags: u32,
 ) -> i64
-    ensures { CallsHeld (IsCountCall (ops.Open path.now (flags_of_number flags)) ops.Opened result) result held.old held.new }
+    ensures { IsCallOnBox (IsCountCall (ops.Open path.now (flags_of_number flags)) ops.Opened result) result held.old held.new }
 {
     let Some(session) = held else {
         return CLOSED;
@@ -45,12 +45,12 @@ pub fn file_read<D: BlockDevice + Drop>(
     file: u32,
     buffer: &mut [u8],
 ) -> i64
-    ensures { CallsHeld (IsReadCall file result buffer.old buffer.new) result held.old held.new }
+    ensures { IsCallOnBox (IsReadCall file result buffer.old buffer.new) result held.old held.new }
 {
     let Some(session) = held else {
         return CLOSED;
     };
-    room_code(session.read_into(file, buffer))
+    usize_code(session.read_into(file, buffer))
 }
 
 /// Writes bytes at the position of a file that is open for writing, or at the file's end if it was
@@ -67,7 +67,7 @@ pub fn file_write<D: BlockDevice + Drop>(
     file: u32,
     bytes: &[u8],
 ) -> i64
-    ensures { CallsHeld (IsCountCall (ops.Write file bytes.now) ops.Count result) result held.old held.new }
+    ensures { IsCallOnBox (IsCountCall (ops.Write file bytes.now) ops.Count result) result held.old held.new }
 {
     let Some(session) = held else {
         return CLOSED;
@@ -86,7 +86,7 @@ pub fn file_seek<D: BlockDevice + Drop>(
     file: u32,
     position: u32,
 ) -> i64
-    ensures { CallsHeld (IsUnitCall (ops.Seek file position) result) result held.old held.new }
+    ensures { IsCallOnBox (IsUnitCall (ops.Seek file position) result) result held.old held.new }
 {
     let Some(session) = held else {
         return CLOSED;
@@ -101,7 +101,7 @@ pub fn file_seek<D: BlockDevice + Drop>(
 /// Returns -77 if `held` is None, -200 (`Failed`) if the session has failed, and -9 (`BadFile`) if
 /// `file` isn't the number of an open file.
 pub fn file_tell<D: BlockDevice + Drop>(held: &Option<Box<Session<D>, Global>>, file: u32) -> i64
-    ensures { CallsHeld (IsFileAnswer (λ s r. FileAnswersOf file_position s file r) result) result held.now held.now }
+    ensures { IsCallOnBox (IsFileAnswer (λ s r. IsFileQueryResult file_position s file r) result) result held.now held.now }
 {
     let Some(session) = held else {
         return CLOSED;
@@ -117,7 +117,7 @@ pub fn file_tell<D: BlockDevice + Drop>(held: &Option<Box<Session<D>, Global>>, 
 /// Returns -77 if `held` is None, -200 (`Failed`) if the session has failed, and -9 (`BadFile`) if
 /// `file` isn't the number of an open file.
 pub fn file_size<D: BlockDevice + Drop>(held: &Option<Box<Session<D>, Global>>, file: u32) -> i64
-    ensures { CallsHeld (IsFileAnswer (λ s r. FileAnswersOf file_size s file r) result) result held.now held.now }
+    ensures { IsCallOnBox (IsFileAnswer (λ s r. IsFileQueryResult file_size s file r) result) result held.now held.now }
 {
     let Some(session) = held else {
         return CLOSED;
@@ -138,7 +138,7 @@ pub fn file_truncate<D: BlockDevice + Drop>(
     file: u32,
     size: u32,
 ) -> i64
-    ensures { CallsHeld (IsUnitCall (ops.Truncate file size) result) result held.old held.new }
+    ensures { IsCallOnBox (IsUnitCall (ops.Truncate file size) result) result held.old held.new }
 {
     let Some(session) = held else {
         return CLOSED;
@@ -157,7 +157,7 @@ pub fn file_sync<D: BlockDevice + Drop>(
     held: &mut Option<Box<Session<D>, Global>>,
     file: u32,
 ) -> i64
-    ensures { CallsHeld (IsUnitCall (ops.Sync file) result) result held.old held.new }
+    ensures { IsCallOnBox (IsUnitCall (ops.Sync file) result) result held.old held.new }
 {
     let Some(session) = held else {
         return CLOSED;
@@ -176,7 +176,7 @@ pub fn file_close<D: BlockDevice + Drop>(
     held: &mut Option<Box<Session<D>, Global>>,
     file: u32,
 ) -> i64
-    ensures { CallsHeld (IsUnitCall (ops.Close file) result) result held.old held.new }
+    ensures { IsCallOnBox (IsUnitCall (ops.Close file) result) result held.old held.new }
 {
     let Some(session) = held else {
         return CLOSED;

@@ -1,9 +1,9 @@
 // Calls on a whole session.
 
 ghost use Rattle.lfs_model.specs.session.Operations as ops;
-ghost use Rattle.littlefs_flash.specs.Sessions.{CallsHeld, IsCountCall, IsGstateCall, IsInfoCall, IsOrderAnswer, IsReasonCall, IsUnitCall, IsUsedCall, IsWritableAnswer, ReadsInfo};
+ghost use Rattle.littlefs_flash.specs.Sessions.{IsCallOnBox, IsCountCall, IsGstateCall, IsInfoCall, IsOrderAnswer, IsReasonCall, IsUnitCall, IsUsedCall, IsWritableAnswer, ReadsInfo};
 
-use crate::codes::{gstate_code, order_code, reason_code};
+use crate::codes::{breach_result_code, gstate_code, order_code};
 use lfs_device::{BlockDevice, Error};
 use lfs_fs::Session;
 use littlefs_values::{CLOSED, FsInfo, bool_code, count_code, unit_code};
@@ -20,7 +20,7 @@ pub fn remount<D: BlockDevice + Drop>(
     alloc: Global,
     held: &mut Option<Box<Session<D>, Global>>,
 ) -> i64
-    ensures { CallsHeld (IsUnitCall ops.Remount result) result held.old held.new }
+    ensures { IsCallOnBox (IsUnitCall ops.Remount result) result held.old held.new }
 {
     let Some(session) = held else {
         return CLOSED;
@@ -38,7 +38,7 @@ pub fn recover<D: BlockDevice + Drop>(
     alloc: Global,
     held: &mut Option<Box<Session<D>, Global>>,
 ) -> i64
-    ensures { CallsHeld (IsUnitCall ops.Recover result) result held.old held.new }
+    ensures { IsCallOnBox (IsUnitCall ops.Recover result) result held.old held.new }
 {
     let Some(session) = held else {
         return CLOSED;
@@ -52,7 +52,7 @@ pub fn recover<D: BlockDevice + Drop>(
 ///
 /// Returns -77 if `held` is None, and -200 (`Failed`) if the session has failed.
 pub fn used_blocks<D: BlockDevice + Drop>(held: &Option<Box<Session<D>, Global>>) -> i64
-    ensures { CallsHeld (IsCountCall ops.UsedCount ops.Count result) result held.now held.now }
+    ensures { IsCallOnBox (IsCountCall ops.UsedCount ops.Count result) result held.now held.now }
 {
     let Some(session) = held else {
         return CLOSED;
@@ -67,7 +67,7 @@ pub fn used_blocks<D: BlockDevice + Drop>(held: &Option<Box<Session<D>, Global>>
 /// Returns -77 if `held` is None, -200 (`Failed`) if the session has failed, and -22 (`Invalid`) if
 /// the image has no such block.
 pub fn is_used<D: BlockDevice + Drop>(held: &Option<Box<Session<D>, Global>>, block: u32) -> i64
-    ensures { CallsHeld (IsUsedCall block result) result held.now held.now }
+    ensures { IsCallOnBox (IsUsedCall block result) result held.now held.now }
 {
     let Some(session) = held else {
         return CLOSED;
@@ -82,7 +82,7 @@ pub fn is_used<D: BlockDevice + Drop>(held: &Option<Box<Session<D>, Global>>, bl
 ///
 /// Returns -77 if `held` is None, and -200 (`Failed`) if the session has failed.
 pub fn gstate<D: BlockDevice + Drop>(held: &Option<Box<Session<D>, Global>>) -> i64
-    ensures { CallsHeld (IsGstateCall result) result held.now held.now }
+    ensures { IsCallOnBox (IsGstateCall result) result held.now held.now }
 {
     let Some(session) = held else {
         return CLOSED;
@@ -97,7 +97,7 @@ pub fn gstate<D: BlockDevice + Drop>(held: &Option<Box<Session<D>, Global>>) -> 
 ///
 /// Returns -77 if `held` is None.
 pub fn name_order<D: BlockDevice + Drop>(held: &Option<Box<Session<D>, Global>>) -> i64
-    ensures { CallsHeld (IsOrderAnswer result) result held.now held.now }
+    ensures { IsCallOnBox (IsOrderAnswer result) result held.now held.now }
 {
     let Some(session) = held else {
         return CLOSED;
@@ -112,7 +112,7 @@ pub fn name_order<D: BlockDevice + Drop>(held: &Option<Box<Session<D>, Global>>)
 ///
 /// Returns -77 if `held` is None.
 pub fn is_writable<D: BlockDevice + Drop>(held: &Option<Box<Session<D>, Global>>) -> i64
-    ensures { CallsHeld (IsWritableAnswer result) result held.now held.now }
+    ensures { IsCallOnBox (IsWritableAnswer result) result held.now held.now }
 {
     let Some(session) = held else {
         return CLOSED;
@@ -134,12 +134,12 @@ pub fn read_only_reason<D: BlockDevice + Drop>(
     alloc: Global,
     held: &mut Option<Box<Session<D>, Global>>,
 ) -> i64
-    ensures { CallsHeld (IsReasonCall result) result held.old held.new }
+    ensures { IsCallOnBox (IsReasonCall result) result held.old held.new }
 {
     let Some(session) = held else {
         return CLOSED;
     };
-    reason_code(session.read_only_reason(alloc))
+    breach_result_code(session.read_only_reason(alloc))
 }
 
 // Reads the superblock's fields into `info`.
@@ -168,7 +168,7 @@ pub fn stat_fs<D: BlockDevice + Drop>(
     held: &mut Option<Box<Session<D>, Global>>,
     info: &mut FsInfo,
 ) -> i64
-    ensures { CallsHeld (IsInfoCall info.old info.new result) result held.old held.new }
+    ensures { IsCallOnBox (IsInfoCall info.old info.new result) result held.old held.new }
 {
     let Some(session) = held else {
         return CLOSED;

@@ -3,7 +3,7 @@
 ghost use Rattle.std.specs.Prelude.{◌≡◌, pos, None, IfErr, IfOk};
 ghost use Rattle.littlefs_values.specs.Configs.{config_profile};
 ghost use Rattle.littlefs_flash.specs.Sessions.{boxed_value};
-ghost use Rattle.littlefs_flash.specs.Starts.{FormatsOrRefuses, IsFormatCode, IsMountCode, IsMountedFlash, IsValidStart, LeavesFlash, MountsOrRefuses, PreventsMount, RefusesStart};
+ghost use Rattle.littlefs_flash.specs.Starts.{FormatsOrRefuses, IsFormatCode, IsMountCode, IsSessionOfChip, IsValidFlashConfig, ReturnsChip, MountsOrRefuses, PreventsMount, RefusesInvalidConfig};
 
 use crate::chip::Chip;
 use crate::flash::{Flash, FlashDevice};
@@ -16,8 +16,8 @@ use std::mem::replace;
 // Makes a device from a chip and a configuration. Errors: the chip with `Invalid` if a size of the
 // chip or a field of `config` is out of range.
 fn device_of_chip<F: Flash>(chip: Chip, config: &Config) -> Result<FlashDevice<F>, (Chip, Error)>
-    ensures ok { IfOk result (λ d. IsValidStart config.now chip × (d.chip ≡ chip) × (d.geometry.profile ≡ config_profile config.now)) }
-    ensures err { IfErr result (λ e. RefusesStart config.now chip e.0 e.1) }
+    ensures ok { IfOk result (λ d. IsValidFlashConfig config.now chip × (d.chip ≡ chip) × (d.geometry.profile ≡ config_profile config.now)) }
+    ensures err { IfErr result (λ e. RefusesInvalidConfig config.now chip e.0 e.1) }
 {
     if !config.is_valid() {
         return Err((chip, Error::Invalid));
@@ -68,7 +68,7 @@ fn mount_chip<F: Flash + Drop>(
     chip: Chip,
     config: &Config,
 ) -> Result<Box<Session<FlashDevice<F>>, Global>, (Chip, Error)>
-    ensures ok { IfOk result (λ b. IsMountedFlash config.now chip b.value) }
+    ensures ok { IfOk result (λ b. IsSessionOfChip config.now chip b.value) }
     ensures err { IfErr result (λ e. PreventsMount config.now chip e.0 e.1) }
 {
     let device: FlashDevice<F> = match device_of_chip(chip, config) {
@@ -85,7 +85,7 @@ fn mount_chip<F: Flash + Drop>(
 }
 
 // Mounts a chip, unless a session exists already.
-fn mount_where_none<F: Flash + Drop>(
+fn mount_if_empty<F: Flash + Drop>(
     alloc: Global,
     held: &mut Option<Box<Session<FlashDevice<F>>, Global>>,
     chip: &mut Chip,
@@ -126,7 +126,7 @@ pub fn mount_flash<F: Flash + Drop>(
 ) -> i64
     ensures { IsMountCode config.now result (boxed_value held.old) (boxed_value held.new) chip.old chip.new }
 {
-    unit_code(mount_where_none(alloc, held, chip, config))
+    unit_code(mount_if_empty(alloc, held, chip, config))
 }
 
 /// Ends a session, and puts its chip back. Writes nothing, so changes that aren't synced are lost.
@@ -136,7 +136,7 @@ pub fn unmount_flash<F: Flash + Drop>(
     chip: &mut Chip,
 ) -> i64
     ensures closed { held.new ≡ None }
-    ensures left { LeavesFlash (boxed_value held.old) chip.old chip.new }
+    ensures left { ReturnsChip (boxed_value held.old) chip.old chip.new }
     ensures code { result ≡ pos 0 }
 {
     if let Some(ended) = held.take() {

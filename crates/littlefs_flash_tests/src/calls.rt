@@ -67,7 +67,7 @@ fn a_file_is_synced(rt: HostRuntime) -> Result<(), Fail> {
 }
 
 #[test]
-fn a_file_is_cut(rt: HostRuntime) -> Result<(), Fail> {
+fn a_file_is_truncated(rt: HostRuntime) -> Result<(), Fail> {
     let alloc = rt.alloc();
     let mut held = session_with_log(alloc);
     assert_eq!(rt; file_open(alloc, &mut held, b"/log", WRITE), 0);
@@ -146,7 +146,7 @@ fn an_attribute_is_removed(rt: HostRuntime) -> Result<(), Fail> {
 }
 
 #[test]
-fn used_blocks_are_told(rt: HostRuntime) -> Result<(), Fail> {
+fn used_blocks_are_reported(rt: HostRuntime) -> Result<(), Fail> {
     let alloc = rt.alloc();
     let held = session_in_memory(alloc);
     assert_eq!(rt; used_blocks(&held), 2);
@@ -157,7 +157,7 @@ fn used_blocks_are_told(rt: HostRuntime) -> Result<(), Fail> {
 }
 
 #[test]
-fn nothing_is_to_recover(rt: HostRuntime) -> Result<(), Fail> {
+fn clean_image_needs_no_recovery(rt: HostRuntime) -> Result<(), Fail> {
     let alloc = rt.alloc();
     let mut held = session_in_memory(alloc);
     assert_eq!(rt; gstate(&held), 0);
@@ -233,7 +233,9 @@ fn without_a_session_the_answer_is_minus_77(rt: HostRuntime) -> Result<(), Fail>
 }
 
 // Returns a session on a flash that fails at the first program after the format.
-fn session_that_fails(alloc: Global) -> Option<Box<Session<FaultDevice<RamDevice>>, Global>> {
+fn session_with_failing_device(
+    alloc: Global,
+) -> Option<Box<Session<FaultDevice<RamDevice>>, Global>> {
     let geometry = Geometry::new(4096, 256, 16).ok()?;
     let device = RamDevice::blank(alloc, geometry).ok()?;
     let device = FaultDevice::new(device, CountedCalls::Program, 2, false);
@@ -244,7 +246,7 @@ fn session_that_fails(alloc: Global) -> Option<Box<Session<FaultDevice<RamDevice
 #[test]
 fn a_fault_ends_the_session_until_a_remount(rt: HostRuntime) -> Result<(), Fail> {
     let alloc = rt.alloc();
-    let mut held = session_that_fails(alloc);
+    let mut held = session_with_failing_device(alloc);
     assert_eq!(rt; mkdir(alloc, &mut held, b"/a"), -5);
     assert_eq!(rt; mkdir(alloc, &mut held, b"/a"), -200);
     assert_eq!(rt; remount(alloc, &mut held), 0);

@@ -5,7 +5,7 @@ ghost use Rattle.lfs_model.specs.format.Blocks.{overwritten_at};
 ghost use Rattle.littlefs_values.specs.Buffers.{buffer_if_fitting, filled_buffer};
 ghost use Rattle.littlefs_values.specs.Codes.{result_code};
 
-use crate::codes::room_code;
+use crate::codes::usize_code;
 use lfs_device::Error;
 
 /// Copies bytes to the beginning of a buffer if all of them fit, and returns the number of bytes.
@@ -22,7 +22,7 @@ pub fn copy_if_fitting(bytes: &[u8], buffer: &mut [u8]) -> usize
 
 /// Copies bytes, starting at `offset`, to the beginning of a buffer until the buffer is full or the
 /// bytes end. Returns the number of bytes copied.
-pub fn copy_part(bytes: &[u8], offset: usize, buffer: &mut [u8]) -> usize
+pub fn copy_from_offset(bytes: &[u8], offset: usize, buffer: &mut [u8]) -> usize
     ensures count { result ≡ length (take (length buffer.old) (drop offset bytes.now)) }
     ensures small { result < 2 ^ 63 }
     ensures copied { buffer.new ≡ overwritten_at buffer.old 0 (take (length buffer.old) (drop offset bytes.now)) }
@@ -40,7 +40,7 @@ pub fn fill_with_bytes(answer: Result<Vec<u8>, Error>, buffer: &mut [u8]) -> i64
     ensures buffer { buffer.new ≡ filled_buffer answer buffer.old }
 {
     match answer {
-        Ok(bytes) => room_code(Ok(copy_if_fitting(&bytes, buffer))),
-        Err(error) => room_code(Err(error)),
+        Ok(bytes) => usize_code(Ok(copy_if_fitting(&bytes, buffer))),
+        Err(error) => usize_code(Err(error)),
     }
 }

@@ -62,7 +62,7 @@ pub fn bool_code(answer: Result<bool, Error>) -> i64
 }
 
 /// Returns the number in an `Ok`, which must be below 2^63, or the negated error number.
-pub fn room_code(answer: Result<usize, Error>) -> i64
+pub fn usize_code(answer: Result<usize, Error>) -> i64
     requires { IfOk answer (λ n. n < 2 ^ 63) }
     ensures { result ≡ result_code (λ n. n) answer }
 {

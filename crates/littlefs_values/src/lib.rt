@@ -10,8 +10,8 @@ mod info;
 mod lines;
 mod parts;
 
-pub use buffers::{copy_if_fitting, copy_part, fill_with_bytes};
-pub use codes::{CLOSED, bool_code, count_code, error_code, room_code, size_code, unit_code};
+pub use buffers::{copy_from_offset, copy_if_fitting, fill_with_bytes};
+pub use codes::{CLOSED, bool_code, count_code, error_code, size_code, unit_code, usize_code};
 pub use config::Config;
 pub use info::FsInfo;
 pub use lines::fill_with_lines;

@@ -13,14 +13,14 @@ use Rattle.lfs_model.specs.session.Effects.{operation_effect, read_effect, tree_
 use Rattle.lfs_model.specs.session.Refusals.{path_or_root}
 use Rattle.lfs_model.specs.session.State.{Healthy, HasFailed}
 use Rattle.lfs_fs.specs.CallEffects.{IsCall}
-use Rattle.lfs_fs.specs.FileAnswers.{FileAnswersOf, file_size}
+use Rattle.lfs_fs.specs.FileAnswers.{IsFileQueryResult, file_size}
 use Rattle.lfs_fs.specs.SessionView.{SessionView, system_state, viewed_session}
 use Rattle.lfs_model.specs.session.Accepted.{IsAcceptedOpen}
 use Rattle.lfs_model.proofs.Openings.{accepted_open, put_again}
 use Rattle.lfs_model.proofs.Passing.{accepted_step}
 use Rattle.lfs_model.proofs.TreesLeft.{any_summary, same_session}
 use Rattle.lfs_fs.proofs.Users.{lives}
-use Rattle.saved_files.specs.Writing.{HasBytesAt, ReadsFile, SurvivesRead, bytes_if_file, reading_flags}
+use Rattle.saved_files.specs.Writing.{HasBytesAt, ReadsFile, ReadSurvivesPowerLoss, bytes_if_file, reading_flags}
 use Rattle.saved_files.proofs.Parts.{then_survives, works_then, call_survives, call_works}
 use Rattle.saved_files.proofs.Written.{opened_has}
 
@@ -97,7 +97,7 @@ module _ (s : Session) (path : List ℕ) where
 -- ---- what a loss of power in each call leaves
 
 module _ (h a : SessionView) (path : List ℕ) where
-  pub open_reads : (r : Result Reply Error) → IsCall h (ops.Open path reading_flags) r a → SurvivesRead path (system_state h) (system_state a)
+  pub open_reads : (r : Result Reply Error) → IsCall h (ops.Open path reading_flags) r a → ReadSurvivesPowerLoss path (system_state h) (system_state a)
   open_reads r one s healthy = call_survives (Stays s path) h a s (ops.Open path reading_flags) r healthy refl (stays s path) (opened_stays s path) one
 
   module _ (fd : ℕ) (one : IsCall h (ops.Open path reading_flags) (Ok (ops.Opened fd)) a) where
@@ -107,7 +107,7 @@ module _ (h a : SessionView) (path : List ℕ) where
     at_a : (s : Session) → (system_state h).state ≡ Healthy s → (system_state a).state ≡ Healthy (opened s path)
     at_a s healthy = (accepted_step (system_state h) (system_state a) (ops.Open path reading_flags) (ops.Opened fd) s healthy refl refl one.answers).after
 
-    pub read_reads : (n : ℕ) (b : SessionView) (r : Result Reply Error) → IsCall a (ops.Read fd n) r b → SurvivesRead path (system_state h) (system_state b)
+    pub read_reads : (n : ℕ) (b : SessionView) (r : Result Reply Error) → IsCall a (ops.Read fd n) r b → ReadSurvivesPowerLoss path (system_state h) (system_state b)
     read_reads n b r two s healthy =
         then_survives (Stays s path) (system_state h) (system_state a) (system_state b) (call_works h a (ops.Open path reading_flags) (ops.Opened fd) refl one) (lives a b (ops.Read fd n) r two)
         (open_reads (Ok (ops.Opened fd)) one s healthy)
@@ -117,7 +117,7 @@ module _ (h a : SessionView) (path : List ℕ) where
       at_b : (s : Session) → (system_state h).state ≡ Healthy s → (system_state b).state ≡ Healthy (looked s path fd n)
       at_b s healthy = (accepted_step (system_state a) (system_state b) (ops.Read fd n) (ops.Bytes bytes) (opened s path) (at_a s healthy) refl refl two.answers).after
 
-      pub close_reads : (c : SessionView) (r : Result Reply Error) → IsCall b (ops.Close fd) r c → SurvivesRead path (system_state h) (system_state c)
+      pub close_reads : (c : SessionView) (r : Result Reply Error) → IsCall b (ops.Close fd) r c → ReadSurvivesPowerLoss path (system_state h) (system_state c)
       close_reads c r three s healthy =
           then_survives (Stays s path) (system_state h) (system_state b) (system_state c)
           (works_then (system_state h) (system_state a) (system_state b) (call_works h a (ops.Open path reading_flags) (ops.Opened fd) refl one) (call_works a b (ops.Read fd n) (ops.Bytes bytes) refl two))
@@ -126,7 +126,7 @@ module _ (h a : SessionView) (path : List ℕ) where
 
       -- ---- the bytes
 
-      module _ (size : FileAnswersOf file_size a fd (Ok n)) (s : Session) (healthy : (system_state h).state ≡ Healthy s) where
+      module _ (size : IsFileQueryResult file_size a fd (Ok n)) (s : Session) (healthy : (system_state h).state ≡ Healthy s) where
         o : IsAcceptedOpen s path reading_flags fd
         o = accepted s healthy
 
@@ -152,7 +152,7 @@ module _ (h a : SessionView) (path : List ℕ) where
             ∙ ap (λ (t : Tree). take n (file_bytes (t (place s path)))) kept
             ∙ take_all n (file_bytes (s.tree (place s path))) (omega (arith, long))
 
-      pub all_read : FileAnswersOf file_size a fd (Ok n) → (c : SessionView) → IsCall b (ops.Close fd) (Ok ops.Done) c → ReadsFile path bytes (system_state h) (system_state c)
+      pub all_read : IsFileQueryResult file_size a fd (Ok n) → (c : SessionView) → IsCall b (ops.Close fd) (Ok ops.Done) c → ReadsFile path bytes (system_state h) (system_state c)
       all_read size c three s healthy = (
         a_file (s.tree (place s path)) (accepted s healthy).no_directory (there size s healthy) ∙ ap Some (sym (read size s healthy)),
         (

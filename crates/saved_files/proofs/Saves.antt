@@ -16,11 +16,11 @@ use Rattle.lfs_fs.specs.SessionView.{SessionView, system_state}
 use Rattle.lfs_model.proofs.Passing.{accepted_step}
 use Rattle.lfs_model.proofs.TreesLeft.{any_summary, start_has}
 use Rattle.lfs_fs.proofs.Users.{lives}
-use Rattle.lfs_model.specs.crash.LifeTrees.{StartsSafely}
-use Rattle.saved_files.specs.Working.{WorksOn}
+use Rattle.lfs_model.specs.crash.LifeTrees.{HasMountableTree}
+use Rattle.saved_files.specs.Working.{KeepsWorkingBetween}
 use Rattle.saved_files.proofs.Parts.{finds_weaker, survives_weaker, then_survives, call_survives}
-use Rattle.saved_files.specs.Writing.{bytes_if_file, saving_flags, IsBeforeOrAfterWrite, SurvivesWrite, WritesFile, IsWritten}
-use Rattle.saved_files.specs.Settings.{settings_path, settings_in, IsEither, SurvivesSave, SavesSettings, IsCutSave, AreCutSaves, IsOneOf}
+use Rattle.saved_files.specs.Writing.{bytes_if_file, saving_flags, IsBeforeOrAfterWrite, WriteSurvivesPowerLoss, WritesFile, IsWritten}
+use Rattle.saved_files.specs.Settings.{settings_path, settings_in, IsEither, SaveSurvivesPowerLoss, SavesSettings, IsInterruptedSave, AreInterruptedSaves, IsOneOfSettings}
 use Rattle.saved_files.proofs.Written.{emptied_has}
 
 abbrev draft_path : Path
@@ -36,17 +36,17 @@ draft_keeps : (flags : FlagsOfOpen) (bytes : List ℕ) (old tree : Tree) → IsB
 draft_keeps flags bytes old tree (inl h) = ap bytes_if_file (h.elsewhere settings_path refl refl)
 draft_keeps flags bytes old tree (inr h) = ap bytes_if_file (h.elsewhere settings_path refl refl)
 
-module _ (a : SystemState) (b : SessionView) (flags : FlagsOfOpen) (bytes : List ℕ) (survives : SurvivesWrite (codes "/settings.new") flags bytes a (system_state b)) where
-  pub draft_survives : SurvivesSave a bytes (system_state b)
+module _ (a : SystemState) (b : SessionView) (flags : FlagsOfOpen) (bytes : List ℕ) (survives : WriteSurvivesPowerLoss (codes "/settings.new") flags bytes a (system_state b)) where
+  pub draft_survives : SaveSurvivesPowerLoss a bytes (system_state b)
   draft_survives s healthy =
       survives_weaker (IsBeforeOrAfterWrite draft_path flags bytes s.tree) (λ tree. IsEither (settings_in s.tree) bytes (settings_in tree)) a (system_state b) (λ tree h. inl (draft_keeps flags bytes s.tree tree h)) (survives s healthy)
 
-  module _ (c : SessionView) (is : flags ≡ saving_flags) (works : WorksOn a (system_state b)) (writes : WritesFile (codes "/settings.new") flags bytes a (system_state b)) where
+  module _ (c : SessionView) (is : flags ≡ saving_flags) (works : KeepsWorkingBetween a (system_state b)) (writes : WritesFile (codes "/settings.new") flags bytes a (system_state b)) where
     -- the draft becomes the settings
     renamed_has : (old : Tree) (t : Session) → IsWritten draft_path flags bytes old t.tree → settings_in (operation_effect any_summary t renaming).1.tree ≡ Some bytes
     renamed_has old t h = h.file ∙ ap Some (emptied_has draft_path flags (file_bytes (old draft_path)) bytes (ap (λ (f : FlagsOfOpen). f.truncate) is) (ap (λ (f : FlagsOfOpen). f.append) is))
 
-    pub save_survives : (r : Result Reply Error) → IsCall b renaming r c → SurvivesSave a bytes (system_state c)
+    pub save_survives : (r : Result Reply Error) → IsCall b renaming r c → SaveSurvivesPowerLoss a bytes (system_state c)
     save_survives r call s healthy =
         let Has : Tree → Type 0 = λ tree. IsEither (settings_in s.tree) bytes (settings_in tree) in
         let k = writes s healthy in
@@ -62,12 +62,12 @@ module _ (a : SystemState) (b : SessionView) (flags : FlagsOfOpen) (bytes : List
 
 -- the settings have Q
 abbrev pub StartsWithSettings : (Option (List ℕ) → Type 0) → Disk → Type 0
-StartsWithSettings Q disk = StartsSafely (λ tree. Q (settings_in tree)) disk
+StartsWithSettings Q disk = HasMountableTree (λ tree. Q (settings_in tree)) disk
 
 weaker : (P Q : Option (List ℕ) → Type 0) (disk : Disk) → ((is : Option (List ℕ)) → P is → Q is) → StartsWithSettings P disk → StartsWithSettings Q disk
 weaker P Q disk f h = finds_weaker (λ tree. P (settings_in tree)) (λ tree. Q (settings_in tree)) disk (λ tree. f (settings_in tree)) h
 
-after_one : (Q : Option (List ℕ) → Type 0) (disk next : Disk) (bytes : List ℕ) → StartsWithSettings Q disk → IsCutSave disk bytes next → StartsWithSettings (λ is. Q is ⊎ (is ≡ Some bytes)) next
+after_one : (Q : Option (List ℕ) → Type 0) (disk next : Disk) (bytes : List ℕ) → StartsWithSettings Q disk → IsInterruptedSave disk bytes next → StartsWithSettings (λ is. Q is ⊎ (is ≡ Some bytes)) next
 after_one Q disk next bytes h cut =
     let may = h.may cut.begin cut.same cut.mounts in
     weaker (IsEither (settings_in cut.mounts.tree) bytes) (λ is. Q is ⊎ (is ≡ Some bytes)) next (λ is e. either is e)
@@ -77,13 +77,13 @@ after_one Q disk next bytes h cut =
     either is (inl e) = inl (subst Q (sym e) (start_has (λ tree. Q (settings_in tree)) disk h cut.begin cut.same cut.mounts))
     either is (inr e) = inr e
 
-sorted : (Q : Option (List ℕ) → Type 0) (bytes : List ℕ) (saves : List (List ℕ)) (is : Option (List ℕ)) → (Q is ⊎ (is ≡ Some bytes)) ⊎ IsOneOf saves is → Q is ⊎ IsOneOf (bytes ∷ saves) is
+sorted : (Q : Option (List ℕ) → Type 0) (bytes : List ℕ) (saves : List (List ℕ)) (is : Option (List ℕ)) → (Q is ⊎ (is ≡ Some bytes)) ⊎ IsOneOfSettings saves is → Q is ⊎ IsOneOfSettings (bytes ∷ saves) is
 sorted Q bytes saves is (inl (inl h)) = inl h
 sorted Q bytes saves is (inl (inr e)) = inr (inl e)
 sorted Q bytes saves is (inr h) = inr (inr h)
 
-pub after_all : (Q : Option (List ℕ) → Type 0) (disk left : Disk) (saves : List (List ℕ)) → StartsWithSettings Q disk → AreCutSaves disk saves left → StartsWithSettings (λ is. Q is ⊎ IsOneOf saves is) left
+pub after_all : (Q : Option (List ℕ) → Type 0) (disk left : Disk) (saves : List (List ℕ)) → StartsWithSettings Q disk → AreInterruptedSaves disk saves left → StartsWithSettings (λ is. Q is ⊎ IsOneOfSettings saves is) left
 after_all Q disk left [] h same = weaker Q (λ is. Q is ⊎ ⊥) left (λ is k. inl k) (subst (StartsWithSettings Q) (sym same) h)
 after_all Q disk left (bytes ∷ saves) h (next, (cut, more)) =
-    weaker (λ is. (Q is ⊎ (is ≡ Some bytes)) ⊎ IsOneOf saves is) (λ is. Q is ⊎ IsOneOf (bytes ∷ saves) is) left (sorted Q bytes saves)
+    weaker (λ is. (Q is ⊎ (is ≡ Some bytes)) ⊎ IsOneOfSettings saves is) (λ is. Q is ⊎ IsOneOfSettings (bytes ∷ saves) is) left (sorted Q bytes saves)
     (after_all (λ is. Q is ⊎ (is ≡ Some bytes)) next left saves (after_one Q disk next bytes h cut) more)

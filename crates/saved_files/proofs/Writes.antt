@@ -6,7 +6,7 @@ use Rattle.lfs_model.specs.session.TreeEdits.{file_bytes}
 use Rattle.lfs_model.specs.session.Operations as ops
 use Rattle.lfs_model.specs.session.Operations.{FlagsOfOpen, Operation, Reply}
 use Rattle.lfs_model.specs.session.Session.{Session, FileWriter, Reading, Writing, file_numbered}
-use Rattle.lfs_model.specs.session.Writers.{opened_writer, written_writer}
+use Rattle.lfs_model.specs.session.Writers.{opened_writer, writer_after_write}
 use Rattle.lfs_model.specs.session.Effects.{operation_effect}
 use Rattle.lfs_model.specs.session.Refusals.{path_or_root}
 use Rattle.lfs_model.specs.session.State.{Healthy}
@@ -17,7 +17,7 @@ use Rattle.lfs_model.proofs.Openings.{accepted_open, put_again}
 use Rattle.lfs_model.proofs.Passing.{accepted_step}
 use Rattle.lfs_model.proofs.TreesLeft.{any_summary}
 use Rattle.lfs_fs.proofs.Users.{lives}
-use Rattle.saved_files.specs.Working.{SurvivesWith}
+use Rattle.saved_files.specs.Working.{LossLeavesTreeWith}
 use Rattle.saved_files.specs.Writing.{bytes_if_file, IsBeforeOrAfterWrite, IsWritten}
 use Rattle.saved_files.proofs.Parts.{call_survives, call_works, then_survives, works_then}
 use Rattle.saved_files.proofs.Written.{opened_has, closed_has, closed_file}
@@ -47,10 +47,10 @@ module _ (s : Session) (path : List ℕ) (flags : FlagsOfOpen) (bytes : List ℕ
   abbrev writer : FileWriter
   writer = opened_writer (path_or_root path) flags (file_bytes (s.tree (path_or_root path)))
 
-  written_file : (fd : ℕ) → flags.write ≡ true → IsAcceptedOpen s path flags fd → file_numbered (written fd).files fd ≡ Some (Writing (written_writer writer bytes))
+  written_file : (fd : ℕ) → flags.write ≡ true → IsAcceptedOpen s path flags fd → file_numbered (written fd).files fd ≡ Some (Writing (writer_after_write writer bytes))
   written_file fd write o =
       let file : file_numbered opened.files fd ≡ Some (Writing writer) = o.file ∙ ap (λ b. Some (if b then Writing writer else Reading (record { path = path_or_root path; position = 0 }))) write in
-      rw file (put_again opened.files fd (Writing writer) (Writing (written_writer writer bytes)) file)
+      rw file (put_again opened.files fd (Writing writer) (Writing (writer_after_write writer bytes)) file)
 
   closed_kept : (fd : ℕ) → flags.write ≡ true → IsAcceptedOpen s path flags fd → Has (closed fd).tree
   closed_kept fd write o = inr (rw (written_file fd write o) (closed_has (path_or_root path) flags bytes s.tree o.no_directory))
@@ -64,7 +64,7 @@ module _ (s : Session) (path : List ℕ) (flags : FlagsOfOpen) (bytes : List ℕ
 -- ---- what a loss of power in each call leaves
 
 module _ (h : SessionView) (path : List ℕ) (flags : FlagsOfOpen) (bytes : List ℕ) (write : flags.write ≡ true) (s : Session) (healthy : (system_state h).state ≡ Healthy s) where
-  pub open_survives : (r : Result Reply Error) (a : SessionView) → IsCall h (ops.Open path flags) r a → SurvivesWith (Has s path flags bytes) (system_state h) (system_state a)
+  pub open_survives : (r : Result Reply Error) (a : SessionView) → IsCall h (ops.Open path flags) r a → LossLeavesTreeWith (Has s path flags bytes) (system_state h) (system_state a)
   open_survives r a one = call_survives (Has s path flags bytes) h a s (ops.Open path flags) r healthy refl (before s path flags bytes) (kept s path flags bytes) one
 
   module _ (fd : ℕ) (a : SessionView) (one : IsCall h (ops.Open path flags) (Ok (ops.Opened fd)) a) where
@@ -74,7 +74,7 @@ module _ (h : SessionView) (path : List ℕ) (flags : FlagsOfOpen) (bytes : List
     at_a : (system_state a).state ≡ Healthy (opened s path flags bytes)
     at_a = (accepted_step (system_state h) (system_state a) (ops.Open path flags) (ops.Opened fd) s healthy refl refl one.answers).after
 
-    pub write_survives : (r : Result Reply Error) (b : SessionView) → IsCall a (ops.Write fd bytes) r b → SurvivesWith (Has s path flags bytes) (system_state h) (system_state b)
+    pub write_survives : (r : Result Reply Error) (b : SessionView) → IsCall a (ops.Write fd bytes) r b → LossLeavesTreeWith (Has s path flags bytes) (system_state h) (system_state b)
     write_survives r b two =
         then_survives (Has s path flags bytes) (system_state h) (system_state a) (system_state b) (call_works h a (ops.Open path flags) (ops.Opened fd) refl one) (lives a b (ops.Write fd bytes) r two) (open_survives (Ok (ops.Opened fd)) a one)
         (λ t after. call_survives (Has s path flags bytes) a b (opened s path flags bytes) (ops.Write fd bytes) r at_a refl (kept s path flags bytes) (kept s path flags bytes) two)
@@ -83,7 +83,7 @@ module _ (h : SessionView) (path : List ℕ) (flags : FlagsOfOpen) (bytes : List
     at_b n b two = (accepted_step (system_state a) (system_state b) (ops.Write fd bytes) (ops.Count n) (opened s path flags bytes) at_a refl refl two.answers).after
 
     pub close_survives : (n : ℕ) (b : SessionView) → IsCall a (ops.Write fd bytes) (Ok (ops.Count n)) b → (r : Result Reply Error) (c : SessionView) → IsCall b (ops.Close fd) r c →
-        SurvivesWith (Has s path flags bytes) (system_state h) (system_state c)
+        LossLeavesTreeWith (Has s path flags bytes) (system_state h) (system_state c)
     close_survives n b two r c three =
         then_survives (Has s path flags bytes) (system_state h) (system_state b) (system_state c) (works_then (system_state h) (system_state a) (system_state b) (call_works h a (ops.Open path flags) (ops.Opened fd) refl one) (call_works a b (ops.Write fd bytes) (ops.Count n) refl two))
         (lives b c (ops.Close fd) r three) (write_survives (Ok (ops.Count n)) b two)

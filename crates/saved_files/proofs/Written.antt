@@ -14,9 +14,9 @@ use Rattle.lfs_model.specs.tree.Tree.{Path, Node, FileNode, DirectoryNode, Tree}
 use Rattle.lfs_model.specs.session.Operations.{FlagsOfOpen}
 use Rattle.lfs_model.specs.session.TreeEdits.{same_path, parent_path, is_directory, file_bytes, tree_creating, tree_with_change, node_with_names, names_with, last_name}
 use Rattle.lfs_model.specs.session.Session.{FileWriter, Writing}
-use Rattle.lfs_model.specs.session.Writers.{opened_writer, written_writer}
+use Rattle.lfs_model.specs.session.Writers.{opened_writer, writer_after_write}
 use Rattle.lfs_model.specs.session.Effects.{tree_after_storing, node_with_bytes}
-use Rattle.saved_files.specs.Writing.{bytes_if_file, bytes_written, HasBytesAt, SameElsewhere}
+use Rattle.saved_files.specs.Writing.{bytes_if_file, bytes_after_write, HasBytesAt, SameAtOtherPaths}
 
 -- ---- the open
 
@@ -27,7 +27,7 @@ made : (p : Path) (t : Tree) → tree_creating p (FileNode [] []) t p ≡ Some (
 made p t = rw (path_itself p) refl
 
 -- a node is made at the path
-pub created_elsewhere : (p : Path) (node : Node) (t : Tree) → SameElsewhere p t (tree_creating p node t)
+pub created_elsewhere : (p : Path) (node : Node) (t : Tree) → SameAtOtherPaths p t (tree_creating p node t)
 created_elsewhere p node t q off above = set_off p (Some node) (tree_with_change (parent_path p) (node_with_names (names_with (last_name p))) t) q off ∙ change_off (parent_path p) (node_with_names (names_with (last_name p))) t q above
 
 pub opened_has : (p : Path) (t : Tree) → HasBytesAt p (file_bytes (t p)) t (opened_tree p t)
@@ -61,7 +61,7 @@ record IsWriterAt (p : Path) (old : List ℕ) (w : FileWriter) : Type 0 where
   path : w.path ≡ p
   clean : w.dirty ≡ false → w.contents ≡ old
 
-writer_at : (p : Path) (flags : FlagsOfOpen) (old bytes : List ℕ) → IsWriterAt p old (written_writer (opened_writer p flags old) bytes)
+writer_at : (p : Path) (flags : FlagsOfOpen) (old bytes : List ℕ) → IsWriterAt p old (writer_after_write (opened_writer p flags old) bytes)
 writer_at p flags old [] = record { path = refl; clean = go flags.truncate }
   where
     go : (b : Bool) → (b && nat_lt 0 (length old)) ≡ false → (if b then [] else old) ≡ old
@@ -89,21 +89,21 @@ stored_elsewhere p q t w is off = go w.dirty
 -- ---- all of it
 
 abbrev pub closed_tree : Path → FlagsOfOpen → List ℕ → Tree → Tree
-closed_tree p flags bytes t = tree_after_storing (Some (Writing (written_writer (opened_writer p flags (file_bytes (t p))) bytes))) (opened_tree p t)
+closed_tree p flags bytes t = tree_after_storing (Some (Writing (writer_after_write (opened_writer p flags (file_bytes (t p))) bytes))) (opened_tree p t)
 
-pub closed_file : (p : Path) (flags : FlagsOfOpen) (bytes : List ℕ) (t : Tree) → is_directory (t p) ≡ false → IsFileAt p (closed_tree p flags bytes t) (bytes_written p flags (file_bytes (t p)) bytes)
+pub closed_file : (p : Path) (flags : FlagsOfOpen) (bytes : List ℕ) (t : Tree) → is_directory (t p) ≡ false → IsFileAt p (closed_tree p flags bytes t) (bytes_after_write p flags (file_bytes (t p)) bytes)
 closed_file p flags bytes t e = stored_file p (opened_tree p t) (file_bytes (t p)) _ (writer_at p flags (file_bytes (t p)) bytes) (opened_file p t e)
 
-pub closed_has : (p : Path) (flags : FlagsOfOpen) (bytes : List ℕ) (t : Tree) → is_directory (t p) ≡ false → HasBytesAt p (bytes_written p flags (file_bytes (t p)) bytes) t (closed_tree p flags bytes t)
+pub closed_has : (p : Path) (flags : FlagsOfOpen) (bytes : List ℕ) (t : Tree) → is_directory (t p) ≡ false → HasBytesAt p (bytes_after_write p flags (file_bytes (t p)) bytes) t (closed_tree p flags bytes t)
 closed_has p flags bytes t e = record {
-  elsewhere = λ q off above. stored_elsewhere p q (opened_tree p t) (written_writer (opened_writer p flags (file_bytes (t p))) bytes) (writer_at p flags (file_bytes (t p)) bytes).path off ∙ (opened_has p t).elsewhere q off above;
+  elsewhere = λ q off above. stored_elsewhere p q (opened_tree p t) (writer_after_write (opened_writer p flags (file_bytes (t p))) bytes) (writer_at p flags (file_bytes (t p)) bytes).path off ∙ (opened_has p t).elsewhere q off above;
   has = ap file_bytes (closed_file p flags bytes t e).is;
 }
 
 -- ---- the bytes
 
 -- a file that was emptied has what was written
-pub emptied_has : (p : Path) (flags : FlagsOfOpen) (old bytes : List ℕ) → flags.truncate ≡ true → flags.append ≡ false → bytes_written p flags old bytes ≡ bytes
+pub emptied_has : (p : Path) (flags : FlagsOfOpen) (old bytes : List ℕ) → flags.truncate ≡ true → flags.append ≡ false → bytes_after_write p flags old bytes ≡ bytes
 emptied_has p flags old [] e f = rw e refl
 emptied_has p flags old (b ∷ bytes) e f = rw (e, f) (ap (λ rest. (b ∷ bytes) ++ rest) (drop-nil _) ∙ append-nil (b ∷ bytes))
 
@@ -114,7 +114,7 @@ past old new padding =
     ∙ ap (λ rest. old ++ new ++ rest) (drop_all (length old + length new) old (omega (arith)))
     ∙ append-nil (old ++ new)
 
-pub appended_has : (p : Path) (flags : FlagsOfOpen) (old bytes : List ℕ) → flags.truncate ≡ false → flags.append ≡ true → bytes_written p flags old bytes ≡ old ++ bytes
+pub appended_has : (p : Path) (flags : FlagsOfOpen) (old bytes : List ℕ) → flags.truncate ≡ false → flags.append ≡ true → bytes_after_write p flags old bytes ≡ old ++ bytes
 appended_has p flags old [] e f = rw e (sym (append-nil old))
 appended_has p flags old (b ∷ bytes) e f = rw (e, f) (past old (b ∷ bytes) (replicate (length old - length old) 0))
 

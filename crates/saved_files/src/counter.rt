@@ -2,9 +2,9 @@
 
 ghost use Rattle.std.specs.Prelude.{◌≡◌, IfOk, OnOk};
 ghost use Rattle.lfs_fs.specs.SessionView.{system_state};
-ghost use Rattle.lfs_fs.specs.Starts.{LivesOn};
-ghost use Rattle.saved_files.specs.Working.{WorksOn};
-ghost use Rattle.saved_files.specs.Counter.{CountsTo, RaisesTo, SetsTo, SurvivesCount, SurvivesRaise, SurvivesSet, number_of};
+ghost use Rattle.lfs_fs.specs.Starts.{IsReachableByCalls};
+ghost use Rattle.saved_files.specs.Working.{KeepsWorkingBetween};
+ghost use Rattle.saved_files.specs.Counter.{ReadsCounterAs, IncrementsCounterTo, SetsCounterTo, CounterReadSurvivesLoss, IncrementSurvivesPowerLoss, SetCounterSurvivesLoss, number_of};
 
 use crate::files::{read_file, saving_flags, write_file};
 use lfs_device::{BlockDevice, Error};
@@ -27,10 +27,10 @@ fn number_of(bytes: &[u8]) -> u32
 ///
 /// Returns the errors of [`read_file`], such as `NoEnt` if the counter was never set.
 pub fn read_counter<D: BlockDevice>(session: &mut Session<D>, alloc: Global) -> Result<u32, Error>
-    ensures survives { SurvivesCount (system_state session.old) (system_state session.new) }
-    ensures lived { LivesOn (system_state session.old) (system_state session.new) }
-    ensures works { OnOk result (WorksOn (system_state session.old) (system_state session.new)) }
-    ensures is { IfOk result (λ number. CountsTo number (system_state session.old) (system_state session.new)) }
+    ensures survives { CounterReadSurvivesLoss (system_state session.old) (system_state session.new) }
+    ensures lived { IsReachableByCalls (system_state session.old) (system_state session.new) }
+    ensures works { OnOk result (KeepsWorkingBetween (system_state session.old) (system_state session.new)) }
+    ensures is { IfOk result (λ number. ReadsCounterAs number (system_state session.old) (system_state session.new)) }
 {
     let bytes = read_file(session, alloc, b"/counter")?;
     Ok(number_of(&bytes))
@@ -47,9 +47,9 @@ pub fn set_counter<D: BlockDevice>(
     alloc: Global,
     number: u32,
 ) -> Result<(), Error>
-    ensures survives { SurvivesSet (system_state session.old) number (system_state session.new) }
-    ensures lived { LivesOn (system_state session.old) (system_state session.new) }
-    ensures set { OnOk result (SetsTo number (system_state session.old) (system_state session.new)) }
+    ensures survives { SetCounterSurvivesLoss (system_state session.old) number (system_state session.new) }
+    ensures lived { IsReachableByCalls (system_state session.old) (system_state session.new) }
+    ensures set { OnOk result (SetsCounterTo number (system_state session.old) (system_state session.new)) }
 {
     write_file(
         session,
@@ -68,10 +68,13 @@ pub fn set_counter<D: BlockDevice>(
 ///
 /// Returns `TooBig` if the number is `u32::MAX`, or else the errors of [`read_counter`] and
 /// [`write_file`].
-pub fn raise_counter<D: BlockDevice>(session: &mut Session<D>, alloc: Global) -> Result<u32, Error>
-    ensures survives { SurvivesRaise (system_state session.old) (system_state session.new) }
-    ensures lived { LivesOn (system_state session.old) (system_state session.new) }
-    ensures raised { IfOk result (λ number. RaisesTo number (system_state session.old) (system_state session.new)) }
+pub fn increment_counter<D: BlockDevice>(
+    session: &mut Session<D>,
+    alloc: Global,
+) -> Result<u32, Error>
+    ensures survives { IncrementSurvivesPowerLoss (system_state session.old) (system_state session.new) }
+    ensures lived { IsReachableByCalls (system_state session.old) (system_state session.new) }
+    ensures raised { IfOk result (λ number. IncrementsCounterTo number (system_state session.old) (system_state session.new)) }
 {
     let number = read_counter(session, alloc)?;
     if number == u32::MAX {

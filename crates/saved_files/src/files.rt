@@ -2,18 +2,18 @@
 // file.
 
 ghost use Rattle.std.specs.Prelude.{◌≡◌, true, IfOk, OnOk};
-ghost use Rattle.lfs_model.specs.format.Disk.{ordered_disk};
-ghost use Rattle.lfs_model.specs.crash.RepeatedPowerLoss.{IsMounted};
+ghost use Rattle.lfs_model.specs.format.Disk.{disk_with_order};
+ghost use Rattle.lfs_model.specs.crash.RepeatedPowerLoss.{IsJustMounted};
 ghost use Rattle.lfs_model.specs.crash.Stops.{ErasesCleanly};
 ghost use Rattle.lfs_model.specs.session.History.{AllCallsSince};
 ghost use Rattle.lfs_model.specs.session.Run.{SystemState};
 ghost use Rattle.lfs_thread.specs.Kept.{disk_of_device};
 ghost use Rattle.lfs_fs.specs.FlagsView.{flags_view};
 ghost use Rattle.lfs_fs.specs.SessionView.{system_state};
-ghost use Rattle.lfs_model.specs.crash.LifeTrees.{MayLosePower};
-ghost use Rattle.lfs_fs.specs.Starts.{LivesOn};
-ghost use Rattle.saved_files.specs.Working.{WorksOn};
-ghost use Rattle.saved_files.specs.Writing.{ReadsFile, SurvivesRead, SurvivesWrite, WritesFile, saving_flags, appending_flags};
+ghost use Rattle.lfs_model.specs.crash.LifeTrees.{HasWritableDiskTree};
+ghost use Rattle.lfs_fs.specs.Starts.{IsReachableByCalls};
+ghost use Rattle.saved_files.specs.Working.{KeepsWorkingBetween};
+ghost use Rattle.saved_files.specs.Writing.{ReadsFile, ReadSurvivesPowerLoss, WriteSurvivesPowerLoss, WritesFile, saving_flags, appending_flags};
 
 use lfs_device::{BlockDevice, Error, RamDevice, lemma_ram_premises};
 use lfs_fs::{OpenFlags, Session, mount};
@@ -25,8 +25,8 @@ use std::alloc::Global;
 ///
 /// Returns `ReadOnly` if the image may not be written, or else the errors of [`mount`].
 pub fn start<D: BlockDevice + Drop>(alloc: Global, device: D) -> Result<Session<D>, Error>
-    ensures mounted { IfOk result (λ session. IsMounted (ordered_disk session.tree.disk.order (disk_of_device D.BlockDevice device)) (system_state session)) }
-    ensures may { IfOk result (λ session. MayLosePower (system_state session)) }
+    ensures mounted { IfOk result (λ session. IsJustMounted (disk_with_order session.tree.disk.order (disk_of_device D.BlockDevice device)) (system_state session)) }
+    ensures may { IfOk result (λ session. HasWritableDiskTree (system_state session)) }
 {
     let session = match mount(alloc, device) {
         Ok(session) => session,
@@ -72,9 +72,9 @@ pub fn write_file<D: BlockDevice>(
     bytes: &[u8],
 ) -> Result<(), Error>
     requires writes { (flags_view flags).write ≡ true }
-    ensures survives { SurvivesWrite path.now (flags_view flags) bytes.now (system_state session.old) (system_state session.new) }
-    ensures lived { LivesOn (system_state session.old) (system_state session.new) }
-    ensures works { OnOk result (WorksOn (system_state session.old) (system_state session.new)) }
+    ensures survives { WriteSurvivesPowerLoss path.now (flags_view flags) bytes.now (system_state session.old) (system_state session.new) }
+    ensures lived { IsReachableByCalls (system_state session.old) (system_state session.new) }
+    ensures works { OnOk result (KeepsWorkingBetween (system_state session.old) (system_state session.new)) }
     ensures written { OnOk result (WritesFile path.now (flags_view flags) bytes.now (system_state session.old) (system_state session.new)) }
 {
     let file = session.open(alloc, path, flags)?;
@@ -94,9 +94,9 @@ pub fn read_file<D: BlockDevice>(
     alloc: Global,
     path: &[u8],
 ) -> Result<Vec<u8>, Error>
-    ensures survives { SurvivesRead path.now (system_state session.old) (system_state session.new) }
-    ensures lived { LivesOn (system_state session.old) (system_state session.new) }
-    ensures works { OnOk result (WorksOn (system_state session.old) (system_state session.new)) }
+    ensures survives { ReadSurvivesPowerLoss path.now (system_state session.old) (system_state session.new) }
+    ensures lived { IsReachableByCalls (system_state session.old) (system_state session.new) }
+    ensures works { OnOk result (KeepsWorkingBetween (system_state session.old) (system_state session.new)) }
     ensures read { IfOk result (λ bytes. ReadsFile path.now bytes.items (system_state session.old) (system_state session.new)) }
 {
     let reader = session.open(alloc, path, OpenFlags::READ)?;
@@ -109,7 +109,7 @@ pub fn read_file<D: BlockDevice>(
 /// Proves that each erase of a device in memory meets the premise about erases. Does nothing at run
 /// time.
 pub fn memory_erases_cleanly(session: &Session<RamDevice>)
-    ensures { (from : SystemState) → LivesOn from (system_state session.now) → AllCallsSince ErasesCleanly from.calls (system_state session.now).calls }
+    ensures { (from : SystemState) → IsReachableByCalls from (system_state session.now) → AllCallsSince ErasesCleanly from.calls (system_state session.now).calls }
 {
     lemma_ram_premises();
     let _ = session.device();

@@ -4,11 +4,11 @@ ghost use Rattle.std.specs.Prelude.{◌⊎◌};
 ghost use Rattle.lfs_model.specs.format.Disk.{Disk};
 ghost use Rattle.lfs_model.specs.session.Run.{SystemState};
 ghost use Rattle.lfs_model.specs.crash.RepeatedPowerLoss.{LeftBetween};
-ghost use Rattle.lfs_fs.specs.Starts.{LivesOn};
-ghost use Rattle.saved_files.specs.Working.{WorksOn};
+ghost use Rattle.lfs_fs.specs.Starts.{IsReachableByCalls};
+ghost use Rattle.saved_files.specs.Working.{KeepsWorkingBetween};
 
 /// Proves that a power loss between two states of a session is before or after any state between
 /// them, if the session answered each operation until then and wasn't remounted.
-pub fn power_loss_is_in_one_part()
-    ensures { (a b c : SystemState) (left : Disk) → WorksOn a b → LivesOn b c → LeftBetween a c left → LeftBetween a b left ⊎ LeftBetween b c left }
+pub fn power_loss_interrupts_one_call()
+    ensures { (a b c : SystemState) (left : Disk) → KeepsWorkingBetween a b → IsReachableByCalls b c → LeftBetween a c left → LeftBetween a b left ⊎ LeftBetween b c left }
 {}

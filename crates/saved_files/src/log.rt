@@ -2,14 +2,14 @@
 
 ghost use Rattle.std.specs.Prelude.{ℕ, ◌≡◌, List, OnOk};
 ghost use Rattle.lfs_model.specs.format.Disk.{Disk};
-ghost use Rattle.lfs_model.specs.crash.RepeatedPowerLoss.{MeetsRunPremises, LeftBetween};
+ghost use Rattle.lfs_model.specs.crash.RepeatedPowerLoss.{MeetsCrashSafetyPremises, LeftBetween};
 ghost use Rattle.lfs_model.specs.session.Session.{Session as SessionState};
 ghost use Rattle.lfs_model.specs.session.Run.{SystemState};
 ghost use Rattle.lfs_model.specs.session.State.{Healthy};
 ghost use Rattle.lfs_fs.specs.SessionView.{system_state};
-ghost use Rattle.lfs_model.specs.crash.LifeTrees.{StartsSafely};
-ghost use Rattle.saved_files.specs.Working.{SurvivesWith};
-ghost use Rattle.saved_files.specs.Log.{AreAppends, AreCutSessions, HasBeginning, HasBeginnings, IsAppend, IsDoneAppend, log_in};
+ghost use Rattle.lfs_model.specs.crash.LifeTrees.{HasMountableTree};
+ghost use Rattle.saved_files.specs.Working.{LossLeavesTreeWith};
+ghost use Rattle.saved_files.specs.Log.{AreSequentialAppends, AreInterruptedSessions, HasPrefixOfEntries, HasPrefixPerSession, IsCrashSafeAppend, IsCompletedAppend, log_in};
 
 use crate::files::{appending_flags, write_file};
 use lfs_device::{BlockDevice, Error};
@@ -27,8 +27,8 @@ pub fn append_to_log<D: BlockDevice>(
     alloc: Global,
     entry: &[u8],
 ) -> Result<(), Error>
-    ensures append { IsAppend (system_state session.old) entry.now (system_state session.new) }
-    ensures done { OnOk result (IsDoneAppend (system_state session.old) entry.now (system_state session.new)) }
+    ensures append { IsCrashSafeAppend (system_state session.old) entry.now (system_state session.new) }
+    ensures done { OnOk result (IsCompletedAppend (system_state session.old) entry.now (system_state session.new)) }
 {
     write_file(session, alloc, b"/log", appending_flags(), entry)?;
     Ok(())
@@ -37,8 +37,8 @@ pub fn append_to_log<D: BlockDevice>(
 /// Proves what a log contains after a power loss in each of several sessions: the first few entries
 /// of each session, and never a part of an entry.
 pub fn log_survives_any_losses()
-    ensures once { (from : SystemState) (entries : List (List ℕ)) (to : SystemState) (s : SessionState) → AreAppends from entries to → from.state ≡ Healthy s
-        → SurvivesWith (λ tree. HasBeginning (log_in s.tree) entries (log_in tree)) from to }
-    ensures again { (disk left : Disk) (old : List ℕ) (sessions : List (List (List ℕ))) → StartsSafely (λ tree. log_in tree ≡ old) disk → AreCutSessions disk sessions left
-        → StartsSafely (λ tree. HasBeginnings old sessions (log_in tree)) left }
+    ensures once { (from : SystemState) (entries : List (List ℕ)) (to : SystemState) (s : SessionState) → AreSequentialAppends from entries to → from.state ≡ Healthy s
+        → LossLeavesTreeWith (λ tree. HasPrefixOfEntries (log_in s.tree) entries (log_in tree)) from to }
+    ensures again { (disk left : Disk) (old : List ℕ) (sessions : List (List (List ℕ))) → HasMountableTree (λ tree. log_in tree ≡ old) disk → AreInterruptedSessions disk sessions left
+        → HasMountableTree (λ tree. HasPrefixPerSession old sessions (log_in tree)) left }
 {}

@@ -5,9 +5,9 @@ ghost use Rattle.lfs_model.specs.format.Disk.{Disk};
 ghost use Rattle.lfs_model.specs.session.Session.{Session as SessionState};
 ghost use Rattle.lfs_model.specs.session.State.{Healthy};
 ghost use Rattle.lfs_fs.specs.SessionView.{system_state};
-ghost use Rattle.lfs_fs.specs.Starts.{LivesOn};
-ghost use Rattle.lfs_model.specs.crash.LifeTrees.{StartsSafely};
-ghost use Rattle.saved_files.specs.Settings.{AreCutSaves, IsFirstSave, IsOneOf, SavesSettings, SurvivesSave, settings_in};
+ghost use Rattle.lfs_fs.specs.Starts.{IsReachableByCalls};
+ghost use Rattle.lfs_model.specs.crash.LifeTrees.{HasMountableTree};
+ghost use Rattle.saved_files.specs.Settings.{AreInterruptedSaves, FirstSaveSurvivesLoss, IsOneOfSettings, SavesSettings, SaveSurvivesPowerLoss, settings_in};
 
 use crate::files::{memory_erases_cleanly, read_file, saving_flags, write_file};
 use lfs_device::{BlockDevice, Error, RamDevice};
@@ -25,8 +25,8 @@ pub fn save_settings<D: BlockDevice>(
     alloc: Global,
     bytes: &[u8],
 ) -> Result<(), Error>
-    ensures survives { SurvivesSave (system_state session.old) bytes.now (system_state session.new) }
-    ensures lived { LivesOn (system_state session.old) (system_state session.new) }
+    ensures survives { SaveSurvivesPowerLoss (system_state session.old) bytes.now (system_state session.new) }
+    ensures lived { IsReachableByCalls (system_state session.old) (system_state session.new) }
     ensures saved { OnOk result (SavesSettings (system_state session.old) bytes.now (system_state session.new)) }
 {
     write_file(session, alloc, b"/settings.new", saving_flags(), bytes)?;
@@ -45,7 +45,7 @@ pub fn format_and_save(
     device: RamDevice,
     bytes: &[u8],
 ) -> Result<Session<RamDevice>, Error>
-    ensures { IfOk result (λ session. IsFirstSave bytes.now (system_state session)) }
+    ensures { IfOk result (λ session. FirstSaveSurvivesLoss bytes.now (system_state session)) }
 {
     let mut session = match format(alloc, device) {
         Ok(session) => session,
@@ -59,8 +59,8 @@ pub fn format_and_save(
 /// Proves that settings survive a power loss in each of several saves. The next start finds the
 /// settings from before the first save, or those of one of the saves.
 pub fn settings_survive_any_losses()
-    ensures { (disk left : Disk) (old : Option (List ℕ)) (saves : List (List ℕ)) → StartsSafely (λ tree. settings_in tree ≡ old) disk → AreCutSaves disk saves left
-        → StartsSafely (λ tree. (settings_in tree ≡ old) ⊎ IsOneOf saves (settings_in tree)) left }
+    ensures { (disk left : Disk) (old : Option (List ℕ)) (saves : List (List ℕ)) → HasMountableTree (λ tree. settings_in tree ≡ old) disk → AreInterruptedSaves disk saves left
+        → HasMountableTree (λ tree. (settings_in tree ≡ old) ⊎ IsOneOfSettings saves (settings_in tree)) left }
 {}
 
 /// Returns all bytes of the settings.

@@ -7,7 +7,7 @@ use Rattle.lfs_model.specs.format.Thread.{Pair, is_hard_tail, root_address}
 use Rattle.lfs_model.specs.tree.Tree.{Path, address_at_path}
 use Rattle.lfs_model.specs.format.Names.{Name, same_name}
 use Rattle.lfs_model.specs.session.TreeEdits.{parent_path, last_name}
-use Rattle.lfs_model.specs.tree.Shown.{all_entries, all_unmoved_slots, struct_blocks, LeadsTo}
+use Rattle.lfs_model.specs.tree.Shown.{all_entries, all_unmoved_slots, struct_blocks, IsDirectoryAtPath}
 use Rattle.lfs_model.specs.session.History.{CallEvent, read_count}
 use Rattle.lfs_model.specs.session.Operations as ops
 use Rattle.lfs_model.specs.session.Operations.{Operation, Refusal, BadFile, Invalid, ReadOnly, Failed}
@@ -31,9 +31,9 @@ directory_pairs (p ∷ ps) at = if same_pair p.at at then tail_pairs p ps else d
 -- ---- blocks
 
 -- The path of the open file, if there is one.
-abbrev pub path_if_open : Option OpenFile → List Path
-path_if_open None = []
-path_if_open (Some file) = file_path file ∷ []
+abbrev pub open_file_paths : Option OpenFile → List Path
+open_file_paths None = []
+open_file_paths (Some file) = file_path file ∷ []
 
 -- The paths whose entries an operation may change.
 abbrev pub changed_paths : Session → Operation → List Path
@@ -43,8 +43,8 @@ changed_paths s (ops.Remove path) = path_or_root path ∷ []
 changed_paths s (ops.Rename old new) = path_or_root old ∷ path_or_root new ∷ []
 changed_paths s (ops.SetAttr path kind bytes) = path_or_root path ∷ []
 changed_paths s (ops.RemoveAttr path kind) = path_or_root path ∷ []
-changed_paths s (ops.Sync fd) = path_if_open (file_numbered s.files fd)
-changed_paths s (ops.Close fd) = path_if_open (file_numbered s.files fd)
+changed_paths s (ops.Sync fd) = open_file_paths (file_numbered s.files fd)
+changed_paths s (ops.Close fd) = open_file_paths (file_numbered s.files fd)
 changed_paths s _ = []
 
 -- The slot is an entry with this name. A superblock isn't an entry.
@@ -52,8 +52,8 @@ abbrev pub IsEntryNamed : Name → Slot → Type 0
 IsEntryNamed name s = (is_superblock s ≡ false) × (same_name name s.name ≡ true)
 
 -- The pair holds the entry of the path.
-abbrev pub HasPathSlot : List Pair → Pair → Path → Type 0
-HasPathSlot ps p path = (at : ℕ × ℕ) × (LeadsTo ps (parent_path path) at × Contains (directory_pairs ps at) p
+abbrev pub HoldsSlotOfPath : List Pair → Pair → Path → Type 0
+HoldsSlotOfPath ps p path = (at : ℕ × ℕ) × (IsDirectoryAtPath ps (parent_path path) at × Contains (directory_pairs ps at) p
     × Any (IsEntryNamed (last_name path)) p.content.slots)
 
 -- Both blocks of the pair keep their bytes.
@@ -62,9 +62,9 @@ KeepsPairBytes disk new p = (disk_block new p.at.0 ≡ disk_block disk p.at.0) �
 
 -- Every block of a file's list keeps its bytes. So do both blocks of a pair that is among the pairs
 -- before and after the operation, unless it holds an entry that the operation may change.
-pub record KeepsOthers (disk : Disk) (ps : List Pair) (s : Session) (op : Operation) (new : Disk) (qs : List Pair) : Type 0 where
+pub record KeepsUnrelatedBlocks (disk : Disk) (ps : List Pair) (s : Session) (op : Operation) (new : Disk) (qs : List Pair) : Type 0 where
   pub files : All (λ t. All (λ b. disk_block new b ≡ disk_block disk b) (struct_blocks disk t.struct)) (all_unmoved_slots ps)
-  pub pairs : (p : Pair) → Contains ps p → Contains qs p → (Any (HasPathSlot ps p) (changed_paths s op) → ⊥) → KeepsPairBytes disk new p
+  pub pairs : (p : Pair) → Contains ps p → Contains qs p → (Any (HoldsSlotOfPath ps p) (changed_paths s op) → ⊥) → KeepsPairBytes disk new p
 
 -- ---- reads
 
@@ -96,15 +96,15 @@ directory_pair_count ps path = count (address_at_path (all_entries ps) (root_add
     count (Some at) = length (directory_pairs ps at)
 
 -- A look-up makes at most one read for each pair of the directories that it searches.
-abbrev pub ReadsEachOnce : List Pair → Operation → List CallEvent → Type 0
-ReadsEachOnce ps op calls = is_look_up op ≡ true → read_count calls ≤ sum_by (directory_pair_count ps) (searched_directories op)
+abbrev pub ReadsEachPairOnce : List Pair → Operation → List CallEvent → Type 0
+ReadsEachPairOnce ps op calls = is_look_up op ≡ true → read_count calls ≤ sum_by (directory_pair_count ps) (searched_directories op)
 
 -- Whether the session answers the operation from its state, without the device.
-abbrev pub asks_session : Operation → Bool
-asks_session ops.AskGstate = true
-asks_session (ops.IsUsed block) = true
-asks_session ops.UsedCount = true
-asks_session _ = false
+abbrev pub is_session_query : Operation → Bool
+is_session_query ops.AskGstate = true
+is_session_query (ops.IsUsed block) = true
+is_session_query ops.UsedCount = true
+is_session_query _ = false
 
 -- The operation `op` searches only directories that the status query `before` has just searched.
 -- These are at most eight, of one pair each.

@@ -6,7 +6,7 @@ use Rattle.lfs_model.specs.session.Session.{Session, DiskSummary}
 use Rattle.lfs_model.specs.session.Effects.{operation_effect}
 use Rattle.lfs_model.specs.session.State.{HasFailed, Healthy}
 use Rattle.lfs_model.specs.session.Run.{SystemState, IsReply}
-use Rattle.lfs_model.specs.session.Headline.{session_after, HasDiskTree, IsRecoveredDisk, is_query, IsFreshReply, IsReaderReply}
+use Rattle.lfs_model.specs.session.Headline.{session_after, HasDiskTree, IsRecoveredDisk, is_query, IsReplyAfterMount, IsReaderReply}
 use Rattle.lfs_model.specs.tree.Profile.{IsWritableDisk}
 use Rattle.lfs_model.specs.crash.Lives.{Turn, all_answered}
 
@@ -26,22 +26,22 @@ session_after_turns around s (turn ∷ turns) = session_after_turns around (sess
 
 -- The reply is the one defined for the operation on this disk. With None, an error ended the
 -- operation, and the session has failed.
-abbrev pub IsAnswer : Option Reply → SystemState → Operation → SystemState → Type 0
-IsAnswer None from op to = to.state ≡ HasFailed
-IsAnswer (Some reply) from op to = IsReply from.disk to.disk.order from.state op reply to.state
+abbrev pub IsExpectedReply : Option Reply → SystemState → Operation → SystemState → Type 0
+IsExpectedReply None from op to = to.state ≡ HasFailed
+IsExpectedReply (Some reply) from op to = IsReply from.disk to.disk.order from.state op reply to.state
 
 -- The turns lead from one state to the other, each with the reply defined for it.
 abbrev pub AreAnswers : SystemState → List Turn → SystemState → Type 0
 AreAnswers from [] to = from ≡ to
-AreAnswers from (turn ∷ turns) to = IsAnswer turn.reply from turn.op turn.to × AreAnswers turn.to turns to
+AreAnswers from (turn ∷ turns) to = IsExpectedReply turn.reply from turn.op turn.to × AreAnswers turn.to turns to
 
 -- The session is healthy, and has the tree that its disk shows. It answers queries about entries,
 -- attributes, used blocks and the global state as a fresh mount would. An open reader returns the
 -- bytes on the disk.
 pub record AnswersAsDisk (at : SystemState) : Type 0 where
   pub shows : HasDiskTree at
-  pub questions : (to : SystemState) (op : Operation) (reply : Reply) → is_query op ≡ true → IsAnswer (Some reply) at op to → IsFreshReply at op reply
-  pub readers : (to : SystemState) (fd count : ℕ) (reply : Reply) → IsAnswer (Some reply) at (ops.Read fd count) to → IsReaderReply at fd count reply
+  pub questions : (to : SystemState) (op : Operation) (reply : Reply) → is_query op ≡ true → IsExpectedReply (Some reply) at op to → IsReplyAfterMount at op reply
+  pub readers : (to : SystemState) (fd count : ℕ) (reply : Reply) → IsExpectedReply (Some reply) at (ops.Read fd count) to → IsReaderReply at fd count reply
 
 -- The session was healthy when the life began, and every turn was answered.
 pub record WorksAllAlong (from : SystemState) (turns : List Turn) (s : Session) : Type 0 where

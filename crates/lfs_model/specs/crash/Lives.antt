@@ -50,15 +50,15 @@ is_last [] = true
 is_last (turn ∷ turns) = false
 
 -- Whether no turn failed, except perhaps the last one.
-abbrev pub fails_last : List Turn → Bool
-fails_last [] = true
-fails_last (turn ∷ turns) = (is_some turn.reply || is_last turns) && fails_last turns
+abbrev pub only_last_may_fail : List Turn → Bool
+only_last_may_fail [] = true
+only_last_may_fail (turn ∷ turns) = (is_some turn.reply || is_last turns) && only_last_may_fail turns
 
 -- In a failed turn that isn't the last one, each failed call left a disk that a power loss in it
 -- might have left.
-abbrev pub FailLikeLossInside : SystemState → List Turn → Type 0
-FailLikeLossInside from [] = Unit {0}
-FailLikeLossInside from (turn ∷ turns) = (turn.reply ≡ None → turns ≢ [] → AllCallsSince FailsLikeLoss from.calls turn.to.calls) × FailLikeLossInside turn.to turns
+abbrev pub FailLikeLossBeforeLast : SystemState → List Turn → Type 0
+FailLikeLossBeforeLast from [] = Unit {0}
+FailLikeLossBeforeLast from (turn ∷ turns) = (turn.reply ≡ None → turns ≢ [] → AllCallsSince FailsLikeLoss from.calls turn.to.calls) × FailLikeLossBeforeLast turn.to turns
 
 -- ---- runs
 
@@ -73,7 +73,7 @@ pub record IsLifeOfRun (from : SystemState) (operations : List Operation) (repli
 -- the other operations weren't attempted.
 pub record IsRunInTurns (from : SystemState) (operations : List Operation) (turns : List Turn) (to : SystemState) : Type 0 where
   pub lived : IsLife from turns to
-  pub ends : fails_last turns ≡ true
+  pub ends : only_last_may_fail turns ≡ true
   pub others : List Operation
   pub did : operations ≡ map (λ (turn : Turn). turn.op) turns ++ others
   pub whole : all_answered turns ≡ true → others ≡ []

@@ -5,14 +5,14 @@ use Rattle.lfs_model.specs.session.Operations.{Operation, Reply}
 use Rattle.lfs_model.specs.session.Run.{SystemState, IsStep}
 use Rattle.lfs_model.specs.crash.Failure.{OperationFails}
 use Rattle.lfs_model.specs.crash.PowerLoss.{SurvivesPowerLoss}
-use Rattle.lfs_model.specs.crash.ReadBounds.{SparesAndBoundsReads, ReadsOnceAlways, accepted_operation}
+use Rattle.lfs_model.specs.crash.ReadBounds.{KeepsBlocksBoundsReads, AlwaysReadsPairsOnce, accepted_operation}
 
 -- The operation was accepted or refused, with this reply. The operation before it is `before`, if
 -- that was accepted.
 pub record IsPerformed (before : Option Operation) (from : SystemState) (op : Operation) (reply : Reply) (to : SystemState) : Type 0 where
   pub turn : IsStep from op reply to
   pub survives_loss : SurvivesPowerLoss from op to
-  pub read_bounds : SparesAndBoundsReads before from op turn.calls to
+  pub read_bounds : KeepsBlocksBoundsReads before from op turn.calls to
 
 -- The operations were performed in order, with these replies.
 abbrev pub ArePerformed : Option Operation → SystemState → List Operation → List Reply → SystemState → Type 0
@@ -33,7 +33,7 @@ pub record FailsDuringRun (from : SystemState) (operations : List Operation) (to
   pub performed : ArePerformed None from done replies at
   pub fails : OperationFails at next to
   pub survives_loss : SurvivesPowerLoss at next to
-  pub few : ReadsOnceAlways at next to
+  pub few : AlwaysReadsPairsOnce at next to
 
 -- All operations were performed, or the session failed in one of them.
 abbrev pub IsRun : SystemState → List Operation → SystemState → Type 0

@@ -10,7 +10,7 @@ use Rattle.lfs_model.specs.tree.Shown.{disk_tree}
 use Rattle.lfs_model.specs.session.Operations.{Operation}
 use Rattle.lfs_model.specs.session.Session.{Session, DiskSummary}
 use Rattle.lfs_model.specs.session.Effects.{operation_result}
-use Rattle.lfs_model.specs.session.State.{IsSummary, Healthy}
+use Rattle.lfs_model.specs.session.State.{IsDiskSummary, Healthy}
 use Rattle.lfs_model.specs.session.Run.{SystemState}
 use Rattle.lfs_model.specs.session.History.{CallEvent, AllCallsSince, HoldsAtLosses}
 use Rattle.lfs_model.specs.crash.Stops.{LeftByLoss, ErasesCleanly}
@@ -46,7 +46,7 @@ pub record IsHealthySession (at : SystemState) (s : Session) (ps : List Pair) (a
   pub healthy : at.state ≡ Healthy s
   pub accepted : IsAccepted at.disk ps
   pub writable : IsWritable at.disk ps
-  pub surrounds : IsSummary at.disk ps around
+  pub surrounds : IsDiskSummary at.disk ps around
 
 -- A power loss in any call of the operation, if the session was healthy, leaves a disk with the
 -- tree from before the operation or the one from after it.

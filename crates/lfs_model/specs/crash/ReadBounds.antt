@@ -7,7 +7,7 @@ use Rattle.lfs_model.specs.session.History.{CallEvent, read_count}
 use Rattle.lfs_model.specs.session.Operations.{Operation, Reply}
 use Rattle.lfs_model.specs.session.Session.{Session}
 use Rattle.lfs_model.specs.session.State.{Healthy}
-use Rattle.lfs_model.specs.crash.Frame.{KeepsOthers, asks_session, ReadsEachOnce, SearchesSameDirectories}
+use Rattle.lfs_model.specs.crash.Frame.{KeepsUnrelatedBlocks, is_session_query, ReadsEachPairOnce, SearchesSameDirectories}
 use Rattle.lfs_model.specs.session.Run.{SystemState, is_refusal}
 
 -- The operation reads nothing if `before` was a status query that searched the same directories.
@@ -17,17 +17,17 @@ RepeatReadsNothing ps (Some before) op calls = SearchesSameDirectories ps before
 
 -- The operation leaves other blocks unchanged and makes no more reads than it may. The operation
 -- before it is `before`, if that was accepted.
-pub record SparesAndBoundsReads (before : Option Operation) (from : SystemState) (op : Operation) (calls : List CallEvent) (to : SystemState) : Type 0 where
+pub record KeepsBlocksBoundsReads (before : Option Operation) (from : SystemState) (op : Operation) (calls : List CallEvent) (to : SystemState) : Type 0 where
   pub alone : (s : Session) → from.state ≡ Healthy s → (ps qs : List Pair) → IsAccepted from.disk ps → IsAccepted to.disk qs → pairs_gstate ps ≡ zero_gstate
-      → KeepsOthers from.disk ps s op to.disk qs
-  pub asked : asks_session op ≡ true → calls ≡ []
-  pub few : (s : Session) → from.state ≡ Healthy s → (ps : List Pair) → IsAccepted from.disk ps → ReadsEachOnce ps op calls
+      → KeepsUnrelatedBlocks from.disk ps s op to.disk qs
+  pub asked : is_session_query op ≡ true → calls ≡ []
+  pub few : (s : Session) → from.state ≡ Healthy s → (ps : List Pair) → IsAccepted from.disk ps → ReadsEachPairOnce ps op calls
   pub kept : (s : Session) → from.state ≡ Healthy s → (ps : List Pair) → IsAccepted from.disk ps → RepeatReadsNothing ps before op calls
 
 -- A look-up makes at most one read for each pair of the directories that it searches, even if it
 -- ends with an error.
-abbrev pub ReadsOnceAlways : SystemState → Operation → SystemState → Type 0
-ReadsOnceAlways from op to = (s : Session) → from.state ≡ Healthy s → (ps : List Pair) → IsAccepted from.disk ps → (calls : List CallEvent) → to.calls ≡ calls ++ from.calls → ReadsEachOnce ps op calls
+abbrev pub AlwaysReadsPairsOnce : SystemState → Operation → SystemState → Type 0
+AlwaysReadsPairsOnce from op to = (s : Session) → from.state ≡ Healthy s → (ps : List Pair) → IsAccepted from.disk ps → (calls : List CallEvent) → to.calls ≡ calls ++ from.calls → ReadsEachPairOnce ps op calls
 
 -- The operation, or None if the reply is a refusal.
 abbrev pub accepted_operation : Operation → Reply → Option Operation

@@ -1,7 +1,7 @@
 -- Any number of power losses, one after another, in the lives of sessions.
 use Rattle.std.specs.Prelude.{◌≡◌, ◌⊎◌, false, List, [], ◌∷◌, ◌++◌, Some, All, Any}
 use Rattle.lfs_model.specs.format.Blocks.{Blocks}
-use Rattle.lfs_model.specs.format.Disk.{Disk, ordered_disk}
+use Rattle.lfs_model.specs.format.Disk.{Disk, disk_with_order}
 use Rattle.lfs_model.specs.declared.order.NameOrder.{NameOrder}
 use Rattle.lfs_model.specs.format.Thread.{Pair}
 use Rattle.lfs_model.specs.tree.Tree.{Tree}
@@ -18,13 +18,13 @@ use Rattle.lfs_model.specs.session.State.{Healthy, is_remount, mounted_session}
 use Rattle.lfs_model.specs.session.Recovery.{IsRecovered}
 use Rattle.lfs_model.specs.session.Run.{SystemState, ShowsTree, IsTreeStep}
 use Rattle.lfs_model.specs.session.Headline.{HasDiskTree}
-use Rattle.lfs_model.specs.crash.Lives.{Turn, IsTurn, IsLife, FailLikeLossInside}
+use Rattle.lfs_model.specs.crash.Lives.{Turn, IsTurn, IsLife, FailLikeLossBeforeLast}
 use Rattle.lfs_model.specs.crash.PowerLoss.{with_blocks, FailsLikeLoss, IsHealthySession}
 
 -- ---- a mount and a recovery
 
 -- A session was just mounted from the disk.
-pub record IsMounted (disk : Disk) (begin : SystemState) : Type 0 where
+pub record IsJustMounted (disk : Disk) (begin : SystemState) : Type 0 where
   pub on : begin.disk ≡ disk
   pub tree : Tree
   pub shows : ShowsTree disk (Some tree)
@@ -50,8 +50,8 @@ pub record KeepsTree (tree : Tree) (disk : Disk) : Type 0 where
   pub accepted : IsAccepted disk pairs
   pub writable : IsWritable disk pairs
   pub shows : disk_tree disk pairs ≡ tree
-  pub mounts : (other : Disk) (begin : SystemState) → SameBytes disk other → IsMounted other begin → begin.state ≡ Healthy (mounted_session tree)
-  pub recovers : (other : Disk) (begin to : SystemState) (reply : Reply) → SameBytes disk other → IsMounted other begin → IsTreeStep begin ops.Recover reply to
+  pub mounts : (other : Disk) (begin : SystemState) → SameBytes disk other → IsJustMounted other begin → begin.state ≡ Healthy (mounted_session tree)
+  pub recovers : (other : Disk) (begin to : SystemState) (reply : Reply) → SameBytes disk other → IsJustMounted other begin → IsTreeStep begin ops.Recover reply to
       → RecoversTree tree reply to.disk
 
 -- ---- a power loss
@@ -111,19 +111,19 @@ pub record SurvivesLossInLife (from : SystemState) (turns : List Turn) (to : Sys
   pub order : NameOrder
   pub stays : All (λ turn. is_remount turn.op ≡ false) turns → order ≡ left.order
   pub tree : Tree
-  pub cut : LossInLife from turns to (ordered_disk order left) tree
-  pub safe : KeepsTree tree (ordered_disk order left)
+  pub cut : LossInLife from turns to (disk_with_order order left) tree
+  pub safe : KeepsTree tree (disk_with_order order left)
 
 -- A session mounts the disk and has a life, for example a recovery. Then power is lost, which
 -- leaves the disk `left`.
 pub record LeftByLife (disk left : Disk) : Type 0 where
   pub begin : SystemState
   pub same : SameBytes disk begin.disk
-  pub mounts : IsMounted begin.disk begin
+  pub mounts : IsJustMounted begin.disk begin
   pub turns : List Turn
   pub to : SystemState
   pub lived : IsLife begin turns to
-  pub failed : FailLikeLossInside begin turns
+  pub failed : FailLikeLossBeforeLast begin turns
   pub cleanly : AllCallsSince ErasesCleanly begin.calls to.calls
   pub stop : LeftBetween begin to left
 
@@ -139,7 +139,7 @@ SurvivesLosses disk (left ∷ others) losses = SurvivesLossInLife losses.0.begin
 
 -- The session has its disk's tree, the disk is in the writing profile, and every erase of the run
 -- leaves no log, or one with the old revision count.
-pub record MeetsRunPremises (from to : SystemState) : Type 0 where
+pub record MeetsCrashSafetyPremises (from to : SystemState) : Type 0 where
   pub agrees : HasDiskTree from
   pub profile : IsWritableDisk from.disk
   pub cleanly : AllCallsSince ErasesCleanly from.calls to.calls

@@ -1,6 +1,6 @@
 -- The disk of a device between its calls.
 use Rattle.std.specs.Prelude.{◌≡◌}
-use Rattle.lfs_model.specs.session.History.{LeftByLatest}
+use Rattle.lfs_model.specs.session.History.{LeftByLatestCall}
 use Rattle.lfs_model.specs.crash.Conformance.{CallsConform}
 use Rattle.lfs_model.specs.crash.PowerLoss.{with_blocks}
 use Rattle.lfs_model.specs.session.Run.{SystemState}
@@ -10,5 +10,5 @@ use Rattle.lfs_model.specs.session.Run.{SystemState}
 pub record SameConformingDevice (from to : SystemState) : Type 0 where
   pub stays : to.calls ≡ from.calls → to.disk ≡ from.disk
   pub same : to.disk ≡ with_blocks to.disk.blocks from.disk
-  pub newest : LeftByLatest to.calls to.disk.blocks
+  pub newest : LeftByLatestCall to.calls to.disk.blocks
   pub conforms : CallsConform to.calls

@@ -33,15 +33,15 @@ MayEraseLeave old new = SameRevision new old ⊎ HasNoLog new
 
 -- A power loss in the call may leave the blocks `disk`: a read or a blank check changes nothing,
 -- and a program or an erase changes only its block, as `MayProgramLeave` or `MayEraseLeave` allows.
-abbrev pub may_stop_leave : DeviceCall → Blocks → Blocks → Type 0
-may_stop_leave (Read block off len) before disk = disk ≡ before
-may_stop_leave (Program block off bytes) before disk = SameExcept block before disk × MayProgramLeave off bytes (block_bytes before block) (block_bytes disk block)
-may_stop_leave (Erase block) before disk = SameExcept block before disk × MayEraseLeave (block_bytes before block) (block_bytes disk block)
-may_stop_leave (Blank block off len) before disk = disk ≡ before
+abbrev pub power_loss_may_leave : DeviceCall → Blocks → Blocks → Type 0
+power_loss_may_leave (Read block off len) before disk = disk ≡ before
+power_loss_may_leave (Program block off bytes) before disk = SameExcept block before disk × MayProgramLeave off bytes (block_bytes before block) (block_bytes disk block)
+power_loss_may_leave (Erase block) before disk = SameExcept block before disk × MayEraseLeave (block_bytes before block) (block_bytes disk block)
+power_loss_may_leave (Blank block off len) before disk = disk ≡ before
 
 -- A power loss in the call `e` may leave the blocks `disk`.
 abbrev pub LeftByLoss : CallEvent → Blocks → Type 0
-LeftByLoss e disk = may_stop_leave e.call e.before disk
+LeftByLoss e disk = power_loss_may_leave e.call e.before disk
 
 -- A successful erase leaves a block without a log, or with a log that has the revision count of the
 -- old one. Devices may behave otherwise, since an erase may leave any bytes, so each guarantee

@@ -23,27 +23,27 @@ abbrev pub failed_read : CallEvent
 failed_read = call_event (Read 1 0 2) example_after_program example_after_program true
 
 -- The histories after the erase, after the program, and after the read.
-abbrev pub after_erase : List CallEvent
-after_erase = erase_event ∷ []
+abbrev pub history_after_erase : List CallEvent
+history_after_erase = erase_event ∷ []
 
-abbrev pub after_program : List CallEvent
-after_program = program_event ∷ erase_event ∷ []
+abbrev pub history_after_program : List CallEvent
+history_after_program = program_event ∷ erase_event ∷ []
 
 abbrev pub after_read : List CallEvent
 after_read = failed_read ∷ program_event ∷ erase_event ∷ []
 
 -- The device says that the last two bytes of block 1 are blank.
-abbrev pub blank_event : CallEvent
-blank_event = call_event (Blank 1 2 2) example_after_program example_after_program false
+abbrev pub blank_check_event : CallEvent
+blank_check_event = call_event (Blank 1 2 2) example_after_program example_after_program false
 
 -- A blank check that fails.
-abbrev pub failed_blank : CallEvent
-failed_blank = call_event (Blank 1 2 2) example_after_program example_after_program true
+abbrev pub failed_blank_check : CallEvent
+failed_blank_check = call_event (Blank 1 2 2) example_after_program example_after_program true
 
 -- Calls that don't conform: a program that changes nothing, and an erase that changes another
 -- block.
-abbrev pub lost_program : CallEvent
-lost_program = call_event (Program 0 0 (9 ∷ 9 ∷ [])) example_after_erase example_after_erase false
+abbrev pub ineffective_program : CallEvent
+ineffective_program = call_event (Program 0 0 (9 ∷ 9 ∷ [])) example_after_erase example_after_erase false
 
-abbrev pub other_erase : CallEvent
-other_erase = call_event (Erase 1) example_before_erase example_after_erase false
+abbrev pub wrong_block_erase : CallEvent
+wrong_block_erase = call_event (Erase 1) example_before_erase example_after_erase false

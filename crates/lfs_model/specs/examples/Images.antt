@@ -6,11 +6,11 @@ use Rattle.byteorder.specs.Endian.{little_bytes}
 use Rattle.lfs_model.specs.declared.order.NameOrder.TheVariants.{ShorterFirst}
 use Rattle.lfs_model.specs.declared.limits.AcceptedVersions.{AcceptedVersions}
 use Rattle.lfs_model.specs.format.Blocks.{Blocks}
-use Rattle.lfs_model.specs.format.Disk.{Disk, default_profile, size_limit}
+use Rattle.lfs_model.specs.format.Disk.{Disk, default_profile, file_size_limit}
 use Rattle.lfs_model.specs.format.Slots.{Gstate, zero_gstate}
 use Rattle.lfs_model.specs.format.Log.{LogEntry}
 use Rattle.lfs_model.specs.format.Content.{RawSlot, RawContent}
-use Rattle.lfs_model.specs.format.EntryTypes.{file_name_type, superblock_name_type, inline_type}
+use Rattle.lfs_model.specs.format.EntryTypes.{file_name_type, superblock_name_type, inline_struct_type}
 use Rattle.lfs_model.specs.format.Thread.{Pair}
 use Rattle.lfs_model.specs.tree.Tree.{Path, Node, FileNode, DirectoryNode, Tree}
 use Rattle.lfs_model.specs.session.TreeEdits.{same_path}
@@ -20,7 +20,7 @@ use Rattle.lfs_model.specs.layers.WrittenContent.{log_entry}
 use Rattle.lfs_model.specs.layers.Changes.{ContentChange, Create, Delete, PutStruct, PutAttribute}
 use Rattle.lfs_model.specs.format.Names.{Name}
 use Rattle.lfs_model.specs.tree.Fresh.{superblock_bytes}
-use Rattle.lfs_model.specs.layers.BlockBytes.{unwritten_bytes, block_padded, superblock_entries, checksum_entry, metadata_bytes}
+use Rattle.lfs_model.specs.layers.BlockBytes.{unwritten_bytes, block_padded, superblock_entries, checksum_entry, metadata_block_bytes}
 
 -- The tree with these nodes and no others.
 abbrev pub tree_of_nodes : List (Path × Node) → Tree
@@ -118,8 +118,8 @@ abbrev pub two_commit_image : Disk
 two_commit_image = small_disk_with two_commit_block
 
 -- The block of the small image, but with revision count 2 and a matching checksum.
-abbrev pub later_block : List ℕ
-later_block = block_padded 1024 (2 ∷ take 47 (drop 1 small_commit) ++ 0x78 ∷ 0x33 ∷ 0x6b ∷ 0x73 ∷ [])
+abbrev pub later_revision_block : List ℕ
+later_revision_block = block_padded 1024 (2 ∷ take 47 (drop 1 small_commit) ++ 0x78 ∷ 0x33 ∷ 0x6b ∷ 0x73 ∷ [])
 
 -- The block of the small image, with bit `k` of its checksum inverted.
 abbrev pub bad_checksum_block : ℕ → List ℕ
@@ -155,11 +155,11 @@ shifted_slot_image = large_disk_with (shifted_slot_block ∷ [])
 
 -- The slot of an empty file, as a log has it.
 abbrev pub raw_empty_file : Name → RawSlot
-raw_empty_file name = record { name = Some (file_name_type, name); struct = Some (inline_type, []); attributes = [] }
+raw_empty_file name = record { name = Some (file_name_type, name); struct = Some (inline_struct_type, []); attributes = [] }
 
 -- The slot of the superblock, as a log has it.
 abbrev pub raw_superblock : RawSlot
-raw_superblock = record { name = Some (superblock_name_type, codes "littlefs"); struct = Some (inline_type, superblock_bytes default_profile 4096 16); attributes = [] }
+raw_superblock = record { name = Some (superblock_name_type, codes "littlefs"); struct = Some (inline_struct_type, superblock_bytes default_profile 4096 16); attributes = [] }
 
 -- The content of a pair with these slots, no tail and no delta of the global state.
 abbrev pub slots_content : List RawSlot → RawContent
@@ -168,16 +168,16 @@ slots_content slots = record { slots = slots; tail = None; move = zero_gstate }
 -- The changes that `shifting_commits` make.
 abbrev pub shifting_changes : List ContentChange
 shifting_changes =
-    Create 1 file_name_type (codes "b") ∷ PutStruct 1 inline_type []
-    ∷ Create 1 file_name_type (codes "a") ∷ PutStruct 1 inline_type []
+    Create 1 file_name_type (codes "b") ∷ PutStruct 1 inline_struct_type []
+    ∷ Create 1 file_name_type (codes "a") ∷ PutStruct 1 inline_struct_type []
     ∷ Delete 1
     ∷ PutAttribute 1 0x41 (codes "x")
     ∷ []
 
 -- ---- a file is added over zeros: the tag after the checksum has its top bit inverted
 
-abbrev pub block_over_zeros : List ℕ
-block_over_zeros =
+abbrev pub block_on_zeroed_storage : List ℕ
+block_on_zeroed_storage =
     take 44 large_commit ++  -- revision, name and struct as above
     0x70 ∷ 0x0f ∷ 0xfc ∷ 0xc8 ∷  -- 0x501ffcd0 XOR 0x20100018: a checksum entry of 208 bytes
     0x3a ∷ 0xdc ∷ 0x01 ∷ 0xef ∷ unwritten_bytes 204 ++
@@ -188,18 +188,18 @@ block_over_zeros =
     0xae ∷ 0x92 ∷ 0x72 ∷ 0x5e ∷ unwritten_bytes 235 ++
     replicate 3584 0
 
-abbrev pub image_over_zeros : Disk
-image_over_zeros = record { block_size = 4096; page = 256; order = ShorterFirst; profile = default_profile; blocks = block_over_zeros ∷ replicate 15 (replicate 4096 0) }
+abbrev pub image_on_zeroed_storage : Disk
+image_on_zeroed_storage = record { block_size = 4096; page = 256; order = ShorterFirst; profile = default_profile; blocks = block_on_zeroed_storage ∷ replicate 15 (replicate 4096 0) }
 
 -- ---- other images of 16 blocks, by their entries
 
 -- A block of the root's pair: the superblock, these entries, the checksum `number` and the padding.
 abbrev pub root_block_with : List LogEntry → ℕ → ℕ → List ℕ
-root_block_with entries number padding = metadata_bytes 4096 1 (superblock_entries default_profile 4096 16 ++ entries ++ checksum_entry number padding ∷ [])
+root_block_with entries number padding = metadata_block_bytes 4096 1 (superblock_entries default_profile 4096 16 ++ entries ++ checksum_entry number padding ∷ [])
 
 -- A block of another pair: these entries, the checksum `number` and the padding.
 abbrev pub pair_block_with : List LogEntry → ℕ → ℕ → List ℕ
-pair_block_with entries number padding = metadata_bytes 4096 1 (entries ++ checksum_entry number padding ∷ [])
+pair_block_with entries number padding = metadata_block_bytes 4096 1 (entries ++ checksum_entry number padding ∷ [])
 
 -- The disk with the root in block 0, and these blocks from block 2 on.
 abbrev pub blocks_image : List ℕ → Blocks → Disk
@@ -215,29 +215,29 @@ disk_with_versions versions disk = record disk { profile = record disk.profile {
 
 -- The struct of a superblock with this version, block size and name limit.
 abbrev pub superblock_struct_with : ℕ → ℕ → ℕ → List ℕ
-superblock_struct_with version block_size name_limit = flat_map (little_bytes 4) (version ∷ block_size ∷ 16 ∷ name_limit ∷ size_limit ∷ 1022 ∷ [])
+superblock_struct_with version block_size name_limit = flat_map (little_bytes 4) (version ∷ block_size ∷ 16 ∷ name_limit ∷ file_size_limit ∷ 1022 ∷ [])
 
 abbrev pub superblock_entries_with : List ℕ → List LogEntry
-superblock_entries_with struct = superblock_entry ∷ log_entry inline_type 0 struct ∷ []
+superblock_entries_with struct = superblock_entry ∷ log_entry inline_struct_type 0 struct ∷ []
 
 -- The block of a fresh root with this struct of the superblock, and the checksum `number`.
 abbrev pub root_struct_block : List ℕ → ℕ → List ℕ
-root_struct_block struct number = metadata_bytes 4096 1 (superblock_entries_with struct ++ checksum_entry number 204 ∷ [])
+root_struct_block struct number = metadata_block_bytes 4096 1 (superblock_entries_with struct ++ checksum_entry number 204 ∷ [])
 
 -- ---- a skip list
 
 -- A CTZ skip-list of 2,045 bytes in the blocks 5, 6 and 7. The second pointer of block 7 is
 -- `pointer`.
-abbrev pub three_blocks_with : ℕ → Blocks
-three_blocks_with pointer =
+abbrev pub three_block_list_with : ℕ → Blocks
+three_block_list_with pointer =
     replicate 5 (unwritten_bytes 1024)
     ++ replicate 1024 1
     ∷ (little_bytes 4 5 ++ replicate 1020 2)
     ∷ (little_bytes 4 6 ++ little_bytes 4 pointer ++ replicate 1016 3) ∷ []
 
-abbrev pub three_blocks : Blocks
-three_blocks = three_blocks_with 5
+abbrev pub three_block_list : Blocks
+three_block_list = three_block_list_with 5
 
--- The blocks of `three_blocks`, but with the first pointer of block 7 to block 7 itself.
-abbrev pub endless_list : Blocks
-endless_list = slice_set three_blocks 7 (little_bytes 4 7 ++ little_bytes 4 5 ++ replicate 1016 3)
+-- The blocks of `three_block_list`, but with the first pointer of block 7 to block 7 itself.
+abbrev pub cyclic_list_blocks : Blocks
+cyclic_list_blocks = slice_set three_block_list 7 (little_bytes 4 7 ++ little_bytes 4 5 ++ replicate 1016 3)

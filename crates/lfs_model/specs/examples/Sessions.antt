@@ -13,14 +13,14 @@ abbrev pub writable_summary : ℕ → ℕ → ℕ → ℕ → DiskSummary
 writable_summary block_size page block_count used = record { writable = true; profile = default_profile; block_size = block_size; page = page; block_count = block_count; used = replicate used 0; gstate = zero_gstate }
 
 -- The replies to operations, each given with the number of used blocks before it.
-abbrev pub all_replies : (ℕ → DiskSummary) → Session → List (ℕ × Operation) → List Reply
-all_replies disk s [] = []
-all_replies disk s (step ∷ steps) = (operation_result (disk step.0) s step.1).0 ∷ all_replies disk (operation_result (disk step.0) s step.1).1 steps
+abbrev pub replies_to_operations : (ℕ → DiskSummary) → Session → List (ℕ × Operation) → List Reply
+replies_to_operations disk s [] = []
+replies_to_operations disk s (step ∷ steps) = (operation_result (disk step.0) s step.1).0 ∷ replies_to_operations disk (operation_result (disk step.0) s step.1).1 steps
 
 -- The replies to operations of a session just mounted on a fresh disk, each given with the number
 -- of used blocks before it.
 abbrev pub fresh_replies : ℕ → ℕ → ℕ → List (ℕ × Operation) → List Reply
-fresh_replies block_size page block_count = all_replies (writable_summary block_size page block_count) (mounted_session empty_tree)
+fresh_replies block_size page block_count = replies_to_operations (writable_summary block_size page block_count) (mounted_session empty_tree)
 
 -- The operations, each with the same number of used blocks.
 abbrev pub with_used_count : ℕ → List Operation → List (ℕ × Operation)

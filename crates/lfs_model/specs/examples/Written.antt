@@ -2,7 +2,7 @@
 -- after each operation.
 use Rattle.std.specs.Prelude.{List, [], ◌∷◌, ◌++◌, ℕ, true, false, take, None, codes}
 use Rattle.lfs_model.specs.format.Disk.{Disk, default_profile}
-use Rattle.lfs_model.specs.format.Thread.{Pair, anchor_address}
+use Rattle.lfs_model.specs.format.Thread.{Pair, superblock_pair_address}
 use Rattle.lfs_model.specs.session.History.{CallEvent, Program, call_event}
 use Rattle.lfs_model.specs.session.Operations as ops
 use Rattle.lfs_model.specs.session.Operations.{Operation}
@@ -17,8 +17,8 @@ use Rattle.lfs_model.specs.examples.Sessions.{writable_summary, creating_flags, 
 use Rattle.lfs_model.specs.examples.Runs.{image_after_open, state_after_open, pair_with_tail, example_tail}
 
 -- The session after an operation that isn't refused.
-abbrev pub after_effect : Session → Operation → Session
-after_effect s op = (operation_effect (writable_summary 4096 256 16 2) s op).1
+abbrev pub session_after_effect : Session → Operation → Session
+session_after_effect s op = (operation_effect (writable_summary 4096 256 16 2) s op).1
 
 -- ---- what each operation commits
 
@@ -66,26 +66,26 @@ programming off bytes disk new = call_event (Program 0 off bytes) disk.blocks ne
 -- ---- the session after each
 
 abbrev pub opened_session : Session
-opened_session = after_effect (mounted_session empty_tree) (ops.Open (codes "/b") creating_flags)
+opened_session = session_after_effect (mounted_session empty_tree) (ops.Open (codes "/b") creating_flags)
 
 abbrev pub written_session : Session
-written_session = after_effect opened_session (ops.Write 0 (codes "hi"))
+written_session = session_after_effect opened_session (ops.Write 0 (codes "hi"))
 
 abbrev pub synced_session : Session
-synced_session = after_effect written_session (ops.Sync 0)
+synced_session = session_after_effect written_session (ops.Sync 0)
 
 abbrev pub closed_session : Session
-closed_session = after_effect synced_session (ops.Close 0)
+closed_session = session_after_effect synced_session (ops.Close 0)
 
 abbrev pub renamed_session : Session
-renamed_session = after_effect closed_session (ops.Rename (codes "/b") (codes "/c"))
+renamed_session = session_after_effect closed_session (ops.Rename (codes "/b") (codes "/c"))
 
 abbrev pub removed_session : Session
-removed_session = after_effect renamed_session (ops.Remove (codes "/c"))
+removed_session = session_after_effect renamed_session (ops.Remove (codes "/c"))
 
 -- The session after the closed file `b` is opened again for writing.
 abbrev pub reopened_session : Session
-reopened_session = after_effect closed_session (ops.Open (codes "/b") write_flags)
+reopened_session = session_after_effect closed_session (ops.Open (codes "/b") write_flags)
 
 -- The state after the write, whose bytes are still in memory.
 abbrev pub state_after_write : SystemState
@@ -107,5 +107,5 @@ abbrev pub state_after_remove : SystemState
 state_after_remove = record { disk = image_after_remove; calls = programming 1024 removed_commit image_after_rename image_after_remove ∷ state_after_rename.calls; state = Healthy removed_session }
 
 -- The pairs of a root: one with the superblock, and one without slots.
-abbrev pub root_and_empty : List Pair
-root_and_empty = pair_with_tail anchor_address (superblock_slot default_profile 4096 16 ∷ []) (example_tail true (2, 3)) ∷ pair_with_tail (2, 3) [] None ∷ []
+abbrev pub root_and_empty_pair : List Pair
+root_and_empty_pair = pair_with_tail superblock_pair_address (superblock_slot default_profile 4096 16 ∷ []) (example_tail true (2, 3)) ∷ pair_with_tail (2, 3) [] None ∷ []

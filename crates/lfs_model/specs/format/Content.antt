@@ -7,7 +7,7 @@ use Rattle.lfs_model.specs.format.Tag.{tag_type, tag_id, tag_class, tag_chunk}
 use Rattle.lfs_model.specs.format.Log.{LogEntry, chain_of, block_revision, block_entries}
 use Rattle.lfs_model.specs.format.Disk.{Disk, disk_block}
 use Rattle.lfs_model.specs.format.Slots.{SlotKind, File, Directory, Superblock, Struct, Inline, Ctz, Branch, Attributes, Slot, Tail, Gstate, PairContent, zero_gstate}
-use Rattle.lfs_model.specs.format.EntryTypes.{file_name_type, directory_name_type, directory_type, inline_type, create_tag_type, delete_tag_type, is_attribute_removal, is_known_tag, has_needed_id, decoded_address, entry_tail, decoded_gstate}
+use Rattle.lfs_model.specs.format.EntryTypes.{file_name_type, directory_name_type, directory_struct_type, inline_struct_type, create_tag_type, delete_tag_type, is_attribute_removal, is_known_tag, has_needed_id, decoded_address, entry_tail, decoded_gstate}
 
 -- A slot as a log defines it. Its name and its struct each have a type and bytes, and may be
 -- missing.
@@ -60,17 +60,17 @@ attributes_after e attributes =
     if is_attribute_removal e.tag then attributes_without (tag_chunk e.tag) attributes else attributes_with (tag_chunk e.tag) e.bytes attributes
 
 -- The type and the bytes of an entry, as a slot's name or struct.
-abbrev pub entry_part : LogEntry → Option (ℕ × List ℕ)
-entry_part e = Some (tag_type e.tag, e.bytes)
+abbrev pub entry_type_bytes : LogEntry → Option (ℕ × List ℕ)
+entry_type_bytes e = Some (tag_type e.tag, e.bytes)
 
 -- The slots after an entry of a class below 5, or `None` if the entry isn't allowed at this point.
 abbrev pub slots_after : List RawSlot → LogEntry → Option (List RawSlot)
 slots_after slots e =
-    if tag_class e.tag == 0 then Some (slot_changed_at (λ s. record s { name = entry_part e }) (padded_slots slots (tag_id e.tag)) (tag_id e.tag))
+    if tag_class e.tag == 0 then Some (slot_changed_at (λ s. record s { name = entry_type_bytes e }) (padded_slots slots (tag_id e.tag)) (tag_id e.tag))
     else (if tag_type e.tag == create_tag_type then (if nat_le (tag_id e.tag) (length slots) then Some (insert slots (tag_id e.tag) empty_slot) else None)
     else (if tag_type e.tag == delete_tag_type then (if nat_lt (tag_id e.tag) (length slots) then Some (remove slots (tag_id e.tag)) else None)
     else (if not (is_some (slot_of_id slots (tag_id e.tag)).name) then None
-    else (if tag_class e.tag == 2 then Some (slot_changed_at (λ s. record s { struct = entry_part e }) slots (tag_id e.tag))
+    else (if tag_class e.tag == 2 then Some (slot_changed_at (λ s. record s { struct = entry_type_bytes e }) slots (tag_id e.tag))
     else Some (slot_changed_at (λ s. record s { attributes = attributes_after e s.attributes }) slots (tag_id e.tag))))))
 
 -- The content after the entry `e`, or `None` if the entry isn't allowed at this point.
@@ -102,14 +102,14 @@ is_later a b = nat_lt 0 ((b + 2 ^ 32 - a) % 2 ^ 32) && nat_lt ((b + 2 ^ 32 - a) 
 
 -- The active block of two. If both have a commit, it is `b` if `b` has the later revision count,
 -- else `a`. If only one of them has a commit, it is that one; if neither has one, it is `None`.
-abbrev pub current_of_two : List ℕ → List ℕ → Option (List ℕ)
-current_of_two a b =
+abbrev pub later_committed_block : List ℕ → List ℕ → Option (List ℕ)
+later_committed_block a b =
     if not (has_commit a) then (if has_commit b then Some b else None)
     else (if has_commit b && is_later (block_revision a) (block_revision b) then Some b else Some a)
 
 -- The bytes of the active block of the pair at `at`, if it has a commit.
 abbrev pub current_block : Disk → ℕ × ℕ → Option (List ℕ)
-current_block disk at = current_of_two (disk_block disk at.0) (disk_block disk at.1)
+current_block disk at = later_committed_block (disk_block disk at.0) (disk_block disk at.1)
 
 -- The content of the pair at `at`, whose slots may be incomplete, or `None` if its log is
 -- malformed.
@@ -123,27 +123,27 @@ kind_of_type type = if type == file_name_type then File else (if type == directo
 
 abbrev pub decoded_struct : ℕ → List ℕ → Struct
 decoded_struct type bytes =
-    if type == inline_type then Inline bytes
-    else (if type == directory_type then Branch (decoded_address bytes) else Ctz (little_number 4 bytes) (little_number 4 (drop 4 bytes)))
+    if type == inline_struct_type then Inline bytes
+    else (if type == directory_struct_type then Branch (decoded_address bytes) else Ctz (little_number 4 bytes) (little_number 4 (drop 4 bytes)))
 
 -- The decoded slot, or `None` if its name or its struct is missing.
-abbrev pub complete_slot : RawSlot → Option Slot
-complete_slot s = option_and_then (λ name. option_map (λ struct. record {
+abbrev pub decoded_slot : RawSlot → Option Slot
+decoded_slot s = option_and_then (λ name. option_map (λ struct. record {
   kind = kind_of_type name.0;
   name = name.1;
   struct = decoded_struct struct.0 struct.1;
   attributes = s.attributes;
 }) s.struct) s.name
 
-abbrev pub complete_slots : List RawSlot → Option (List Slot)
-complete_slots [] = Some []
-complete_slots (s ∷ slots) = option_and_then (λ t. option_map (λ ts. t ∷ ts) (complete_slots slots)) (complete_slot s)
+abbrev pub decoded_slots : List RawSlot → Option (List Slot)
+decoded_slots [] = Some []
+decoded_slots (s ∷ slots) = option_and_then (λ t. option_map (λ ts. t ∷ ts) (decoded_slots slots)) (decoded_slot s)
 
 -- The content with decoded slots, or `None` if a slot has no name or no struct.
-abbrev pub complete_content : RawContent → Option PairContent
-complete_content raw = option_map (λ slots. record { slots = slots; tail = raw.tail; move = raw.move }) (complete_slots raw.slots)
+abbrev pub decoded_content : RawContent → Option PairContent
+decoded_content raw = option_map (λ slots. record { slots = slots; tail = raw.tail; move = raw.move }) (decoded_slots raw.slots)
 
 -- The content of the pair at `at`, or `None` if its log is malformed or a slot has no name or no
 -- struct.
 abbrev pub content_at : Disk → ℕ × ℕ → Option PairContent
-content_at disk at = option_and_then complete_content (raw_content disk at)
+content_at disk at = option_and_then decoded_content (raw_content disk at)

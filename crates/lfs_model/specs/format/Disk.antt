@@ -7,7 +7,7 @@ use Rattle.lfs_model.specs.declared.limits.AcceptedVersions.TheVariants.{OnlyTwo
 use Rattle.lfs_model.specs.declared.limits.Profile.{Profile}
 use Rattle.lfs_model.specs.format.Geometry.{IsValidGeometry}
 use Rattle.lfs_model.specs.format.Names.{name_limit}
-use Rattle.lfs_model.specs.format.Tag.{data_limit}
+use Rattle.lfs_model.specs.format.Tag.{tag_data_limit}
 
 pub record Disk : Type 0 where
   pub block_size : ℕ
@@ -25,12 +25,12 @@ abbrev pub disk_block : Disk → ℕ → List ℕ
 disk_block disk b = block_bytes disk.blocks b
 
 -- The disk with `order` as its order of names.
-abbrev pub ordered_disk : NameOrder → Disk → Disk
-ordered_disk order disk = record disk { order = order }
+abbrev pub disk_with_order : NameOrder → Disk → Disk
+disk_with_order order disk = record disk { order = order }
 
 -- A disk whose order of names isn't known yet. Until then, it has littlefs's order, `LongerFirst`.
-abbrev pub plain_disk : ℕ → ℕ → Profile → Blocks → Disk
-plain_disk block_size page profile blocks = record { block_size = block_size; page = page; order = LongerFirst; profile = profile; blocks = blocks }
+abbrev pub longer_first_disk : ℕ → ℕ → Profile → Blocks → Disk
+longer_first_disk block_size page profile blocks = record { block_size = block_size; page = page; order = LongerFirst; profile = profile; blocks = blocks }
 
 -- The disks have the same block size, page size, number of blocks, order of names and profile.
 pub record SameGeometry (disk new : Disk) : Type 0 where
@@ -50,9 +50,9 @@ abbrev pub disk_of_image : ℕ → ℕ → Profile → NameOrder → List ℕ �
 disk_of_image block_size page profile order bytes = record { block_size = block_size; page = page; order = order; profile = profile; blocks = cut block_size (length bytes / block_size) bytes }
 
 -- The size of the largest file that is kept inline, in bytes: an eighth of a block, but at most
--- `inline_max` and `data_limit`.
+-- `inline_max` and `tag_data_limit`.
 abbrev pub inline_limit : Profile → ℕ → ℕ
-inline_limit profile block_size = min profile.inline_max (min (block_size / 8) data_limit)
+inline_limit profile block_size = min profile.inline_max (min (block_size / 8) tag_data_limit)
 
 -- The largest size of a struct in bytes: `inline_limit`, but at least the 8 bytes of a CTZ struct
 -- or a directory struct.
@@ -65,17 +65,17 @@ struct_max profile block_size = max 8 (inline_limit profile block_size)
 abbrev pub pair_capacity : ℕ → ℕ → ℕ
 pair_capacity block_size page = block_size - 39 - page
 
--- The largest `entry_charge` of an entry that is written: half the capacity of a pair.
-abbrev pub charge_limit : ℕ → ℕ → ℕ
-charge_limit block_size page = pair_capacity block_size page / 2
+-- The largest `reserved_entry_size` of an entry that is written: half the capacity of a pair.
+abbrev pub half_pair_capacity : ℕ → ℕ → ℕ
+half_pair_capacity block_size page = pair_capacity block_size page / 2
 
 -- The largest number of slots in a pair that is written.
 abbrev pub slots_limit : ℕ
 slots_limit = 1000
 
 -- The largest size of a file in any image, in bytes.
-abbrev pub size_limit : ℕ
-size_limit = 2147483647
+abbrev pub file_size_limit : ℕ
+file_size_limit = 2147483647
 
 -- The largest size of a user attribute in any image, in bytes.
 abbrev pub attribute_limit : ℕ
@@ -90,7 +90,7 @@ profile_name_max profile = min profile.name_max name_limit
 
 -- The largest size of a file that may be written, in bytes.
 abbrev pub profile_file_max : Profile → ℕ
-profile_file_max profile = min profile.file_max size_limit
+profile_file_max profile = min profile.file_max file_size_limit
 
 -- The largest size of a user attribute that may be written, in bytes.
 abbrev pub profile_attr_max : Profile → ℕ
@@ -105,8 +105,8 @@ pub record AreValidLimits (profile : Profile) : Type 0 where
   pub some_name : 1 ≤ profile.name_max
   pub name : profile.name_max ≤ name_limit
   pub some_file : 1 ≤ profile.file_max
-  pub file : profile.file_max ≤ size_limit
+  pub file : profile.file_max ≤ file_size_limit
   pub some_attr : 1 ≤ profile.attr_max
   pub attr : profile.attr_max ≤ attribute_limit
   pub some_inline : 1 ≤ profile.inline_max
-  pub inline : profile.inline_max ≤ data_limit
+  pub inline : profile.inline_max ≤ tag_data_limit

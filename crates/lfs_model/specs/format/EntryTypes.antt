@@ -16,14 +16,14 @@ directory_name_type = 0x002
 abbrev pub superblock_name_type : ℕ
 superblock_name_type = 0x0ff
 
-abbrev pub directory_type : ℕ
-directory_type = 0x200
+abbrev pub directory_struct_type : ℕ
+directory_struct_type = 0x200
 
-abbrev pub inline_type : ℕ
-inline_type = 0x201
+abbrev pub inline_struct_type : ℕ
+inline_struct_type = 0x201
 
-abbrev pub ctz_type : ℕ
-ctz_type = 0x202
+abbrev pub ctz_struct_type : ℕ
+ctz_struct_type = 0x202
 
 abbrev pub create_tag_type : ℕ
 create_tag_type = 0x401
@@ -37,8 +37,8 @@ soft_tail_type = 0x600
 abbrev pub hard_tail_type : ℕ
 hard_tail_type = 0x601
 
-abbrev pub move_type : ℕ
-move_type = 0x7ff
+abbrev pub move_state_type : ℕ
+move_state_type = 0x7ff
 
 -- True if the tag has the length that removes a user attribute. No other entry may have this
 -- length.
@@ -53,14 +53,14 @@ no_id = 0x3ff
 -- have any length.
 abbrev pub allows_any_length : ℕ → Bool
 allows_any_length tag =
-    tag_class tag == 3 || (tag_type tag == file_name_type || (tag_type tag == directory_name_type || tag_type tag == inline_type))
+    tag_class tag == 3 || (tag_type tag == file_name_type || (tag_type tag == directory_name_type || tag_type tag == inline_struct_type))
 
 -- True for the name of a superblock, a directory struct, a CTZ struct or a tail: their data has 8
 -- bytes.
 abbrev pub requires_eight_bytes : ℕ → Bool
 requires_eight_bytes tag =
     tag_type tag == superblock_name_type
-    || (tag_type tag == directory_type || (tag_type tag == ctz_type || (tag_type tag == soft_tail_type || tag_type tag == hard_tail_type)))
+    || (tag_type tag == directory_struct_type || (tag_type tag == ctz_struct_type || (tag_type tag == soft_tail_type || tag_type tag == hard_tail_type)))
 
 -- True for a create or a delete tag, which has no data.
 abbrev pub requires_no_bytes : ℕ → Bool
@@ -73,7 +73,7 @@ is_known_tag tag =
     else (if allows_any_length tag then true
     else (if requires_eight_bytes tag then tag_length tag == 8
     else (if requires_no_bytes tag then tag_length tag == 0
-    else tag_type tag == move_type && tag_length tag == 12)))
+    else tag_type tag == move_state_type && tag_length tag == 12)))
 
 -- True unless the tag is about a slot (class 0 to 4) and its id is `no_id`. The ids of all other
 -- tags are ignored.
@@ -87,12 +87,12 @@ abbrev pub decoded_address : List ℕ → ℕ × ℕ
 decoded_address bytes = (little_number 4 bytes, little_number 4 (drop 4 bytes))
 
 -- The tail to the pair at `to`, or `None` if both addresses are null.
-abbrev pub tail_if_any : Bool → ℕ × ℕ → Option Tail
-tail_if_any hard to = if to.0 == null_address && to.1 == null_address then None else Some (record { hard = hard; to = to })
+abbrev pub tail_if_not_null : Bool → ℕ × ℕ → Option Tail
+tail_if_not_null hard to = if to.0 == null_address && to.1 == null_address then None else Some (record { hard = hard; to = to })
 
 -- The tail that the tail entry `e` sets, or `None` if `e` removes the tail.
 abbrev pub entry_tail : LogEntry → Option Tail
-entry_tail e = tail_if_any (tag_type e.tag == hard_tail_type) (decoded_address e.bytes)
+entry_tail e = tail_if_not_null (tag_type e.tag == hard_tail_type) (decoded_address e.bytes)
 
 -- The global state with the pair `pair`, and with the sync bit, the move type and the move id from
 -- `word`.

@@ -23,21 +23,21 @@ bytes_before_block block_size zero = 0
 bytes_before_block block_size (suc i) = bytes_before_block block_size i + block_capacity block_size i
 
 -- The byte `pos` of a file is at the offset `offset` in block `index` of its list.
-pub record IsBytePlace (block_size pos index offset : ℕ) : Type 0 where
+pub record IsByteInListBlock (block_size pos index offset : ℕ) : Type 0 where
   pub from : bytes_before_block block_size index ≤ pos
   pub below : pos < bytes_before_block block_size index + block_capacity block_size index
   pub at : offset ≡ 4 * pointer_count index + (pos - bytes_before_block block_size index)
 
 -- The smallest number of blocks, from block `i` of a list on, that hold `size` bytes. `steps`
 -- limits the recursion.
-abbrev pub block_count_from : ℕ → ℕ → ℕ → ℕ → ℕ
-block_count_from zero block_size i size = 0
-block_count_from (suc steps) block_size i size =
-    if size == 0 then 0 else 1 + block_count_from steps block_size (i + 1) (size - block_capacity block_size i)
+abbrev pub list_block_count_from : ℕ → ℕ → ℕ → ℕ → ℕ
+list_block_count_from zero block_size i size = 0
+list_block_count_from (suc steps) block_size i size =
+    if size == 0 then 0 else 1 + list_block_count_from steps block_size (i + 1) (size - block_capacity block_size i)
 
 -- The number of blocks in the list of a file of `size` bytes.
-abbrev pub block_count_for : ℕ → ℕ → ℕ
-block_count_for block_size size = block_count_from size block_size 0 size
+abbrev pub skip_list_block_count : ℕ → ℕ → ℕ
+skip_list_block_count block_size size = list_block_count_from size block_size 0 size
 
 -- The addresses of the given number of blocks, found from `head` back by pointer 0. The first block
 -- of the file is the first one.
@@ -59,7 +59,7 @@ pub record AreListBlocks (disk : Blocks) (count head : ℕ) : Type 0 where
 pub record IsSkipList (disk : Blocks) (block_size head size : ℕ) : Type 0 where
   pub size_low : 1 ≤ size
   pub size_high : size < 2 ^ 31
-  pub blocks : AreListBlocks disk (block_count_for block_size size) head
+  pub blocks : AreListBlocks disk (skip_list_block_count block_size size) head
 
 -- The bytes after the pointers in block `b`, which is block `i` of a list.
 abbrev pub block_data : Blocks → ℕ × ℕ → List ℕ
@@ -68,4 +68,4 @@ block_data disk (i, b) = drop (4 * pointer_count i) (block_bytes disk b)
 -- The bytes of the file whose list has the head `head` and the size `size`.
 abbrev pub list_bytes : Blocks → ℕ → ℕ → ℕ → List ℕ
 list_bytes disk block_size head size =
-    take size (flat_map (block_data disk) (enumerate_from 0 (blocks_to_head disk (block_count_for block_size size) head)))
+    take size (flat_map (block_data disk) (enumerate_from 0 (blocks_to_head disk (skip_list_block_count block_size size) head)))

@@ -8,8 +8,8 @@ abbrev pub null_address : ℕ
 null_address = 0xffffffff
 
 -- The two block addresses in the array `words`.
-abbrev pub address_view : List ℕ → ℕ × ℕ
-address_view words = (slice_index words 0, slice_index words 1)
+abbrev pub address_of_array : List ℕ → ℕ × ℕ
+address_of_array words = (slice_index words 0, slice_index words 1)
 
 pub data SlotKind : Type 0 where
   File : SlotKind
@@ -108,8 +108,8 @@ abbrev pub slots_size : PairContent → ℕ
 slots_size c = sum_by slot_size c.slots
 
 -- The size of an entry if its struct has the maximum size, `struct_max`.
-abbrev pub entry_charge : Profile → ℕ → Name → Attributes → ℕ
-entry_charge profile block_size name attributes = 4 + length name + (4 + struct_max profile block_size) + attributes_size attributes
+abbrev pub reserved_entry_size : Profile → ℕ → Name → Attributes → ℕ
+reserved_entry_size profile block_size name attributes = 4 + length name + (4 + struct_max profile block_size) + attributes_size attributes
 
 -- The size and the number of the slots are within the limits of a pair that is written.
 pub record FitsInPair (block_size page : ℕ) (c : PairContent) : Type 0 where

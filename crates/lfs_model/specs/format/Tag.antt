@@ -29,8 +29,8 @@ abbrev pub removal_length : ℕ
 removal_length = 0x3ff
 
 -- The largest number of data bytes after a tag.
-abbrev pub data_limit : ℕ
-data_limit = 1022
+abbrev pub tag_data_limit : ℕ
+tag_data_limit = 1022
 
 -- The number of data bytes after a tag: 0 if its length is `removal_length`.
 abbrev pub tag_data_size : ℕ → ℕ
@@ -46,7 +46,7 @@ forward_checksum_type = 0x5ff
 
 -- True for a forward checksum of any length but `removal_length`. Its entry has no effect.
 abbrev pub is_forward_checksum : ℕ → Bool
-is_forward_checksum tag = tag_type tag == forward_checksum_type && nat_le (tag_length tag) data_limit
+is_forward_checksum tag = tag_type tag == forward_checksum_type && nat_le (tag_length tag) tag_data_limit
 
 -- True for any tag of class 5 but a forward checksum. Its entry ends the commit, or makes it
 -- invalid.
@@ -55,5 +55,5 @@ is_commit_end tag = tag_class tag == 5 && not (is_forward_checksum tag)
 
 -- The value that the next stored tag is XORed with. It is `tag`, with the top bit inverted if `tag`
 -- ends a commit and the lowest bit of its chunk is set.
-abbrev pub tag_before_next : ℕ → ℕ
-tag_before_next tag = if is_commit_end tag then bit_xor tag (tag_chunk tag % 2 * 2 ^ 31) else tag
+abbrev pub tag_for_next_xor : ℕ → ℕ
+tag_for_next_xor tag = if is_commit_end tag then bit_xor tag (tag_chunk tag % 2 * 2 ^ 31) else tag

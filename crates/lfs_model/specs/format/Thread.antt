@@ -9,8 +9,8 @@ pub record Pair : Type 0 where
   pub content : PairContent
 
 -- The address of the first pair of the thread.
-abbrev pub anchor_address : ℕ × ℕ
-anchor_address = (0, 1)
+abbrev pub superblock_pair_address : ℕ × ℕ
+superblock_pair_address = (0, 1)
 
 -- The address of the pair that a tail points to.
 abbrev pub tail_target : Option Tail → Option (ℕ × ℕ)
@@ -19,9 +19,9 @@ tail_target (Some t) = Some t.to
 
 -- The pairs are linked from the address `at` on: each tail points to the next pair, and the last
 -- pair has no tail.
-abbrev pub AreLinked : Option (ℕ × ℕ) → List Pair → Type 0
-AreLinked at [] = at ≡ None
-AreLinked at (p ∷ ps) = (at ≡ Some p.at) × AreLinked (tail_target p.content.tail) ps
+abbrev pub AreLinkedByTails : Option (ℕ × ℕ) → List Pair → Type 0
+AreLinkedByTails at [] = at ≡ None
+AreLinkedByTails at (p ∷ ps) = (at ≡ Some p.at) × AreLinkedByTails (tail_target p.content.tail) ps
 
 -- The blocks of all pairs, in order.
 abbrev pub pairs_blocks : List Pair → List ℕ
@@ -38,7 +38,7 @@ addresses_blocks one other = one.0 ∷ one.1 ∷ other.0 ∷ other.1 ∷ []
 -- The pairs `ps` are the thread of a disk with `block_count` blocks: they are linked from the first
 -- pair to the end, `content_of` gives their contents, and their blocks are distinct and in range.
 pub record IsThread (content_of : ℕ × ℕ → Option PairContent) (block_count : ℕ) (ps : List Pair) : Type 0 where
-  pub links : AreLinked (Some anchor_address) ps
+  pub links : AreLinkedByTails (Some superblock_pair_address) ps
   pub contents : All (λ p. content_of p.at ≡ Some p.content) ps
   pub in_range : All (λ b. b < block_count) (pairs_blocks ps)
   pub distinct : IsDistinct nat_eq (pairs_blocks ps)
@@ -57,9 +57,9 @@ is_hard_tail None = false
 is_hard_tail (Some t) = t.hard
 
 -- True if slot 0 is a superblock.
-abbrev pub superblock_first : List Slot → Bool
-superblock_first [] = false
-superblock_first (s ∷ slots) = is_superblock s
+abbrev pub begins_with_superblock : List Slot → Bool
+begins_with_superblock [] = false
+begins_with_superblock (s ∷ slots) = is_superblock s
 
 -- True if there is a slot.
 abbrev pub has_slots : List Slot → Bool
@@ -77,15 +77,15 @@ abbrev pub chain_may_continue : Pair → Bool
 chain_may_continue p = has_no_entry p.content.slots && is_hard_tail p.content.tail
 
 -- True if slot 0 is a superblock; `later` if there is no slot.
-abbrev pub superblock_or_later : List Slot → Bool → Bool
-superblock_or_later [] later = later
-superblock_or_later (s ∷ slots) later = is_superblock s
+abbrev pub superblock_first_or_empty : List Slot → Bool → Bool
+superblock_first_or_empty [] later = later
+superblock_first_or_empty (s ∷ slots) later = is_superblock s
 
 -- True if the first pair that has a slot begins with a superblock, and all pairs before it have
 -- hard tails.
 abbrev pub has_superblock : List Pair → Bool
 has_superblock [] = false
-has_superblock (p ∷ ps) = superblock_or_later p.content.slots (is_hard_tail p.content.tail && has_superblock ps)
+has_superblock (p ∷ ps) = superblock_first_or_empty p.content.slots (is_hard_tail p.content.tail && has_superblock ps)
 
 -- The number of pairs before the root directory. These pairs, and the first pair of the root
 -- directory, are the superblock's chain: the longest beginning of the thread in which each pair but
@@ -101,13 +101,13 @@ abbrev pub pairs_from_root : List Pair → List Pair
 pairs_from_root ps = drop (count_before_root ps) ps
 
 -- The pairs from the first one that has a slot on.
-abbrev pub pairs_from_filled : List Pair → List Pair
-pairs_from_filled [] = []
-pairs_from_filled (p ∷ ps) = if has_slots p.content.slots then p ∷ ps else pairs_from_filled ps
+abbrev pub pairs_from_nonempty : List Pair → List Pair
+pairs_from_nonempty [] = []
+pairs_from_nonempty (p ∷ ps) = if has_slots p.content.slots then p ∷ ps else pairs_from_nonempty ps
 
--- The address of the first of the pairs, or `anchor_address` if there are none.
+-- The address of the first of the pairs, or `superblock_pair_address` if there are none.
 abbrev pub first_address : List Pair → ℕ × ℕ
-first_address [] = anchor_address
+first_address [] = superblock_pair_address
 first_address (p ∷ ps) = p.at
 
 -- The address of the root directory.

@@ -2,7 +2,7 @@
 use Rattle.std.specs.Prelude.{ℕ, ◌+◌, ◌^◌, ◌&&◌, nat_le, nat_lt, if◌then◌else◌, Bool, List, [], ◌∷◌, length, Option, None}
 use Rattle.std.specs.List.{flat_map, list_all}
 use Rattle.lfs_model.specs.format.Slots.{Gstate}
-use Rattle.lfs_model.specs.format.Tag.{make_tag, data_limit, removal_length}
+use Rattle.lfs_model.specs.format.Tag.{make_tag, tag_data_limit, removal_length}
 use Rattle.lfs_model.specs.format.Log.{LogEntry}
 use Rattle.lfs_model.specs.format.Content.{RawContent, content_after}
 use Rattle.lfs_model.specs.format.EntryTypes.{create_tag_type, delete_tag_type, no_id}
@@ -41,7 +41,7 @@ has_word_addresses pair = nat_lt pair.0 (2 ^ 32) && nat_lt pair.1 (2 ^ 32)
 
 -- True if the bytes fit in the data of one tag.
 abbrev pub fits_in_tag : List ℕ → Bool
-fits_in_tag bytes = nat_le (length bytes) data_limit
+fits_in_tag bytes = nat_le (length bytes) tag_data_limit
 
 -- True for the type of a name (class 0).
 abbrev pub is_name_type : ℕ → Bool

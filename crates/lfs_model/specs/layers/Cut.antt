@@ -2,11 +2,11 @@
 use Rattle.std.specs.Prelude.{ℕ, ◌≤◌, List, length, take, drop, sum_by}
 use Rattle.lfs_model.specs.format.Disk.{pair_capacity, slots_limit}
 use Rattle.lfs_model.specs.format.Content.{RawSlot}
-use Rattle.lfs_model.specs.layers.WrittenContent.{slot_size_raw}
+use Rattle.lfs_model.specs.layers.WrittenContent.{raw_slot_size}
 
 -- The size and the number of the slots are within the limits of a pair that is written.
 pub record SlotsFitPair (block_size page : ℕ) (slots : List RawSlot) : Type 0 where
-  pub size : sum_by slot_size_raw slots ≤ pair_capacity block_size page
+  pub size : sum_by raw_slot_size slots ≤ pair_capacity block_size page
   pub count : length slots ≤ slots_limit
 
 -- The first `cut` slots fit in one pair, and the others fit in another.

@@ -11,7 +11,7 @@ use Rattle.lfs_model.specs.session.Operations as ops
 use Rattle.lfs_model.specs.session.Operations.{Operation}
 use Rattle.lfs_model.specs.session.Session.{Session, OpenFile, file_path, file_numbered}
 use Rattle.lfs_model.specs.session.Refusals.{path_or_root}
-use Rattle.lfs_model.specs.session.SlotEdits.{slot_of}
+use Rattle.lfs_model.specs.session.SlotEdits.{slot_of_path}
 
 -- True if the operation removes, moves or replaces the entry at the path `q`, or an entry above it.
 abbrev pub vacates_path : Operation → Path → Bool
@@ -32,9 +32,9 @@ may_store_at s _ q = false
 
 -- The struct of the slot that a path leads to, if there is one.
 abbrev pub struct_at : List Pair → Path → Option Struct
-struct_at ps path = option_map (λ u. u.struct) (slot_of ps path)
+struct_at ps path = option_map (λ u. u.struct) (slot_of_path ps path)
 
 -- Each file that `op` neither removes, moves, replaces nor stores has the same struct in the pairs
 -- `qs`, after the operation, as in `ps`.
-abbrev pub KeepsStructs : Disk → List Pair → Session → Operation → List Pair → Type 0
-KeepsStructs disk ps s op qs = (q : Path) → is_file (disk_tree disk ps q) ≡ true → vacates_path op q ≡ false → may_store_at s op q ≡ false → struct_at qs q ≡ struct_at ps q
+abbrev pub KeepsOtherStructs : Disk → List Pair → Session → Operation → List Pair → Type 0
+KeepsOtherStructs disk ps s op qs = (q : Path) → is_file (disk_tree disk ps q) ≡ true → vacates_path op q ≡ false → may_store_at s op q ≡ false → struct_at qs q ≡ struct_at ps q

@@ -8,15 +8,15 @@ use Rattle.lfs_model.specs.format.EntryTypes.{is_known_tag, no_id}
 
 -- The name or struct `part` has a type of the class `class`, and this type allows the length of its
 -- bytes.
-pub record IsAllowedPart (class : ℕ) (part : ℕ × List ℕ) : Type 0 where
+pub record IsNameOrStruct (class : ℕ) (part : ℕ × List ℕ) : Type 0 where
   pub of_class : part.0 / 2 ^ 8 ≡ class
   pub short : length part.1 < removal_length
   pub in_table : is_known_tag (make_tag part.0 0 (length part.1)) ≡ true
 
 -- There is no name or struct, or it is allowed for the class.
-abbrev pub AllowedIfAny : ℕ → Option (ℕ × List ℕ) → Type 0
-AllowedIfAny class None = Unit {0}
-AllowedIfAny class (Some part) = IsAllowedPart class part
+abbrev pub IsNameOrStructIfAny : ℕ → Option (ℕ × List ℕ) → Type 0
+IsNameOrStructIfAny class None = Unit {0}
+IsNameOrStructIfAny class (Some part) = IsNameOrStruct class part
 
 -- The attributes have strictly ascending types of at least `low`, and each fits in an entry.
 abbrev pub AttributesInOrder : ℕ → Attributes → Type 0
@@ -24,14 +24,14 @@ AttributesInOrder low [] = Unit {0}
 AttributesInOrder low (a ∷ others) = (low ≤ a.0) × (a.0 < 2 ^ 8) × (length a.1 < removal_length) × AttributesInOrder (a.0 + 1) others
 
 -- The slot is one that a log can define.
-pub record IsFormedSlot (s : RawSlot) : Type 0 where
-  pub name : AllowedIfAny 0 s.name
-  pub struct : AllowedIfAny 2 s.struct
+pub record IsWellFormedSlot (s : RawSlot) : Type 0 where
+  pub name : IsNameOrStructIfAny 0 s.name
+  pub struct : IsNameOrStructIfAny 2 s.struct
   pub attributes : AttributesInOrder 0 s.attributes
 
 abbrev pub AreWellFormed : List RawSlot → Type 0
 AreWellFormed [] = Unit {0}
-AreWellFormed (s ∷ slots) = IsFormedSlot s × AreWellFormed slots
+AreWellFormed (s ∷ slots) = IsWellFormedSlot s × AreWellFormed slots
 
 -- Every slot has a name.
 abbrev pub AreNamed : List RawSlot → Type 0
@@ -39,8 +39,8 @@ AreNamed [] = Unit {0}
 AreNamed (s ∷ slots) = (is_some s.name ≡ true) × AreNamed slots
 
 -- Both addresses fit in 32 bits.
-abbrev pub AreWords : ℕ × ℕ → Type 0
-AreWords pair = (pair.0 < 2 ^ 32) × (pair.1 < 2 ^ 32)
+abbrev pub AreU32Addresses : ℕ × ℕ → Type 0
+AreU32Addresses pair = (pair.0 < 2 ^ 32) × (pair.1 < 2 ^ 32)
 
 -- True if both addresses are null.
 abbrev pub is_null : ℕ × ℕ → Bool
@@ -49,13 +49,13 @@ is_null pair = pair.0 == null_address && pair.1 == null_address
 -- There is no tail, or its two addresses fit in 32 bits and aren't both null.
 abbrev pub IsAllowedTail : Option Tail → Type 0
 IsAllowedTail None = Unit {0}
-IsAllowedTail (Some t) = AreWords t.to × (is_null t.to ≡ false)
+IsAllowedTail (Some t) = AreU32Addresses t.to × (is_null t.to ≡ false)
 
 -- The fields of the move state fit in its entry.
 pub record MoveStateFits (g : Gstate) : Type 0 where
   pub kind : g.kind < 2 ^ 11
   pub id : g.id < 2 ^ 10
-  pub pair : AreWords g.pair
+  pub pair : AreU32Addresses g.pair
 
 -- The content is one that a log can define.
 pub record IsWellFormed (c : RawContent) : Type 0 where

@@ -7,16 +7,16 @@ use Rattle.lfs_model.specs.format.Content.{RawSlot, slot_of_id, attribute_bytes}
 use Rattle.lfs_model.specs.format.EntryTypes.{superblock_name_type}
 
 -- The bytes of a name or a struct, if it has the type `type`.
-abbrev pub part_bytes : ℕ → Option (ℕ × List ℕ) → Option (List ℕ)
-part_bytes type None = None
-part_bytes type (Some part) = if part.0 == type then Some part.1 else None
+abbrev pub bytes_if_type : ℕ → Option (ℕ × List ℕ) → Option (List ℕ)
+bytes_if_type type None = None
+bytes_if_type type (Some part) = if part.0 == type then Some part.1 else None
 
 -- The bytes of the slot's name, struct or attribute of the type `type`, or `None` if it has none of
 -- this type.
 abbrev pub slot_bytes : ℕ → RawSlot → Option (List ℕ)
 slot_bytes type s =
-    if type / 2 ^ 8 == 0 then part_bytes type s.name
-    else (if type / 2 ^ 8 == 2 then part_bytes type s.struct
+    if type / 2 ^ 8 == 0 then bytes_if_type type s.name
+    else (if type / 2 ^ 8 == 2 then bytes_if_type type s.struct
     else (if type / 2 ^ 8 == 3 then attribute_bytes (type % 2 ^ 8) s.attributes else None))
 
 -- The bytes of the type `type` in the slot with the id `id`, if there are any.

@@ -29,8 +29,8 @@ abbrev pub name_occurrences : Name → List Name → ℕ
 name_occurrences name names = sum_by (λ n. if same_name name n then 1 else 0) names
 
 -- One of the names can't be a component of a path, or occurs more than once.
-abbrev pub HaveBadOrRepeated : List Name → Type 0
-HaveBadOrRepeated names = ((name : Name) × (is_component name ≡ false) × (1 ≤ name_occurrences name names)) ⊎ ((name : Name) × (2 ≤ name_occurrences name names))
+abbrev pub HaveBadOrRepeatedNames : List Name → Type 0
+HaveBadOrRepeatedNames names = ((name : Name) × (is_component name ≡ false) × (1 ≤ name_occurrences name names)) ⊎ ((name : Name) × (2 ≤ name_occurrences name names))
 
 -- ---- trees
 
@@ -45,16 +45,16 @@ is_named_folder name given = option_map (λ g. g.1) (find (λ g. same_name name 
 
 -- The file at `path` if no components are left, or `None` otherwise, because nothing is beneath a
 -- file.
-abbrev pub file_at_end : TreeSource → List ℕ → Path → Option SourceNode
-file_at_end s path [] = Some (AFile (s.bytes path))
-file_at_end s path (name ∷ rest) = None
+abbrev pub source_file_node : TreeSource → List ℕ → Path → Option SourceNode
+source_file_node s path [] = Some (AFile (s.bytes path))
+source_file_node s path (name ∷ rest) = None
 
 -- The file or folder that the given components lead to from the folder at the path `folder`, if
 -- there is one.
 abbrev pub node_at : TreeSource → List ℕ → Path → Option SourceNode
 node_at s folder [] = Some (AFolder (source_names (s.names folder)))
 node_at s folder (name ∷ rest) =
-    option_and_then (λ is_folder. if is_folder then node_at s (path_in_folder folder name) rest else file_at_end s (path_in_folder folder name) rest) (is_named_folder name (s.names folder))
+    option_and_then (λ is_folder. if is_folder then node_at s (path_in_folder folder name) rest else source_file_node s (path_in_folder folder name) rest) (is_named_folder name (s.names folder))
 
 -- Neither node exists, or they agree: a file has the same bytes, a directory has the folder's names
 -- in order, and neither has attributes.

@@ -4,7 +4,7 @@ use Rattle.std.specs.List.{AllByRecursion, flat_map}
 use Rattle.lfs_model.specs.format.Disk.{Disk, disk_block}
 use Rattle.lfs_model.specs.format.Slots.{Slot, Struct, Attributes, Gstate, zero_gstate, no_move_kind}
 use Rattle.lfs_model.specs.format.Thread.{Pair, ThreadDirectory, is_hard_tail, root_address}
-use Rattle.lfs_model.specs.tree.Tree.{Path, Tree, FileNode, branch_address, address_at_path}
+use Rattle.lfs_model.specs.tree.Tree.{Path, Tree, FileNode, struct_directory_address, address_at_path}
 use Rattle.lfs_model.specs.session.TreeEdits.{tree_with_subtree}
 use Rattle.lfs_model.specs.tree.Shown.{all_entries, struct_blocks, disk_tree}
 use Rattle.lfs_model.specs.tree.View.{IsAccepted}
@@ -13,28 +13,28 @@ use Rattle.lfs_model.specs.session.Operations.{Operation}
 use Rattle.lfs_model.specs.session.Session.{Session, DiskSummary}
 use Rattle.lfs_model.specs.session.Effects.{operation_effect}
 use Rattle.lfs_model.specs.session.Recovery.{IsRecovered}
-use Rattle.lfs_model.specs.session.SlotEdits.{slot_of}
-use Rattle.lfs_model.specs.session.Layout.{IsLayout}
-use Rattle.lfs_model.specs.layers.Keeping.{KeepsStructs}
+use Rattle.lfs_model.specs.session.SlotEdits.{slot_of_path}
+use Rattle.lfs_model.specs.session.Layout.{IsLayoutAfterOperation}
+use Rattle.lfs_model.specs.layers.Keeping.{KeepsOtherStructs}
 
 -- ---- lists
 
 -- The number of times that `b` is in a list.
-abbrev pub number_occurrences : ℕ → List ℕ → ℕ
-number_occurrences b [] = 0
-number_occurrences b (x ∷ xs) = cond (nat_eq b x) 1 0 + number_occurrences b xs
+abbrev pub occurrence_count : ℕ → List ℕ → ℕ
+occurrence_count b [] = 0
+occurrence_count b (x ∷ xs) = cond (nat_eq b x) 1 0 + occurrence_count b xs
 
 -- At least one of the elements has the property `P`.
-abbrev pub AnyByRecursion : {X : Type 0} → (X → Type 0) → List X → Type 0
-AnyByRecursion P [] = ⊥
-AnyByRecursion P (x ∷ xs) = P x ⊎ AnyByRecursion P xs
+abbrev pub HoldsForSome : {X : Type 0} → (X → Type 0) → List X → Type 0
+HoldsForSome P [] = ⊥
+HoldsForSome P (x ∷ xs) = P x ⊎ HoldsForSome P xs
 
 -- ---- pairs and files
 
 -- True if the last of the pairs has a hard tail. If there are no pairs, it is `b`.
-abbrev pub ends_joined : Bool → List Pair → Bool
-ends_joined b [] = b
-ends_joined b (p ∷ ps) = ends_joined (is_hard_tail p.content.tail) ps
+abbrev pub last_tail_is_hard : Bool → List Pair → Bool
+last_tail_is_hard b [] = b
+last_tail_is_hard b (p ∷ ps) = last_tail_is_hard (is_hard_tail p.content.tail) ps
 
 -- Both lists have pairs with the same addresses and the same slots, in the same order.
 abbrev pub SameSlots : List Pair → List Pair → Type 0
@@ -86,7 +86,7 @@ KeepsFileBytes change q = (t : Tree) (attributes : Attributes) (bytes : List ℕ
 
 -- If there was a slot of a file, there still is one, with the same struct.
 abbrev pub KeepsStruct : Option Slot → Option Slot → Type 0
-KeepsStruct was now = (u : Slot) → was ≡ Some u → branch_address u.struct ≡ None → (v : Slot) × ((now ≡ Some v) × (v.struct ≡ u.struct))
+KeepsStruct was now = (u : Slot) → was ≡ Some u → struct_directory_address u.struct ≡ None → (v : Slot) × ((now ≡ Some v) × (v.struct ≡ u.struct))
 
 -- The new image, with the thread `qs`, is accepted. Its tree is that of the old image after
 -- `change`, and the addresses of its directories are the old ones after `walk`.
@@ -96,7 +96,7 @@ pub record IsChangedImage (disk : Disk) (ps : List Pair) (new : Disk) (qs : List
   pub shows : disk_tree new qs ≡ change (disk_tree disk ps)
   pub leads : address_at_path (all_entries qs) (root_address qs) ≡ walk (address_at_path (all_entries ps) (root_address ps))
   -- A file whose bytes `change` keeps has the same struct as before.
-  pub stays : (q : Path) → KeepsFileBytes change q → KeepsStruct (slot_of ps q) (slot_of qs q)
+  pub stays : (q : Path) → KeepsFileBytes change q → KeepsStruct (slot_of_path ps q) (slot_of_path qs q)
 
 -- ---- the result of an operation
 
@@ -114,5 +114,5 @@ pub record CompletesOperation (disk : Disk) (ps : List Pair) (s : Session) (op :
   pub writable : IsWritable new qs
   pub recovered : IsRecovered qs
   pub tree : (around : DiskSummary) → disk_tree new qs ≡ (operation_effect around s op).1.tree
-  pub laid_out : IsLayout disk ps s op new qs
-  pub structs : KeepsStructs disk ps s op qs
+  pub laid_out : IsLayoutAfterOperation disk ps s op new qs
+  pub structs : KeepsOtherStructs disk ps s op qs

@@ -7,15 +7,15 @@ use Rattle.lfs_model.specs.format.Slots.{Attributes, Tail, Gstate, attributes_si
 use Rattle.lfs_model.specs.format.Tag.{make_tag}
 use Rattle.lfs_model.specs.format.Log.{LogEntry}
 use Rattle.lfs_model.specs.format.Content.{RawSlot, RawContent}
-use Rattle.lfs_model.specs.format.EntryTypes.{SuperblockFields, soft_tail_type, hard_tail_type, move_type, no_id}
+use Rattle.lfs_model.specs.format.EntryTypes.{SuperblockFields, soft_tail_type, hard_tail_type, move_state_type, no_id}
 
 -- ---- fields
 
 abbrev pub address_bytes : ℕ × ℕ → List ℕ
 address_bytes pair = little_bytes 4 pair.0 ++ little_bytes 4 pair.1
 
-abbrev pub fields_bytes : SuperblockFields → List ℕ
-fields_bytes s = flat_map (little_bytes 4) (s.version ∷ s.block_size ∷ s.block_count ∷ s.name_max ∷ s.file_max ∷ s.attr_max ∷ [])
+abbrev pub superblock_fields_bytes : SuperblockFields → List ℕ
+superblock_fields_bytes s = flat_map (little_bytes 4) (s.version ∷ s.block_size ∷ s.block_count ∷ s.name_max ∷ s.file_max ∷ s.attr_max ∷ [])
 
 -- The first word of a move state: the sync bit, the move type, the move id, and ten zero bits.
 abbrev pub move_word : Gstate → ℕ
@@ -46,20 +46,20 @@ abbrev pub tail_entry : Bool → Option (ℕ × ℕ) → LogEntry
 tail_entry hard pair = log_entry (tail_type hard) no_id (address_bytes (tail_or_null pair))
 
 abbrev pub move_entry : Gstate → LogEntry
-move_entry g = log_entry move_type no_id (bytes_of_move_state g)
+move_entry g = log_entry move_state_type no_id (bytes_of_move_state g)
 
 -- ---- the content of a pair
 
 -- The entry of a slot's name or struct, if there is one.
-abbrev pub part_entries : ℕ → Option (ℕ × List ℕ) → List LogEntry
-part_entries id None = []
-part_entries id (Some part) = log_entry part.0 id part.1 ∷ []
+abbrev pub name_or_struct_entries : ℕ → Option (ℕ × List ℕ) → List LogEntry
+name_or_struct_entries id None = []
+name_or_struct_entries id (Some part) = log_entry part.0 id part.1 ∷ []
 
 abbrev pub attribute_entries : ℕ → Attributes → List LogEntry
 attribute_entries id attributes = map (λ a. log_entry (first_attribute_type + a.0) id a.1) attributes
 
 abbrev pub slot_entries : ℕ → RawSlot → List LogEntry
-slot_entries id s = part_entries id s.name ++ part_entries id s.struct ++ attribute_entries id s.attributes
+slot_entries id s = name_or_struct_entries id s.name ++ name_or_struct_entries id s.struct ++ attribute_entries id s.attributes
 
 -- The entries of the slots, whose ids begin at `id`.
 abbrev pub entries_of_slots : ℕ → List RawSlot → List LogEntry
@@ -83,19 +83,19 @@ content_entries c = entries_of_slots 0 c.slots ++ tail_entries c.tail ++ move_st
 
 -- ---- sizes
 
-abbrev pub part_size : Option (ℕ × List ℕ) → ℕ
-part_size None = 0
-part_size (Some part) = 4 + length part.1
+abbrev pub name_or_struct_size : Option (ℕ × List ℕ) → ℕ
+name_or_struct_size None = 0
+name_or_struct_size (Some part) = 4 + length part.1
 
 -- The size of a slot: its name, struct and attributes, each with a 4-byte tag.
-abbrev pub slot_size_raw : RawSlot → ℕ
-slot_size_raw s = part_size s.name + part_size s.struct + attributes_size s.attributes
+abbrev pub raw_slot_size : RawSlot → ℕ
+raw_slot_size s = name_or_struct_size s.name + name_or_struct_size s.struct + attributes_size s.attributes
 
 -- The size of all slots in bytes.
 abbrev pub raw_slots_size : RawContent → ℕ
-raw_slots_size c = sum_by slot_size_raw c.slots
+raw_slots_size c = sum_by raw_slot_size c.slots
 
 -- The size and the number of the slots are within the limits of a pair that is written.
-pub record RawContentFits (block_size page : ℕ) (c : RawContent) : Type 0 where
+pub record RawContentFitsInPair (block_size page : ℕ) (c : RawContent) : Type 0 where
   pub size : raw_slots_size c ≤ pair_capacity block_size page
   pub count : length c.slots ≤ slots_limit

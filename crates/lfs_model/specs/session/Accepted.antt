@@ -6,7 +6,7 @@ use Rattle.lfs_model.specs.session.Operations.{FlagsOfOpen, Operation, Reply}
 use Rattle.lfs_model.specs.session.Session.{Session, DiskSummary, Reading, Writing, file_numbered}
 use Rattle.lfs_model.specs.session.Effects.{open_effect, operation_effect}
 use Rattle.lfs_model.specs.session.Refusals.{operation_refusal, path_or_root}
-use Rattle.lfs_model.specs.session.State.{IsSummary, Healthy}
+use Rattle.lfs_model.specs.session.State.{IsDiskSummary, Healthy}
 use Rattle.lfs_model.specs.session.TreeEdits.{file_bytes, is_directory}
 use Rattle.lfs_model.specs.session.Writers.{opened_writer}
 use Rattle.lfs_model.specs.session.Run.{SystemState}
@@ -15,7 +15,7 @@ use Rattle.lfs_model.specs.session.Run.{SystemState}
 -- effect.
 pub record IsAcceptedStep (from : SystemState) (s : Session) (op : Operation) (reply : Reply) (to : SystemState) : Type 0 where
   pub around : DiskSummary
-  pub surrounds : (ps : List Pair) × (IsAccepted from.disk ps × IsSummary from.disk ps around)
+  pub surrounds : (ps : List Pair) × (IsAccepted from.disk ps × IsDiskSummary from.disk ps around)
   pub passed : operation_refusal around s op ≡ None
   pub replied : reply ≡ (operation_effect around s op).0
   pub after : to.state ≡ Healthy (operation_effect around s op).1

@@ -8,10 +8,9 @@ use Rattle.lfs_model.specs.session.Operations as ops
 use Rattle.lfs_model.specs.session.Operations.{Refusal, FlagsOfOpen, Operation, ListedEntry, Reply}
 use Rattle.lfs_model.specs.session.TreeEdits.{node_attributes_of, file_bytes, directory_names, with_attributes, tree_creating, tree_removing, tree_renaming, tree_with_change}
 use Rattle.lfs_model.specs.session.Session.{Session, DiskSummary, OpenFile, Reading, Writing, FileReader, file_numbered, file_reader, file_writer, free_number_of, files_with_file}
-use Rattle.lfs_model.specs.session.Writers.{written_writer, truncated_writer, synced_writer, opened_writer}
+use Rattle.lfs_model.specs.session.Writers.{writer_after_write, truncated_writer, synced_writer, opened_writer}
 use Rattle.lfs_model.specs.session.Refusals.{path_or_root, operation_refusal}
 use Rattle.lfs_model.specs.format.Slots.{set_move_kind}
-
 
 -- The size of a file, or None for anything else.
 abbrev pub node_file_size : Option Node → Option ℕ
@@ -68,8 +67,8 @@ read_effect s fd count (Some r) = (
     found = take count (drop r.position (file_bytes (s.tree r.path)))
 
 -- The entries of the directory at `path`, in the order of names.
-abbrev pub items_at : Tree → Path → List ListedEntry
-items_at t path = map (λ name. record { name = name; size = node_file_size (t (path ++ name ∷ [])) }) (directory_names (t path))
+abbrev pub listed_entries_at : Tree → Path → List ListedEntry
+listed_entries_at t path = map (λ name. record { name = name; size = node_file_size (t (path ++ name ∷ [])) }) (directory_names (t path))
 
 -- The reply to an operation that no check refuses, and the session after it.
 abbrev pub operation_effect : DiskSummary → Session → Operation → Reply × Session
@@ -78,7 +77,7 @@ operation_effect around s (ops.Read fd count) = read_effect s fd count (file_rea
 operation_effect around s (ops.Write fd bytes) = (
   ops.Count (length bytes),
   record s {
-    files = files_with_file s.files fd (option_map (λ w. Writing (written_writer w bytes)) (file_writer (file_numbered s.files fd)));
+    files = files_with_file s.files fd (option_map (λ w. Writing (writer_after_write w bytes)) (file_writer (file_numbered s.files fd)));
   },
 )
 operation_effect around s (ops.Seek fd position) = (
@@ -110,7 +109,7 @@ operation_effect around s (ops.Close fd) = (
 operation_effect around s (ops.Mkdir path) = (ops.Done, record s { tree = tree_creating (path_or_root path) (DirectoryNode [] []) s.tree })
 operation_effect around s (ops.Remove path) = (ops.Done, record s { tree = tree_removing (path_or_root path) s.tree })
 operation_effect around s (ops.Rename old new) = (ops.Done, record s { tree = tree_renaming (path_or_root old) (path_or_root new) s.tree })
-operation_effect around s (ops.ListAll path) = (ops.Items (items_at s.tree (path_or_root path)), s)
+operation_effect around s (ops.ListAll path) = (ops.Items (listed_entries_at s.tree (path_or_root path)), s)
 operation_effect around s (ops.Stat path) = (ops.StatIs (node_file_size (s.tree (path_or_root path))), s)
 operation_effect around s (ops.GetAttr path kind) = (ops.Bytes (unwrap_or (attribute_bytes kind (node_attributes_of (s.tree (path_or_root path)))) []), s)
 operation_effect around s (ops.SetAttr path kind bytes) = (

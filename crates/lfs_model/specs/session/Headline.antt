@@ -12,7 +12,7 @@ use Rattle.lfs_model.specs.session.Operations as ops
 use Rattle.lfs_model.specs.session.Operations.{Operation, Reply, BadFile}
 use Rattle.lfs_model.specs.session.Session.{Session, DiskSummary, FileReader, file_reader, file_numbered}
 use Rattle.lfs_model.specs.session.Effects.{operation_result, operation_effect}
-use Rattle.lfs_model.specs.session.State.{IsSummary, Healthy, is_remount, mounted_session}
+use Rattle.lfs_model.specs.session.State.{IsDiskSummary, Healthy, is_remount, mounted_session}
 use Rattle.lfs_model.specs.session.Recovery.{IsRecovered}
 use Rattle.lfs_model.specs.session.Run.{SystemState, ShowsTree, is_refusal, IsStep, AreSteps}
 
@@ -67,11 +67,11 @@ is_query ops.UsedCount = true
 is_query _ = false
 
 -- The reply is what a session just mounted from the disk would reply.
-pub record IsFreshReply (at : SystemState) (op : Operation) (reply : Reply) : Type 0 where
+pub record IsReplyAfterMount (at : SystemState) (op : Operation) (reply : Reply) : Type 0 where
   pub pairs : List Pair
   pub accepted : IsAccepted at.disk pairs
   pub around : DiskSummary
-  pub surrounds : IsSummary at.disk pairs around
+  pub surrounds : IsDiskSummary at.disk pairs around
   pub is : reply ≡ (operation_result around (mounted_session (disk_tree at.disk pairs)) op).0
 
 -- The reply to a read of up to `count` bytes at the position of an open reader, from the file in
@@ -91,7 +91,7 @@ pub record IsReaderReply (at : SystemState) (fd count : ℕ) (reply : Reply) : T
 -- ---- runs over joined lists
 
 -- A run of the joined lists is a run of `operations`, followed by a run of `more`.
-pub record IsDividedRun (operations more : List Operation) (replies : List Reply) (a c : SystemState) : Type 0 where
+pub record IsRunOfConcatenation (operations more : List Operation) (replies : List Reply) (a c : SystemState) : Type 0 where
   pub between : SystemState
   pub front : List Reply
   pub back : List Reply
@@ -111,7 +111,7 @@ pub record SessionMatchesDisk (from : SystemState) (operations : List Operation)
   pub answers : AreSteps from operations replies at
   pub shows : HasDiskTree at
   pub defined : (around : DiskSummary) (s : Session) → from.state ≡ Healthy s → at.state ≡ Healthy (session_after_all around s operations replies)
-  pub questions : (to : SystemState) (op : Operation) (reply : Reply) → is_query op ≡ true → IsStep at op reply to → IsFreshReply at op reply
+  pub questions : (to : SystemState) (op : Operation) (reply : Reply) → is_query op ≡ true → IsStep at op reply to → IsReplyAfterMount at op reply
   pub readers : (to : SystemState) (fd count : ℕ) (reply : Reply) → IsStep at (ops.Read fd count) reply to → IsReaderReply at fd count reply
   pub profile : IsWritableDisk from.disk → IsWritableDisk at.disk
   pub settled : IsRecoveredDisk from.disk → IsRecoveredDisk at.disk

@@ -42,11 +42,11 @@ call_erases (Erase block) = 1
 call_erases (Blank block off len) = 0
 
 -- 1 for a blank check, 0 for any other call.
-abbrev pub call_blanks : DeviceCall → ℕ
-call_blanks (Read block off len) = 0
-call_blanks (Program block off bytes) = 0
-call_blanks (Erase block) = 0
-call_blanks (Blank block off len) = 1
+abbrev pub call_blank_answers : DeviceCall → ℕ
+call_blank_answers (Read block off len) = 0
+call_blank_answers (Program block off bytes) = 0
+call_blank_answers (Erase block) = 0
+call_blank_answers (Blank block off len) = 1
 
 -- The number of reads in a history.
 abbrev pub read_count : List CallEvent → ℕ
@@ -64,9 +64,9 @@ erase_count [] = 0
 erase_count (e ∷ older) = erase_count older + call_erases e.call
 
 -- The number of blank checks in a history.
-abbrev pub blank_count : List CallEvent → ℕ
-blank_count [] = 0
-blank_count (e ∷ older) = blank_count older + call_blanks e.call
+abbrev pub blank_answer_count : List CallEvent → ℕ
+blank_answer_count [] = 0
+blank_answer_count (e ∷ older) = blank_answer_count older + call_blank_answers e.call
 
 -- The number of failed calls in a history.
 abbrev pub fault_count : List CallEvent → ℕ
@@ -91,7 +91,7 @@ abbrev pub AreUnprogrammed : List CallEvent → ℕ → ℕ → ℕ → Type 0
 AreUnprogrammed history b low high = (k : ℕ) → low ≤ k → k < high → is_unprogrammed_byte history b k ≡ true
 
 -- Every byte outside the blocks `bs` that was unprogrammed after `old` is unprogrammed after `new`.
-pub record StayUnprogrammed (bs : List ℕ) (old new : List CallEvent) : Type 0 where
+pub record OthersStayUnprogrammed (bs : List ℕ) (old new : List CallEvent) : Type 0 where
   pub stays : (b k : ℕ) → All (λ c. c ≢ b) bs → is_unprogrammed_byte old b k ≡ true → is_unprogrammed_byte new b k ≡ true
 
 -- Every call of a history has the property `P`.
@@ -117,15 +117,15 @@ OnlyReadsSince blocks old new = AllCallsSince (IsRead blocks) old new
 
 -- A power loss during the call may, at worst, leave the blocks `disk`: after a program or an erase,
 -- its block may hold any bytes.
-abbrev pub may_leave : DeviceCall → Blocks → Blocks → Type 0
-may_leave (Read block off len) before disk = disk ≡ before
-may_leave (Program block off bytes) before disk = SameExcept block before disk
-may_leave (Erase block) before disk = SameExcept block before disk
-may_leave (Blank block off len) before disk = disk ≡ before
+abbrev pub may_leave_at_worst : DeviceCall → Blocks → Blocks → Type 0
+may_leave_at_worst (Read block off len) before disk = disk ≡ before
+may_leave_at_worst (Program block off bytes) before disk = SameExcept block before disk
+may_leave_at_worst (Erase block) before disk = SameExcept block before disk
+may_leave_at_worst (Blank block off len) before disk = disk ≡ before
 
 -- A power loss in the call `e` may, at worst, leave the blocks `disk`.
 abbrev pub LossLeavesAtWorst : CallEvent → Blocks → Type 0
-LossLeavesAtWorst e disk = may_leave e.call e.before disk
+LossLeavesAtWorst e disk = may_leave_at_worst e.call e.before disk
 
 -- Every disk that a power loss during a call since `old` may leave has the property `P`. The
 -- relation `stops` holds if a power loss in a call may leave a disk.
@@ -138,5 +138,5 @@ history_with_outcome [] after failed = []
 history_with_outcome (e ∷ older) after failed = call_event e.call e.before after failed ∷ older
 
 -- The newest call, if there is one, left `blocks`.
-abbrev pub LeftByLatest : List CallEvent → Blocks → Type 0
-LeftByLatest history blocks = (e : CallEvent) (older : List CallEvent) → history ≡ e ∷ older → e.after ≡ blocks
+abbrev pub LeftByLatestCall : List CallEvent → Blocks → Type 0
+LeftByLatestCall history blocks = (e : CallEvent) (older : List CallEvent) → history ≡ e ∷ older → e.after ≡ blocks

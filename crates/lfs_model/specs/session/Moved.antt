@@ -12,7 +12,7 @@ use Rattle.lfs_model.specs.tree.View.{IsAccepted}
 use Rattle.lfs_model.specs.session.History.{CallEvent}
 use Rattle.lfs_model.specs.session.Operations.{Operation}
 use Rattle.lfs_model.specs.session.Session.{Session}
-use Rattle.lfs_model.specs.session.Layout.{IsLayoutRecovered}
+use Rattle.lfs_model.specs.session.Layout.{IsLayoutAfterRecovery}
 
 -- ---- which pairs are worn
 
@@ -45,7 +45,7 @@ pair_behind to p = record { at = to; content = record p.content { move = zero_gs
 
 -- A pair that a hard tail points to moves whole: its slots, its tail and its delta of the global
 -- state. The tail before it points to its new address. Its old blocks are free.
-pub record IsPairMoved (disk : Disk) (ps qs : List Pair) : Type 0 where
+pub record IsPairRelocated (disk : Disk) (ps qs : List Pair) : Type 0 where
   pub front : List Pair
   pub before : Pair
   pub worn : Pair
@@ -59,7 +59,7 @@ pub record IsPairMoved (disk : Disk) (ps qs : List Pair) : Type 0 where
 
 -- The first pair of a directory other than the root keeps none of its slots. They move to a new
 -- pair, linked by a hard tail.
-pub record IsPairUnloaded (disk : Disk) (ps : List Pair) (new : Disk) (qs : List Pair) : Type 0 where
+pub record IsFirstPairEmptied (disk : Disk) (ps : List Pair) (new : Disk) (qs : List Pair) : Type 0 where
   pub front : List Pair
   pub before : Pair
   pub worn : Pair
@@ -76,7 +76,7 @@ pub record IsPairUnloaded (disk : Disk) (ps : List Pair) (new : Disk) (qs : List
 -- The thread's first pair, which is also the first of the root directory, keeps only its
 -- superblock. The root directory then begins at a new pair, linked by a hard tail, with all slots,
 -- including a superblock.
-pub record IsRootUnloaded (disk : Disk) (ps : List Pair) (new : Disk) (qs : List Pair) : Type 0 where
+pub record IsSuperblockExpanded (disk : Disk) (ps : List Pair) (new : Disk) (qs : List Pair) : Type 0 where
   pub worn : Pair
   pub back : List Pair
   pub to : ℕ × ℕ
@@ -88,12 +88,12 @@ pub record IsRootUnloaded (disk : Disk) (ps : List Pair) (new : Disk) (qs : List
   pub due : is_worn disk worn ≡ true
 
 -- One worn pair moves, or its slots move to a new pair.
-abbrev pub IsMoved : Disk → List Pair → Disk → List Pair → Type 0
-IsMoved disk ps new qs = IsPairMoved disk ps qs ⊎ (IsPairUnloaded disk ps new qs ⊎ IsRootUnloaded disk ps new qs)
+abbrev pub IsOnePairRelocated : Disk → List Pair → Disk → List Pair → Type 0
+IsOnePairRelocated disk ps new qs = IsPairRelocated disk ps qs ⊎ (IsFirstPairEmptied disk ps new qs ⊎ IsSuperblockExpanded disk ps new qs)
 
 -- Nothing changes, or one worn pair or its slots move.
-abbrev pub IsWearSpread : Disk → List Pair → Disk → List Pair → Type 0
-IsWearSpread disk ps new qs = ((new ≡ disk) × (qs ≡ ps)) ⊎ IsMoved disk ps new qs
+abbrev pub IsWearLeveled : Disk → List Pair → Disk → List Pair → Type 0
+IsWearLeveled disk ps new qs = ((new ≡ disk) × (qs ≡ ps)) ⊎ IsOnePairRelocated disk ps new qs
 
 -- ---- after an operation
 
@@ -103,11 +103,11 @@ HadBlocks disk calls new blocks = (blocks ≡ disk.blocks) ⊎ ((blocks ≡ new.
 
 -- The calls of the operation at some point leave an accepted disk `done`, on which the operation is
 -- complete and its slots are laid out. After that, at most one worn pair or its slots move.
-pub record IsLayoutMoved (disk : Disk) (ps : List Pair) (s : Session) (op : Operation) (calls : List CallEvent) (new : Disk) (qs : List Pair) : Type 0 where
+pub record IsLayoutAfterRelocation (disk : Disk) (ps : List Pair) (s : Session) (op : Operation) (calls : List CallEvent) (new : Disk) (qs : List Pair) : Type 0 where
   pub done : Disk
   pub after : List Pair
   pub had : HadBlocks disk calls new done.blocks
   pub geometry : SameGeometry disk done
   pub accepted : IsAccepted done after
-  pub operation : IsLayoutRecovered disk ps s op done after
-  pub spread : IsWearSpread done after new qs
+  pub operation : IsLayoutAfterRecovery disk ps s op done after
+  pub spread : IsWearLeveled done after new qs

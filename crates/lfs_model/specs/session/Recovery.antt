@@ -2,7 +2,7 @@
 use Rattle.std.specs.Prelude.{◌≡◌, Bool, true, false, not, List, All}
 use Rattle.lfs_model.specs.format.Slots.{zero_gstate}
 use Rattle.lfs_model.specs.format.Thread.{Pair, pairs_gstate}
-use Rattle.lfs_model.specs.tree.Shown.{all_directories, IsReachedBySome}
+use Rattle.lfs_model.specs.tree.Shown.{all_directories, IsReachedDirectory}
 use Rattle.lfs_model.specs.session.TreeEdits.{same_path}
 use Rattle.lfs_model.specs.session.Operations as ops
 use Rattle.lfs_model.specs.session.Operations.{Operation}
@@ -10,7 +10,7 @@ use Rattle.lfs_model.specs.session.Refusals.{path_or_root}
 
 -- A path leads to every directory of the thread.
 abbrev pub AllReached : List Pair → Type 0
-AllReached ps = All (λ d. IsReachedBySome ps d.at) (all_directories ps)
+AllReached ps = All (λ d. IsReachedDirectory ps d.at) (all_directories ps)
 
 -- Nothing is left to recover.
 pub record IsRecovered (ps : List Pair) : Type 0 where

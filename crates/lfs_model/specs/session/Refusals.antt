@@ -7,8 +7,8 @@ use Rattle.lfs_model.specs.tree.Tree.{Path}
 use Rattle.lfs_model.specs.session.Operations as ops
 use Rattle.lfs_model.specs.session.Operations.{Refusal, NoEnt, BadFile, Busy, Exist, NotDir, IsDir, Invalid, TooBig, NoSpace, ReadOnly, NameTooLong, NotEmpty, NoAttr, EntryFull, FlagsOfOpen, Operation, parse_path}
 use Rattle.lfs_model.specs.session.TreeEdits.{same_path, without_prefix, is_beneath, last_name, is_directory, is_file, node_attributes_of, file_bytes, directory_names}
-use Rattle.lfs_model.specs.session.Session.{Session, DiskSummary, FileWriter, file_numbered, file_reader, file_writer, has_open_file, all_readers, all_writers, refuse_if, first_refusal, parents_refusal, flags_allowed, has_long_name, lacks_room, overfills_disk, exceeds_charge}
-use Rattle.lfs_model.specs.session.Writers.{write_position, written_writer, truncated_writer, opened_writer}
+use Rattle.lfs_model.specs.session.Session.{Session, DiskSummary, FileWriter, file_numbered, file_reader, file_writer, has_open_file, all_readers, all_writers, refuse_if, first_refusal, parents_refusal, flags_allowed, has_long_name, lacks_room, overfills_disk, exceeds_half_pair}
+use Rattle.lfs_model.specs.session.Writers.{write_position, writer_after_write, truncated_writer, opened_writer}
 
 abbrev pub is_root_path : Path → Bool
 is_root_path [] = true
@@ -36,7 +36,7 @@ open_refusal around s given p flags = first_refusal (
     ∷ refuse_if (if flags.write
     then nat_lt 0 (length (all_writers s.files)) || has_open_file (same_path p) s.files
     else list_any (λ w. same_path p w.path) (all_writers s.files) || nat_le 16 (length (all_readers s.files))) Busy
-    ∷ refuse_if (is_none (s.tree p) && exceeds_charge around (last_name p) []) EntryFull
+    ∷ refuse_if (is_none (s.tree p) && exceeds_half_pair around (last_name p) []) EntryFull
     ∷ refuse_if (is_none (s.tree p) && lacks_room around s.files 2) NoSpace
     ∷ refuse_if (flags.truncate && overfills_disk around (opened_writer p flags (file_bytes (s.tree p)))) NoSpace
     ∷ [])
@@ -54,7 +54,7 @@ rename_refusal around s given_old given_new old new = first_refusal (
     ∷ refuse_if (not (same_path old new) && is_file (s.tree old) && is_directory (s.tree new)) IsDir
     ∷ refuse_if (not (same_path old new) && nat_lt 0 (length (directory_names (s.tree new)))) NotEmpty
     ∷ refuse_if (has_open_file (λ p. is_some (without_prefix old p) || same_path new p) s.files) Busy
-    ∷ refuse_if (not (same_path old new) && exceeds_charge around (last_name new) (node_attributes_of (s.tree old))) EntryFull
+    ∷ refuse_if (not (same_path old new) && exceeds_half_pair around (last_name new) (node_attributes_of (s.tree old))) EntryFull
     ∷ refuse_if (lacks_room around s.files 2) NoSpace
     ∷ [])
 
@@ -68,7 +68,7 @@ operation_refusal around s (ops.Write fd bytes) = write_refusal (file_writer (fi
     write_refusal None = Some BadFile
     write_refusal (Some w) = first_refusal (
         refuse_if (nat_lt 0 (length bytes) && nat_lt (profile_file_max around.profile) (write_position w + length bytes)) TooBig
-        ∷ refuse_if (nat_lt 0 (length bytes) && overfills_disk around (written_writer w bytes)) NoSpace
+        ∷ refuse_if (nat_lt 0 (length bytes) && overfills_disk around (writer_after_write w bytes)) NoSpace
         ∷ [])
 operation_refusal around s (ops.Seek fd position) = first_refusal (
     refuse_if (is_none (file_numbered s.files fd)) BadFile
@@ -90,7 +90,7 @@ operation_refusal around s (ops.Mkdir path) = first_refusal (
     ∷ parents_refusal s.tree [] (path_or_root path)
     ∷ refuse_if (has_long_name around (path_or_root path)) NameTooLong
     ∷ refuse_if (is_some (s.tree (path_or_root path))) Exist
-    ∷ refuse_if (exceeds_charge around (last_name (path_or_root path)) []) EntryFull
+    ∷ refuse_if (exceeds_half_pair around (last_name (path_or_root path)) []) EntryFull
     ∷ refuse_if (lacks_room around s.files 4) NoSpace
     ∷ [])
 operation_refusal around s (ops.Remove path) = first_refusal (
@@ -125,7 +125,7 @@ operation_refusal around s (ops.SetAttr path kind bytes) = first_refusal (
     ∷ parents_refusal s.tree [] (path_or_root path)
     ∷ refuse_if (is_none (s.tree (path_or_root path))) NoEnt
     ∷ refuse_if (nat_lt (profile_attr_max around.profile) (length bytes)) TooBig
-    ∷ refuse_if (exceeds_charge around (last_name (path_or_root path)) (attributes_with kind bytes (node_attributes_of (s.tree (path_or_root path))))) EntryFull
+    ∷ refuse_if (exceeds_half_pair around (last_name (path_or_root path)) (attributes_with kind bytes (node_attributes_of (s.tree (path_or_root path))))) EntryFull
     ∷ refuse_if (lacks_room around s.files 2) NoSpace
     ∷ [])
 operation_refusal around s (ops.RemoveAttr path kind) = first_refusal (

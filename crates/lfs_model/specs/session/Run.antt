@@ -2,7 +2,7 @@
 use Rattle.std.specs.Prelude.{ℕ, ◌≡◌, ◌==◌, Bool, true, false, not, if◌then◌else◌, List, [], ◌∷◌, ◌++◌, length, Option, Some, None, is_some}
 use Rattle.lfs_model.specs.declared.order.NameOrder.{NameOrder}
 use Rattle.lfs_model.specs.declared.order.NameOrder.TheVariants.{LongerFirst, ShorterFirst}
-use Rattle.lfs_model.specs.format.Disk.{Disk, SameGeometry, ordered_disk}
+use Rattle.lfs_model.specs.format.Disk.{Disk, SameGeometry, disk_with_order}
 use Rattle.lfs_model.specs.format.Slots.{zero_gstate}
 use Rattle.lfs_model.specs.format.Thread.{Pair, pairs_gstate}
 use Rattle.lfs_model.specs.tree.Tree.{Tree}
@@ -15,9 +15,9 @@ use Rattle.lfs_model.specs.session.Operations as ops
 use Rattle.lfs_model.specs.session.Operations.{Operation, Reply}
 use Rattle.lfs_model.specs.session.Session.{Session, DiskSummary, OpenFile, Reading, Writing, FileWriter, file_reader, file_writer, file_numbered}
 use Rattle.lfs_model.specs.session.Refusals.{path_or_root}
-use Rattle.lfs_model.specs.session.State.{IsSummary, SessionHealth, HasFailed, Healthy, is_remount, result_and_health}
+use Rattle.lfs_model.specs.session.State.{IsDiskSummary, SessionHealth, HasFailed, Healthy, is_remount, result_and_health}
 use Rattle.lfs_model.specs.session.Recovery.{IsRecovered, recovers_first}
-use Rattle.lfs_model.specs.session.Moved.{IsLayoutMoved}
+use Rattle.lfs_model.specs.session.Moved.{IsLayoutAfterRelocation}
 
 -- The state between two operations: the disk, the device's calls so far, the newest first, and the
 -- session.
@@ -28,7 +28,7 @@ pub record SystemState : Type 0 where
 
 -- The disk shows this tree. With None, it is accepted in neither order of names.
 abbrev pub ShowsTree : Disk → Option Tree → Type 0
-ShowsTree disk None = (order : NameOrder) (ps : List Pair) → IsAccepted (ordered_disk order disk) ps → ⊥
+ShowsTree disk None = (order : NameOrder) (ps : List Pair) → IsAccepted (disk_with_order order disk) ps → ⊥
 ShowsTree disk (Some tree) = (ps : List Pair) × (IsAccepted disk ps × (tree ≡ disk_tree disk ps))
 
 -- A healthy session has the disk's tree.
@@ -41,8 +41,8 @@ HealthyHasDiskTree disk (Healthy session) = ShowsTree disk (Some session.tree)
 pub record IsReply (disk : Disk) (order : NameOrder) (state : SessionHealth) (op : Operation) (reply : Reply) (after : SessionHealth) : Type 0 where
   pub around : DiskSummary
   pub shown : Option Tree
-  pub surrounds : (session : Session) → state ≡ Healthy session → (ps : List Pair) × (IsAccepted disk ps × IsSummary disk ps around)
-  pub shows : is_remount op ≡ true → ShowsTree (ordered_disk order disk) shown
+  pub surrounds : (session : Session) → state ≡ Healthy session → (ps : List Pair) × (IsAccepted disk ps × IsDiskSummary disk ps around)
+  pub shows : is_remount op ≡ true → ShowsTree (disk_with_order order disk) shown
   pub answers : result_and_health around shown state op ≡ (Some reply, after)
 
 abbrev pub is_refusal : Reply → Bool
@@ -73,9 +73,9 @@ is_read_only s ops.Remount = true
 is_read_only s _ = false
 
 -- Whether the operation opens a file that already exists.
-abbrev pub opens_there : Session → Operation → Bool
-opens_there s (ops.Open path flags) = is_some (s.tree (path_or_root path))
-opens_there s _ = false
+abbrev pub opens_existing_file : Session → Operation → Bool
+opens_existing_file s (ops.Open path flags) = is_some (s.tree (path_or_root path))
+opens_existing_file s _ = false
 
 -- Whether the operation changes the contents of a writer, and thus writes only to blocks outside
 -- the tree.
@@ -126,14 +126,14 @@ IsUntouched disk calls new = (new ≡ disk) × WriteNothing calls
 
 -- The disk that an operation works on. A remount may change the order of names to `order`.
 abbrev pub operation_disk : Operation → NameOrder → Disk → Disk
-operation_disk op order disk = if is_remount op then ordered_disk order disk else disk
+operation_disk op order disk = if is_remount op then disk_with_order order disk else disk
 
 -- A remount only reads, and finds the order of names. If the disk is accepted in both orders, the
 -- longer names come first.
 pub record IsRemountedDisk (disk : Disk) (calls : List CallEvent) (new : Disk) : Type 0 where
-  pub untouched : IsUntouched (ordered_disk new.order disk) calls new
+  pub untouched : IsUntouched (disk_with_order new.order disk) calls new
   pub reads : AllCalls (IsRead disk.blocks) calls
-  pub longer : new.order ≡ ShorterFirst → (ps : List Pair) → IsAccepted (ordered_disk LongerFirst disk) ps → ⊥
+  pub longer : new.order ≡ ShorterFirst → (ps : List Pair) → IsAccepted (disk_with_order LongerFirst disk) ps → ⊥
 
 -- ---- an operation
 
@@ -142,7 +142,7 @@ pub record IsRemountedDisk (disk : Disk) (calls : List CallEvent) (new : Disk) :
 pub record IsDiskEffect (disk : Disk) (ps : List Pair) (s : Session) (op : Operation) (calls : List CallEvent) (new : Disk) (qs : List Pair) : Type 0 where
   -- Operations that write nothing.
   pub asks : is_read_only s op ≡ true → IsUntouched (operation_disk op new.order disk) calls new
-  pub opens : opens_there s op ≡ true → pairs_gstate ps ≡ zero_gstate → new ≡ disk
+  pub opens : opens_existing_file s op ≡ true → pairs_gstate ps ≡ zero_gstate → new ≡ disk
   pub itself : renames_itself op ≡ true → IsUntouched disk calls new
   pub nothing_left : is_recover op ≡ true → IsRecovered ps → IsUntouched disk calls new
   pub silent : needs_no_device s op ≡ true → (new ≡ disk) × (calls ≡ [])
@@ -154,9 +154,9 @@ pub record IsDiskEffect (disk : Disk) (ps : List Pair) (s : Session) (op : Opera
   pub profile : IsWritable disk ps → IsWritable new qs
 
 -- The operation has this effect on the disk, and if it changes slots, they are laid out as defined.
-pub record IsArrangedEffect (disk : Disk) (ps : List Pair) (s : Session) (op : Operation) (calls : List CallEvent) (new : Disk) (qs : List Pair) : Type 0 where
+pub record IsDiskEffectWithLayout (disk : Disk) (ps : List Pair) (s : Session) (op : Operation) (calls : List CallEvent) (new : Disk) (qs : List Pair) : Type 0 where
   pub effect : IsDiskEffect disk ps s op calls new qs
-  pub arranged : edits_slots s op ≡ true → IsLayoutMoved disk ps s op calls new qs
+  pub arranged : edits_slots s op ≡ true → IsLayoutAfterRelocation disk ps s op calls new qs
 
 -- A relation of a disk, its pairs, a session, an operation, its calls, and the disk and its pairs
 -- after the operation.
@@ -184,7 +184,7 @@ IsTreeStep from op reply to = IsStepWith IsDiskEffect from op reply to
 -- One operation leads from one state to the other, with its effect on the tree and on the layout of
 -- the slots.
 abbrev pub IsStep : SystemState → Operation → Reply → SystemState → Type 0
-IsStep from op reply to = IsStepWith IsArrangedEffect from op reply to
+IsStep from op reply to = IsStepWith IsDiskEffectWithLayout from op reply to
 
 -- The operations, in order and with these replies, lead from one state to the other.
 abbrev pub AreSteps : SystemState → List Operation → List Reply → SystemState → Type 0

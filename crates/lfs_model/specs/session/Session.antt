@@ -5,9 +5,9 @@ use Rattle.std.specs.Option.{option_and_then, option_or, option_flatten}
 use Rattle.lfs_model.specs.declared.limits.Profile.{Profile}
 use Rattle.lfs_model.specs.format.Names.{Name}
 use Rattle.lfs_model.specs.format.Slots.{Attributes, Gstate}
-use Rattle.lfs_model.specs.format.Disk.{inline_limit, profile_name_max, charge_limit}
-use Rattle.lfs_model.specs.format.Slots.{entry_charge}
-use Rattle.lfs_model.specs.format.SkipLists.{block_count_for}
+use Rattle.lfs_model.specs.format.Disk.{inline_limit, profile_name_max, half_pair_capacity}
+use Rattle.lfs_model.specs.format.Slots.{reserved_entry_size}
+use Rattle.lfs_model.specs.format.SkipLists.{skip_list_block_count}
 use Rattle.lfs_model.specs.tree.Tree.{Path, Node, FileNode, DirectoryNode, Tree}
 use Rattle.lfs_model.specs.session.Operations.{Refusal, NoEnt, NotDir, FlagsOfOpen}
 use Rattle.lfs_model.specs.session.TreeEdits.{last_name}
@@ -56,8 +56,8 @@ pub record DiskSummary : Type 0 where
 -- ---- free blocks
 
 -- The number of blocks in the CTZ skip-list of a file with `n` bytes: 0 if the file is inline.
-abbrev pub list_block_count : Profile → ℕ → ℕ → ℕ
-list_block_count profile block_size n = if nat_le n (inline_limit profile block_size) then 0 else block_count_for block_size n
+abbrev pub file_block_count : Profile → ℕ → ℕ → ℕ
+file_block_count profile block_size n = if nat_le n (inline_limit profile block_size) then 0 else skip_list_block_count block_size n
 
 -- ---- open files
 
@@ -66,7 +66,7 @@ list_block_count profile block_size n = if nat_le n (inline_limit profile block_
 abbrev pub reserved_for_writer : Profile → ℕ → FileWriter → ℕ
 reserved_for_writer profile block_size w =
     if not w.dirty then 0
-    else 2 + (if w.turned then 2 else 1) * list_block_count profile block_size (length w.contents)
+    else 2 + (if w.turned then 2 else 1) * file_block_count profile block_size (length w.contents)
 
 -- The open file with the number `fd`.
 abbrev pub file_numbered : OpenFilesByNumber → ℕ → Option OpenFile
@@ -168,6 +168,6 @@ abbrev pub overfills_disk : DiskSummary → FileWriter → Bool
 overfills_disk around w = nat_lt around.block_count (length around.used + reserved_for_writer around.profile around.block_size w)
 
 -- Whether an entry with this name and these attributes is charged more than the limit.
-abbrev pub exceeds_charge : DiskSummary → Name → Attributes → Bool
-exceeds_charge around name attributes =
-    nat_lt (charge_limit around.block_size around.page) (entry_charge around.profile around.block_size name attributes)
+abbrev pub exceeds_half_pair : DiskSummary → Name → Attributes → Bool
+exceeds_half_pair around name attributes =
+    nat_lt (half_pair_capacity around.block_size around.page) (reserved_entry_size around.profile around.block_size name attributes)

@@ -6,7 +6,7 @@ use Rattle.lfs_model.specs.format.Slots.{Slot, File, Directory, Struct, Inline, 
 use Rattle.lfs_model.specs.format.Content.{attributes_with, attributes_without}
 use Rattle.lfs_model.specs.format.Thread.{Pair, pairs_gstate, slots_not_moved, root_address}
 use Rattle.lfs_model.specs.tree.Tree.{Path, Node, root_slot, slot_at_path}
-use Rattle.lfs_model.specs.tree.Shown.{struct_list_bytes, all_entries}
+use Rattle.lfs_model.specs.tree.Shown.{disk_list_bytes, all_entries}
 use Rattle.lfs_model.specs.session.TreeEdits.{last_name}
 use Rattle.lfs_model.specs.session.Operations as ops
 use Rattle.lfs_model.specs.session.Operations.{Operation}
@@ -33,19 +33,19 @@ pub record ReplacesSlots (olds news : List Slot) (old new : List Pair) : Type 0 
   pub is : new ≡ before ++ pair_with_slots (left ++ (news ++ right)) pair ∷ after
 
 -- The slot that a path leads to.
-abbrev pub slot_of : List Pair → Path → Option Slot
-slot_of ps path = slot_at_path (all_entries ps) (root_slot (root_address ps)) path
+abbrev pub slot_of_path : List Pair → Path → Option Slot
+slot_of_path ps path = slot_at_path (all_entries ps) (root_slot (root_address ps)) path
 
 -- A slot replaces the one at `path`, and `P` relates the old one to the new one.
 abbrev pub ReplacesSlot : (Slot → Slot → Type 0) → List Pair → Path → List Pair → List Pair → Type 0
-ReplacesSlot P ps path old new = (u v : Slot) × ((slot_of ps path ≡ Some u) × P u v × ReplacesSlots (u ∷ []) (v ∷ []) old new)
+ReplacesSlot P ps path old new = (u v : Slot) × ((slot_of_path ps path ≡ Some u) × P u v × ReplacesSlots (u ∷ []) (v ∷ []) old new)
 
 -- The struct has these bytes: inline if they are within the inline limit, otherwise in a CTZ
 -- skip-list.
-abbrev pub GivesBytes : Disk → List ℕ → Struct → Type 0
-GivesBytes disk bytes (Inline own) = (own ≡ bytes) × (length bytes ≤ inline_limit disk.profile disk.block_size)
-GivesBytes disk bytes (Ctz head size) = (size ≡ length bytes) × (struct_list_bytes disk head size ≡ bytes) × (inline_limit disk.profile disk.block_size < length bytes)
-GivesBytes disk bytes (Branch to) = ⊥
+abbrev pub IsStructOfBytes : Disk → List ℕ → Struct → Type 0
+IsStructOfBytes disk bytes (Inline own) = (own ≡ bytes) × (length bytes ≤ inline_limit disk.profile disk.block_size)
+IsStructOfBytes disk bytes (Ctz head size) = (size ≡ length bytes) × (disk_list_bytes disk head size ≡ bytes) × (inline_limit disk.profile disk.block_size < length bytes)
+IsStructOfBytes disk bytes (Branch to) = ⊥
 
 -- The slot of a new, empty file.
 abbrev pub file_slot : Name → Slot
@@ -69,7 +69,7 @@ AddsFile (Some node) name old new = new ≡ old
 -- if there was one.
 abbrev pub MovesSlot : List Pair → Path → Path → List Pair → List Pair → Type 0
 MovesSlot ps from to old new = (u : Slot) × (left cleared : List Pair)
-    × ((slot_of ps from ≡ Some u) × ReplacesSlots (u ∷ []) [] old left × RemovesSlot (slot_of ps to) left cleared
+    × ((slot_of_path ps from ≡ Some u) × ReplacesSlots (u ∷ []) [] old left × RemovesSlot (slot_of_path ps to) left cleared
     × ReplacesSlots [] (record u { name = last_name to } ∷ []) cleared new)
 
 -- The slot of a directory is added. The directory has one new pair, without slots.
@@ -83,14 +83,14 @@ abbrev pub StoresWriter : Disk → List Pair → Option OpenFile → List Pair �
 StoresWriter disk ps None old new = new ≡ old
 StoresWriter disk ps (Some (Reading r)) old new = new ≡ old
 StoresWriter disk ps (Some (Writing w)) old new = (w.dirty ≡ false × (new ≡ old))
-    ⊎ (w.dirty ≡ true × ReplacesSlot (λ u v. (v ≡ record u { struct = v.struct }) × GivesBytes disk w.contents v.struct) ps w.path old new)
+    ⊎ (w.dirty ≡ true × ReplacesSlot (λ u v. (v ≡ record u { struct = v.struct }) × IsStructOfBytes disk w.contents v.struct) ps w.path old new)
 
 -- The operation changes the slots of the pairs from `old` to `new`. The pairs before the operation
 -- are `ps`, the pair that it adds is `fresh`, and the disk after it is `disk`.
 abbrev pub EditsSlots : Disk → List Pair → Session → Operation → List Pair → List Pair → List Pair → Type 0
 EditsSlots disk ps s (ops.Open path flags) fresh old new = (fresh ≡ []) × AddsFile (s.tree (path_or_root path)) (last_name (path_or_root path)) old new
 EditsSlots disk ps s (ops.Mkdir path) fresh old new = AddsDirectory (last_name (path_or_root path)) fresh old new
-EditsSlots disk ps s (ops.Remove path) fresh old new = (fresh ≡ []) × (u : Slot) × ((slot_of ps (path_or_root path) ≡ Some u) × ReplacesSlots (u ∷ []) [] old new)
+EditsSlots disk ps s (ops.Remove path) fresh old new = (fresh ≡ []) × (u : Slot) × ((slot_of_path ps (path_or_root path) ≡ Some u) × ReplacesSlots (u ∷ []) [] old new)
 EditsSlots disk ps s (ops.Rename from to) fresh old new = (fresh ≡ []) × MovesSlot ps (path_or_root from) (path_or_root to) old new
 EditsSlots disk ps s (ops.Sync fd) fresh old new = (fresh ≡ []) × StoresWriter disk ps (file_numbered s.files fd) old new
 EditsSlots disk ps s (ops.Close fd) fresh old new = (fresh ≡ []) × StoresWriter disk ps (file_numbered s.files fd) old new

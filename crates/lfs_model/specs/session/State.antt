@@ -11,7 +11,7 @@ use Rattle.lfs_model.specs.session.Session.{Session, DiskSummary}
 use Rattle.lfs_model.specs.session.Effects.{operation_result}
 
 -- The record `around` has the data of an accepted disk with the pairs `ps`.
-pub record IsSummary (disk : Disk) (ps : List Pair) (around : DiskSummary) : Type 0 where
+pub record IsDiskSummary (disk : Disk) (ps : List Pair) (around : DiskSummary) : Type 0 where
   pub profile : around.profile ≡ disk.profile
   pub block_size : around.block_size ≡ disk.block_size
   pub page : around.page ≡ disk.page

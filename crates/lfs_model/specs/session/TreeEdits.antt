@@ -81,8 +81,8 @@ abbrev pub names_without : Name → List Name → List Name
 names_without name ns = filter (λ n. not (same_name name n)) ns
 
 -- The tree with this node at the path `p`.
-abbrev pub tree_with : Path → Option Node → Tree → Tree
-tree_with p node t q = if same_path p q then node else t q
+abbrev pub tree_with_node : Path → Option Node → Tree → Tree
+tree_with_node p node t q = if same_path p q then node else t q
 
 -- The tree with the node at the path `p` changed.
 abbrev pub tree_with_change : Path → (Node → Node) → Tree → Tree
@@ -90,11 +90,11 @@ tree_with_change p change t q = if same_path p q then option_map change (t q) el
 
 -- The tree with a new node at the path `p`, and its name in the parent directory.
 abbrev pub tree_creating : Path → Node → Tree → Tree
-tree_creating p node t = tree_with p (Some node) (tree_with_change (parent_path p) (node_with_names (names_with (last_name p))) t)
+tree_creating p node t = tree_with_node p (Some node) (tree_with_change (parent_path p) (node_with_names (names_with (last_name p))) t)
 
 -- The tree without the node at the path `p`, and without its name in the parent directory.
 abbrev pub tree_removing : Path → Tree → Tree
-tree_removing p t = tree_with p None (tree_with_change (parent_path p) (node_with_names (names_without (last_name p))) t)
+tree_removing p t = tree_with_node p None (tree_with_change (parent_path p) (node_with_names (names_without (last_name p))) t)
 
 -- The tree `t` with the subtree `tree` at the path `p` and beneath it.
 abbrev pub tree_with_subtree : {A : Type 0} → Path → (Path → Option A) → (Path → Option A) → Path → Option A

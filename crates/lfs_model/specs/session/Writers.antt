@@ -4,7 +4,6 @@ use Rattle.lfs_model.specs.tree.Tree.{Path}
 use Rattle.lfs_model.specs.session.Operations.{FlagsOfOpen}
 use Rattle.lfs_model.specs.session.Session.{FileWriter}
 
-
 -- The bytes, padded with zeros to at least `n`.
 abbrev pub zero_padded : ℕ → List ℕ → List ℕ
 zero_padded n bytes = bytes ++ replicate (n - length bytes) 0
@@ -23,9 +22,9 @@ turns_writer None begin = false
 turns_writer (Some end) begin = not (begin == end)
 
 -- The writer after a write.
-abbrev pub written_writer : FileWriter → List ℕ → FileWriter
-written_writer w [] = w
-written_writer w (b ∷ bytes) = record w {
+abbrev pub writer_after_write : FileWriter → List ℕ → FileWriter
+writer_after_write w [] = w
+writer_after_write w (b ∷ bytes) = record w {
   contents = written_contents w.contents (write_position w) (b ∷ bytes);
   position = write_position w + length (b ∷ bytes);
   dirty = true;

@@ -7,9 +7,9 @@ use Rattle.lfs_model.specs.declared.limits.Profile.{Profile}
 use Rattle.lfs_model.specs.format.Disk.{Disk, block_count, profile_name_max, profile_file_max, profile_attr_max}
 use Rattle.lfs_model.specs.format.Slots.{Slot, Superblock, Inline, PairContent, zero_gstate}
 use Rattle.lfs_model.specs.format.Content.{content_at, current_block}
-use Rattle.lfs_model.specs.format.Thread.{Pair, anchor_address}
+use Rattle.lfs_model.specs.format.Thread.{Pair, superblock_pair_address}
 use Rattle.lfs_model.specs.tree.Tree.{Tree, DirectoryNode}
-use Rattle.lfs_model.specs.tree.View.{BeginsWith, superblock_entry}
+use Rattle.lfs_model.specs.tree.View.{HasFirstLogEntry, superblock_entry}
 
 -- The data of a new superblock's struct: version 2.0, the block size, the number of blocks, and the
 -- profile's limits for names, files and attributes.
@@ -26,14 +26,14 @@ fresh_content profile block_size blocks = record { slots = superblock_slot profi
 
 -- The only pair of the thread after formatting.
 abbrev pub fresh_pair : Disk → Pair
-fresh_pair disk = record { at = anchor_address; content = fresh_content disk.profile disk.block_size (block_count disk) }
+fresh_pair disk = record { at = superblock_pair_address; content = fresh_content disk.profile disk.block_size (block_count disk) }
 
 -- The disk is freshly formatted: the pair {0, 1} has the superblock and nothing else. All other
 -- blocks may have any bytes.
 pub record IsFreshDisk (disk : Disk) : Type 0 where
   pub geometry : IsValidGeometry disk.block_size disk.page (block_count disk)
-  pub content : content_at disk anchor_address ≡ Some (fresh_content disk.profile disk.block_size (block_count disk))
-  pub first : BeginsWith (current_block disk anchor_address) superblock_entry
+  pub content : content_at disk superblock_pair_address ≡ Some (fresh_content disk.profile disk.block_size (block_count disk))
+  pub first : HasFirstLogEntry (current_block disk superblock_pair_address) superblock_entry
 
 -- The tree with an empty root directory and nothing else.
 abbrev pub empty_tree : Tree

@@ -13,9 +13,9 @@ use Rattle.lfs_model.specs.format.Slots.{Slot, SlotKind, File, Directory, Superb
 use Rattle.lfs_model.specs.format.Content.{current_block, content_at}
 use Rattle.lfs_model.specs.format.EntryTypes.{superblock_name_type, superblock_fields}
 use Rattle.lfs_model.specs.format.SkipLists.{IsSkipList}
-use Rattle.lfs_model.specs.format.Thread.{Pair, IsThread, pairs_from_root, first_address, pairs_from_filled, pairs_gstate, superblock_first, count_before_root, BeginsDirectory}
+use Rattle.lfs_model.specs.format.Thread.{Pair, IsThread, pairs_from_root, first_address, pairs_from_nonempty, pairs_gstate, begins_with_superblock, count_before_root, BeginsDirectory}
 use Rattle.lfs_model.specs.tree.Tree.{Path, Tree, names_at}
-use Rattle.lfs_model.specs.tree.Shown.{all_directories, all_entries, LeadsTo, IsReachedBySome, disk_tree, all_unmoved_slots, used_blocks}
+use Rattle.lfs_model.specs.tree.Shown.{all_directories, all_entries, IsDirectoryAtPath, IsReachedDirectory, disk_tree, all_unmoved_slots, used_blocks}
 
 -- ---- the superblock
 
@@ -26,16 +26,16 @@ accepts_version AlsoTwoOne version = version == 0x00020000 || version == 0x00020
 
 -- The bytes are the data of a superblock's struct for this disk: an accepted version, its block
 -- size, its number of blocks, and any limits.
-pub record IsSuperblock (disk : Disk) (bytes : List ℕ) : Type 0 where
+pub record IsSuperblockStruct (disk : Disk) (bytes : List ℕ) : Type 0 where
   pub len : length bytes ≡ 24
   pub version : accepts_version disk.profile.versions (superblock_fields bytes).version ≡ true
   pub block_size : (superblock_fields bytes).block_size ≡ disk.block_size
   pub block_count : (superblock_fields bytes).block_count ≡ block_count disk
 
 -- There is a block, and the first entry of its log is `e`.
-abbrev pub BeginsWith : Option (List ℕ) → LogEntry → Type 0
-BeginsWith None e = ⊥
-BeginsWith (Some block) e = slice_get (block_entries block) 0 ≡ Some e
+abbrev pub HasFirstLogEntry : Option (List ℕ) → LogEntry → Type 0
+HasFirstLogEntry None e = ⊥
+HasFirstLogEntry (Some block) e = slice_get (block_entries block) 0 ≡ Some e
 
 abbrev pub superblock_entry : LogEntry
 superblock_entry = record { tag = make_tag superblock_name_type 0 8; bytes = codes "littlefs" }
@@ -43,24 +43,24 @@ superblock_entry = record { tag = make_tag superblock_name_type 0 8; bytes = cod
 -- ---- the rules
 
 -- The kind is that of a file or a directory, and matches the struct.
-abbrev pub HasKind : SlotKind → Struct → Type 0
-HasKind File (Inline bytes) = Unit {0}
-HasKind File (Ctz head size) = Unit {0}
-HasKind Directory (Branch to) = Unit {0}
-HasKind File (Branch to) = ⊥
-HasKind Directory (Inline bytes) = ⊥
-HasKind Directory (Ctz head size) = ⊥
-HasKind Superblock s = ⊥
+abbrev pub IsKindOfStruct : SlotKind → Struct → Type 0
+IsKindOfStruct File (Inline bytes) = Unit {0}
+IsKindOfStruct File (Ctz head size) = Unit {0}
+IsKindOfStruct Directory (Branch to) = Unit {0}
+IsKindOfStruct File (Branch to) = ⊥
+IsKindOfStruct Directory (Inline bytes) = ⊥
+IsKindOfStruct Directory (Ctz head size) = ⊥
+IsKindOfStruct Superblock s = ⊥
 
 -- The slot is a file or a directory, with a valid name and a matching struct.
-pub record IsTreeEntry (s : Slot) : Type 0 where
+pub record IsFileOrDirectory (s : Slot) : Type 0 where
   pub name : is_valid_name s.name ≡ true
-  pub struct : HasKind s.kind s.struct
+  pub struct : IsKindOfStruct s.kind s.struct
 
 -- Slot 0 is a superblock with the property `P`, and the other slots are files and directories.
 abbrev pub IsSuperblockFirst : (Slot → Type 0) → List Slot → Type 0
 IsSuperblockFirst P [] = ⊥
-IsSuperblockFirst P (s ∷ slots) = (is_superblock s ≡ true) × P s × All IsTreeEntry slots
+IsSuperblockFirst P (s ∷ slots) = (is_superblock s ≡ true) × P s × All IsFileOrDirectory slots
 
 -- There is no slot, or slot 0 is a superblock with the property `P` and the other slots are files
 -- and directories.
@@ -94,18 +94,18 @@ first_pair_slots [] = []
 first_pair_slots (p ∷ ps) = p.content.slots
 
 -- The pairs of the superblock's chain. The root directory begins with the last of them.
-abbrev pub chain_pairs : List Pair → List Pair
-chain_pairs ps = take (count_before_root ps + 1) ps
+abbrev pub superblock_chain_pairs : List Pair → List Pair
+superblock_chain_pairs ps = take (count_before_root ps + 1) ps
 
 -- The pairs after the superblock's chain.
-abbrev pub after_chain : List Pair → List Pair
-after_chain ps = drop (count_before_root ps + 1) ps
+abbrev pub pairs_after_chain : List Pair → List Pair
+pairs_after_chain ps = drop (count_before_root ps + 1) ps
 
 -- If the struct is a CTZ skip-list, it is well formed.
-abbrev pub IsFormedList : Disk → Struct → Type 0
-IsFormedList disk (Ctz head size) = IsSkipList disk.blocks disk.block_size head size
-IsFormedList disk (Inline bytes) = Unit {0}
-IsFormedList disk (Branch to) = Unit {0}
+abbrev pub IsWellFormedList : Disk → Struct → Type 0
+IsWellFormedList disk (Ctz head size) = IsSkipList disk.blocks disk.block_size head size
+IsWellFormedList disk (Inline bytes) = Unit {0}
+IsWellFormedList disk (Branch to) = Unit {0}
 
 -- There is a slot, and it isn't a superblock.
 abbrev pub IsEntry : Option Slot → Type 0
@@ -128,25 +128,25 @@ pub record IsAccepted (disk : Disk) (ps : List Pair) : Type 0 where
   pub thread : IsThread (content_at disk) (block_count disk) ps
   -- In the first pair that has a slot, the superblock's name is the first entry, and slot 0 still
   -- has that name after all entries.
-  pub first : BeginsWith (current_block disk (first_address (pairs_from_filled ps))) superblock_entry
-  pub named : first_slot_name (pairs_from_filled ps) ≡ Some (codes "littlefs")
+  pub first : HasFirstLogEntry (current_block disk (first_address (pairs_from_nonempty ps))) superblock_entry
+  pub named : first_slot_name (pairs_from_nonempty ps) ≡ Some (codes "littlefs")
   -- The root directory begins with a superblock. All superblocks of the chain have the same struct,
   -- except perhaps for another accepted version.
-  pub root : superblock_first (first_pair_slots (pairs_from_root ps)) ≡ true
-  pub superblock : (bytes : List ℕ) × (IsSuperblock disk bytes × All (λ p. BeginsWithSuperblock disk.profile.versions bytes p.content.slots) (chain_pairs ps))
+  pub root : begins_with_superblock (first_pair_slots (pairs_from_root ps)) ≡ true
+  pub superblock : (bytes : List ℕ) × (IsSuperblockStruct disk bytes × All (λ p. BeginsWithSuperblock disk.profile.versions bytes p.content.slots) (superblock_chain_pairs ps))
   -- Every other slot is a file or a directory, with a valid name and a matching struct.
-  pub slots : All (λ p. All IsTreeEntry p.content.slots) (after_chain ps)
+  pub slots : All (λ p. All IsFileOrDirectory p.content.slots) (pairs_after_chain ps)
   -- In each directory that a path leads to, the names are strictly ascending in the disk's order.
-  pub order : (path : Path) (at : ℕ × ℕ) → LeadsTo ps path at → AllPairs (λ a b. name_cmp disk.order a b ≡ Less) (names_at (all_entries ps) at)
+  pub order : (path : Path) (at : ℕ × ℕ) → IsDirectoryAtPath ps path at → AllPairs (λ a b. name_cmp disk.order a b ≡ Less) (names_at (all_entries ps) at)
   -- Each address that a path leads to is that of a directory's first pair, and no two paths lead to
   -- the same directory.
-  pub branches : (path : Path) (at : ℕ × ℕ) → LeadsTo ps path at → BeginsDirectory (all_directories ps) at
-  pub once : (path other : Path) (at to : ℕ × ℕ) → LeadsTo ps path at → LeadsTo ps other to → same_pair at to ≡ true → path ≡ other
+  pub branches : (path : Path) (at : ℕ × ℕ) → IsDirectoryAtPath ps path at → BeginsDirectory (all_directories ps) at
+  pub once : (path other : Path) (at to : ℕ × ℕ) → IsDirectoryAtPath ps path at → IsDirectoryAtPath ps other to → same_pair at to ≡ true → path ≡ other
   -- If the sync bit is clear, a path leads to every directory.
-  pub reached : (pairs_gstate ps).sync ≡ false → All (λ d. IsReachedBySome ps d.at) (all_directories ps)
+  pub reached : (pairs_gstate ps).sync ≡ false → All (λ d. IsReachedDirectory ps d.at) (all_directories ps)
   pub move : HasValidMove ps (pairs_gstate ps)
   -- Every file's CTZ skip-list is well formed, and no block is used twice.
-  pub lists : All (λ s. IsFormedList disk s.struct) (all_unmoved_slots ps)
+  pub lists : All (λ s. IsWellFormedList disk s.struct) (all_unmoved_slots ps)
   pub owned_once : IsDistinct nat_eq (used_blocks disk ps)
 
 -- ---- the view of an accepted disk

@@ -41,7 +41,7 @@ returns-clause-part g c =
     (ChangesOnlyRange-program g.D.BlockDevice c.prog.result (omega (arith, shape.count, c.requires.can.in_device)) (omega (arith, shape.sizes c.args.block c.requires.can.in_device, c.requires.can.in_block))
     c.prog.ensures.programs.ok c.prog.ensures.programs.err c.prog.ensures.programs.others c.prog.ensures.geometry c.prog.ensures.history)
     (omega arith) (omega (arith, first)))
-    (ChangesOnlyRange-wider g.D.BlockDevice c.args.off (c.args.off + length c.args.bytes.now) c.program_page_part.ensures.part (omega arith) (omega (arith, then, room)))
+    (ChangesOnlyRange-wider g.D.BlockDevice c.args.off (c.args.off + length c.args.bytes.now) c.program_partial_page.ensures.part (omega arith) (omega (arith, then, room)))
 
 pub returns-clause-ok : goal.returns-clause-ok
 returns-clause-ok g c =
@@ -53,14 +53,14 @@ returns-clause-ok g c =
     let both : take whole bytes ++ rest ≡ take c.min-stored.result bytes = take-append-slice_range bytes whole c.min-stored.result (omega arith) in
     let size : length (take whole bytes) + length rest ≡ c.min-stored.result = sym (length-append (take whole bytes) rest) ∙ ap length both ∙ length-take-le c.min-stored.result bytes (omega arith) in
     let shape = g.met.D.BlockDevice.shape c.args.device.now in
-    on_ok_weaker c.program_page_part.result (λ is. is
+    on_ok_weaker c.program_partial_page.result (λ is. is
     ∙ ap (λ (d : Blocks). programmed d c.args.block (c.args.off + whole) rest) c.in_ok-prog.ensures.programs.ok
     ∙ ap (λ n. programmed (programmed old c.args.block c.args.off (take whole bytes)) c.args.block (c.args.off + n) rest) (sym first)
     ∙ programmed_next old c.args.block c.args.off (take whole bytes) rest (omega (arith, shape.count, c.requires.can.in_device)) (omega (arith, size, shape.sizes c.args.block c.requires.can.in_device, c.requires.can.in_block))
-    ∙ ap (λ (l : List ℕ). programmed old c.args.block c.args.off l) (both ∙ ap (λ n. take n bytes) c.min-stored.ensures ∙ take_min c.args.k bytes)) c.program_page_part.ensures.ok
+    ∙ ap (λ (l : List ℕ). programmed old c.args.block c.args.off l) (both ∙ ap (λ n. take n bytes) c.min-stored.ensures ∙ take_min c.args.k bytes)) c.program_partial_page.ensures.ok
 
-pub program_page_part-requires-clause-page : goal.program_page_part-requires-clause-page
-program_page_part-requires-clause-page g c = record {
+pub program_partial_page-requires-clause-page : goal.program_partial_page-requires-clause-page
+program_partial_page-requires-clause-page g c = record {
   in_device = search rules;
   in_block = search rules;
   begins = search rules;

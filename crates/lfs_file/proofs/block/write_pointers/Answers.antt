@@ -3,7 +3,7 @@ use Rattle.lfs_file.proofs.Common.{w32, trailing_zeros, pow-suc, one-le-pow, pow
 use Rattle.std.proofs.Common.{drop, Result, Err, ◌⊎◌, inl, inr}
 use Rattle.lfs_device.specs.declared.error.Error.{Error}
 use Rattle.lfs_file.specs.declared.block.FullBlocks.{FullBlocks}
-use Rattle.lfs_file.specs.declared.known.KnownBlocks.{KnownBlocks}
+use Rattle.lfs_file.specs.declared.known.IndexCache.{IndexCache}
 use Rattle.lfs_file.proofs.Called.{not_read, read_on, quiet, reported_as, reported_on}
 use Rattle.lfs_file.proofs.Sizes.{pointer_count-le}
 use Rattle.lfs_device.specs.declared.geometry.Geometry.{Geometry}
@@ -153,7 +153,7 @@ loop-k-preserved g c =
       none = λ all.
           let so_far = inv.none all in
           let known = all (k + 1) (omega arith) in
-          let here = c.block_at_pointer.ensures.calls.known (subst (λ n. IsKnownIndex c.loop-k.front.known (index - n)) (sym far.0) (subst (λ (x : KnownBlocks). IsKnownIndex x (index - 2 ^ (k + 1))) (sym so_far.0) known)) in
+          let here = c.block_at_pointer.ensures.calls.known (subst (λ n. IsKnownIndex c.loop-k.front.known (index - n)) (sym far.0) (subst (λ (x : IndexCache). IsKnownIndex x (index - 2 ^ (k + 1))) (sym so_far.0) known)) in
           (here.0 ∙ so_far.0, here.1 ∙ so_far.1);
       device = read_on g.D.BlockDevice inv.device c.block_at_pointer.ensures.reading.device;
       quiet = quiet g.D.BlockDevice c.in_ok-to.ensures.reading.faults ∙ inv.quiet;

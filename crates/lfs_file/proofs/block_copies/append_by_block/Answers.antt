@@ -1,5 +1,5 @@
 use Rattle.std.proofs.Common.{rules, ℕ, inl, ◌≡◌, ◌+◌, ◌-◌, ◌<◌, ◌≤◌, get_or, List, ◌++◌, length, min, take, drop, slice_index, refl, sym, ap, ◌∙◌, subst, arith}
-use Rattle.lfs_file.proofs.Common.{length-take-le, err_from_is_err_and, Blocks, HasBlockSizes, IsBytePlace, IsSkipList, blocks_to_head, block_count_for, list_bytes, block_count_for-more, DiskHasList, growing_bytes, lasting_blocks, growing_size_with, GrowsInFree, HasBlocksTaken, blocks_of_list, CanEndAlone, place-lt}
+use Rattle.lfs_file.proofs.Common.{length-take-le, err_from_is_err_and, Blocks, HasBlockSizes, IsByteInListBlock, IsSkipList, blocks_to_head, skip_list_block_count, list_bytes, skip_list_block_count-more, DiskHasList, growing_bytes, lasting_blocks, growing_size_with, GrowsInFree, HasBlocksTaken, blocks_of_list, CanEndAlone, place-lt}
 use Rattle.std.proofs.lemmas.List.{get_or_read}
 use Rattle.lfs_device.specs.declared.geometry.Geometry.{Geometry}
 use Rattle.lfs_file.proofs.ContentsCalled.{apart_on, apart_read, apart_reads, quiet, reported_as, reported_on}
@@ -46,9 +46,9 @@ copying-init g c =
     }
 
 -- the blocks that were collected, by the geometry of the list
-collected : (d : Blocks) (geometry made : Geometry) (head size n from : ℕ) (items : List ℕ) → made ≡ geometry → n ≡ block_count_for made.block_size size → items ≡ drop from (blocks_to_head d n head)
+collected : (d : Blocks) (geometry made : Geometry) (head size n from : ℕ) (items : List ℕ) → made ≡ geometry → n ≡ skip_list_block_count made.block_size size → items ≡ drop from (blocks_to_head d n head)
     → items ≡ drop from (blocks_of_list d geometry.block_size head size)
-collected d geometry made head size n from items same count is = is ∙ ap (λ k. drop from (blocks_to_head d k head)) (count ∙ ap (λ (k : Geometry). block_count_for k.block_size size) same)
+collected d geometry made head size n from items same count is = is ∙ ap (λ k. drop from (blocks_to_head d k head)) (count ∙ ap (λ (k : Geometry). skip_list_block_count k.block_size size) same)
 
 pub overflow_sub-index : goal.overflow_sub-index
 overflow_sub-index g c =
@@ -84,8 +84,8 @@ index-block-requires g c =
     omega (arith, lt, c.in_ok-blocks.blocks.ok.0)
 
 -- the block that was read of those that were collected
-read_of : (d : Blocks) (geometry made : Geometry) (head size n start from skip pos i off block : ℕ) (items : List ℕ) → made ≡ geometry → n ≡ block_count_for made.block_size size → items ≡ drop from (blocks_to_head d n head)
-    → IsBytePlace made.block_size start from skip → IsBytePlace made.block_size pos i off → start ≤ pos → pos < size → ((i - from < length items) → block ≡ get_or items (i - from) 0)
+read_of : (d : Blocks) (geometry made : Geometry) (head size n start from skip pos i off block : ℕ) (items : List ℕ) → made ≡ geometry → n ≡ skip_list_block_count made.block_size size → items ≡ drop from (blocks_to_head d n head)
+    → IsByteInListBlock made.block_size start from skip → IsByteInListBlock made.block_size pos i off → start ≤ pos → pos < size → ((i - from < length items) → block ≡ get_or items (i - from) 0)
     → block ≡ slice_index (blocks_of_list d geometry.block_size head size) i
 read_of d geometry made head size n start from skip pos i off block items same count is begins place le lt read =
     let whole = collected d geometry made head size n from items same count is in
@@ -163,8 +163,8 @@ extend_list-requires g c = record {
       let some_read = c.in_ok-count.ensures.read.some in
       let few = c.in_ok-count.ensures.read.least in
       let long : length (take n c.read_from_block.new.buf) ≡ n = length-take-le n c.read_from_block.new.buf c.in_ok-count.ensures.read.within in
-      let more = block_count_for-more block_size (growing_size_with block_size now + length (take n c.read_from_block.new.buf)) c.args.base.size (omega arith) in
-      let same = ap (λ (k : Geometry). block_count_for k.block_size (growing_size_with k.block_size now + length (take n c.read_from_block.new.buf))) inv.same in
+      let more = skip_list_block_count-more block_size (growing_size_with block_size now + length (take n c.read_from_block.new.buf)) c.args.base.size (omega arith) in
+      let same = ap (λ (k : Geometry). skip_list_block_count k.block_size (growing_size_with k.block_size now + length (take n c.read_from_block.new.buf))) inv.same in
       let kept = ap (λ (x : Blocks). length (lasting_blocks x now)) c.read_from_block.ensures.reading.device.same in
       let count = inv.grown.count in
       let states = inv.map.count in

@@ -7,10 +7,10 @@ use Rattle.lfs_file.proofs.Spared.{KeepsUsedBlocks-refl}
 use Rattle.lfs_file.proofs.contents.begin_with_bytes.Goals as goal
 
 pub returns-in_err-begun-clause-device : goal.returns-in_err-begun-clause-device
-returns-in_err-begun-clause-device g c = used_reads g.D.BlockDevice c.args.map.now c.begin_over_finished.ensures.device
+returns-in_err-begun-clause-device g c = used_reads g.D.BlockDevice c.args.map.now c.start_draft.ensures.device
 
 pub returns-in_err-fill_and_write-clause-device : goal.returns-in_err-fill_and_write-clause-device
-returns-in_err-fill_and_write-clause-device g c = used_on g.D.BlockDevice (KeepsUsedBlocks-refl c.args.map.now) (used_reads g.D.BlockDevice c.args.map.now c.begin_over_finished.ensures.device) c.fill_and_write.ensures.device
+returns-in_err-fill_and_write-clause-device g c = used_on g.D.BlockDevice (KeepsUsedBlocks-refl c.args.map.now) (used_reads g.D.BlockDevice c.args.map.now c.start_draft.ensures.device) c.fill_and_write.ensures.device
 
 pub returns-in_err-fill_and_write-clause-reports : goal.returns-in_err-fill_and_write-clause-reports
 returns-in_err-fill_and_write-clause-reports g c =
@@ -18,12 +18,12 @@ returns-in_err-fill_and_write-clause-reports g c =
     rw (p.1, p.2) (record { faults = reported_on g.D.BlockDevice (quiet g.D.BlockDevice c.in_ok-begun.ensures.reports.faults) (reported_as g.D.BlockDevice c.in_err-fill_and_write.ensures.reports.faults); errors = c.in_err-fill_and_write.ensures.reports.errors })
 
 pub returns-clause-device : goal.returns-clause-device
-returns-clause-device g c = used_on g.D.BlockDevice (KeepsUsedBlocks-refl c.args.map.now) (used_reads g.D.BlockDevice c.args.map.now c.begin_over_finished.ensures.device) c.fill_and_write.ensures.device
+returns-clause-device g c = used_on g.D.BlockDevice (KeepsUsedBlocks-refl c.args.map.now) (used_reads g.D.BlockDevice c.args.map.now c.start_draft.ensures.device) c.fill_and_write.ensures.device
 
 pub returns-clause-written : goal.returns-clause-written
 returns-clause-written g c =
     let hand = c.in_ok-begun.begun in
-    let read = c.begin_over_finished.ensures.device in
+    let read = c.start_draft.ensures.device in
     let at = c.in_ok-begun.ensures.begun c.args.map.now c.requires.stored in
     let wrote = c.in_ok-fill_and_write.ensures.written in
     record {
@@ -34,5 +34,5 @@ returns-clause-written g c =
 
 pub returns-clause-base : goal.returns-clause-base
 returns-clause-base g c =
-    let read = c.begin_over_finished.ensures.device in
+    let read = c.start_draft.ensures.device in
     list_from _ _ _ _ _ _ _ _ read.geometry read.same c.in_ok-begun.ensures.base c.fill_and_write.ensures.base

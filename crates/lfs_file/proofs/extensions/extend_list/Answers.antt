@@ -1,5 +1,5 @@
 use Rattle.std.proofs.Common.{ℕ, ◌≡◌, ◌+◌, ◌-◌, ◌≤◌, List, length, sym, ap, ◌∙◌, subst, arith, length-append}
-use Rattle.lfs_file.proofs.Common.{slice_get_within, BlockStates, IsFree, Free, block_count_for, lasting_blocks, unwritten_block, growing_size_with, TakesFreeBlocks}
+use Rattle.lfs_file.proofs.Common.{slice_get_within, BlockStates, IsFree, Free, skip_list_block_count, lasting_blocks, unwritten_block, growing_size_with, TakesFreeBlocks}
 use Rattle.lfs_device.specs.declared.geometry.Geometry.{Geometry}
 use Rattle.lfs_file.proofs.Pushed.{length-kept, leaves_apart, grows, marks}
 use Rattle.lfs_file.proofs.extensions.extend_list.Goals as goal
@@ -41,10 +41,10 @@ returns-clause-device g c =
     leaves_apart g.D.BlockDevice _ _ (unwritten_block c.args.list.now) c.as_slice.result.now (handed _ _ _ c.as_slice.result.now c.as_slice.ensures.value c.in_ok-blocks.ensures.taken) c.push.ensures.device
 
 -- as many blocks as the list's size needs
-many : (geometry now : Geometry) (size total all kept few added : ℕ) → now ≡ geometry → size ≡ total → all ≡ kept + added → added ≡ few → few ≡ block_count_for geometry.block_size total - kept → kept ≤ block_count_for geometry.block_size total
-    → all ≡ block_count_for now.block_size size
+many : (geometry now : Geometry) (size total all kept few added : ℕ) → now ≡ geometry → size ≡ total → all ≡ kept + added → added ≡ few → few ≡ skip_list_block_count geometry.block_size total - kept → kept ≤ skip_list_block_count geometry.block_size total
+    → all ≡ skip_list_block_count now.block_size size
 many geometry now size total all kept few added same is sum taken count within =
-    let e : block_count_for now.block_size size ≡ block_count_for geometry.block_size total = ap (λ (k : Geometry). block_count_for k.block_size size) same ∙ ap (block_count_for geometry.block_size) is in
+    let e : skip_list_block_count now.block_size size ≡ skip_list_block_count geometry.block_size total = ap (λ (k : Geometry). skip_list_block_count k.block_size size) same ∙ ap (skip_list_block_count geometry.block_size) is in
     omega arith
 
 pub returns-clause-extended : goal.returns-clause-extended

@@ -1,5 +1,5 @@
 use Rattle.std.proofs.Common.{ℕ, ◌≡◌, drop, length, refl, sym, ap, ◌∙◌, subst, arith}
-use Rattle.lfs_file.proofs.Common.{err_from_is_err_and, Blocks, BlockState, BlockStates, Free, Used, AreListBlocks, blocks_to_head, block_count_for, length_back, KeepsOtherStates, SetsState, IsSharedCount}
+use Rattle.lfs_file.proofs.Common.{err_from_is_err_and, Blocks, BlockState, BlockStates, Free, Used, AreListBlocks, blocks_to_head, skip_list_block_count, length_back, KeepsOtherStates, SetsState, IsSharedCount}
 use Rattle.lfs_device.specs.declared.geometry.Geometry.{Geometry}
 use Rattle.lfs_file.proofs.ContentsCalled.{quiet, read_on, reported_as, reported_on}
 use Rattle.lfs_file.proofs.Ends.{base_chain}
@@ -23,8 +23,8 @@ shared_in d head one one_is other two two_is n first second is =
     subst (λ k. IsSharedCount (blocks_to_head d k head) (blocks_to_head d two_is other) n) first
     (subst (λ k. IsSharedCount (blocks_to_head d one head) (blocks_to_head d k other) n) second is)
 
-counted_in : (made now : Geometry) (size n : ℕ) → made ≡ now → n ≡ block_count_for made.block_size size → n ≡ block_count_for now.block_size size
-counted_in made now size n same is = is ∙ ap (λ (k : Geometry). block_count_for k.block_size size) same
+counted_in : (made now : Geometry) (size n : ℕ) → made ≡ now → n ≡ skip_list_block_count made.block_size size → n ≡ skip_list_block_count now.block_size size
+counted_in made now size n same is = is ∙ ap (λ (k : Geometry). skip_list_block_count k.block_size size) same
 
 pub shared_block_count-requires-clause-chain : goal.shared_block_count-requires-clause-chain
 shared_block_count-requires-clause-chain g c = base_chain _ _ _ _ _ _ c.geometry-block_size.ensures c.blocks_for-gone.ensures c.requires.gone
@@ -96,8 +96,8 @@ returns-clause-settled g c =
     let n : ℕ = c.in_ok-shared.shared in
     let gone = counted_in c.geometry-block_size.result now c.args.before.size c.blocks_for-gone.result c.geometry-block_size.ensures c.blocks_for-gone.ensures in
     let kept = counted_in c.geometry-block_size.result now c.args.stored.size c.blocks_for-kept.result c.geometry-block_size.ensures c.blocks_for-kept.ensures in
-    let chain = base_chain d now now c.args.before.head c.args.before.size (block_count_for now.block_size c.args.before.size) refl refl c.requires.gone in
-    settles_apart c.args.map.now c.set_list_from.new.map c.set_list_from-2.new.map (blocks_to_head d (block_count_for now.block_size c.args.before.size) c.args.before.head) (blocks_to_head d (block_count_for now.block_size c.args.stored.size) c.args.stored.head)
+    let chain = base_chain d now now c.args.before.head c.args.before.size (skip_list_block_count now.block_size c.args.before.size) refl refl c.requires.gone in
+    settles_apart c.args.map.now c.set_list_from.new.map c.set_list_from-2.new.map (blocks_to_head d (skip_list_block_count now.block_size c.args.before.size) c.args.before.head) (blocks_to_head d (skip_list_block_count now.block_size c.args.stored.size) c.args.stored.head)
     n chain.distinct (shared_in d c.args.before.head _ _ c.args.stored.head _ _ n gone kept c.in_ok-shared.ensures.shared).same c.requires.shared
     (puts_in Free c.args.map.now c.set_list_from.new.map d _ c.args.before.head _ _ n c.shared_block_count.ensures.reading.device.same gone c.in_ok-set_list_from.ensures.put)
     (puts_in Used c.set_list_from.new.map c.set_list_from-2.new.map d _ c.args.stored.head _ _ n (c.set_list_from.ensures.reading.device.same ∙ c.shared_block_count.ensures.reading.device.same) kept c.in_ok-set_list_from-2.ensures.put)
@@ -109,13 +109,13 @@ returns-clause-few g c = λ n is.
     let m : ℕ = c.in_ok-shared.shared in
     let gone = counted_in c.geometry-block_size.result now c.args.before.size c.blocks_for-gone.result c.geometry-block_size.ensures c.blocks_for-gone.ensures in
     let kept = counted_in c.geometry-block_size.result now c.args.stored.size c.blocks_for-kept.result c.geometry-block_size.ensures c.blocks_for-kept.ensures in
-    let same = shared_once (blocks_to_head d (block_count_for now.block_size c.args.before.size) c.args.before.head) (blocks_to_head d (block_count_for now.block_size c.args.stored.size) c.args.stored.head)
+    let same = shared_once (blocks_to_head d (skip_list_block_count now.block_size c.args.before.size) c.args.before.head) (blocks_to_head d (skip_list_block_count now.block_size c.args.stored.size) c.args.stored.head)
     n m is (shared_in d c.args.before.head _ _ c.args.stored.head _ _ m gone kept c.in_ok-shared.ensures.shared) in
     let one = c.in_ok-shared.ensures.few in
     let two = c.in_ok-set_list_from.ensures.reading.few in
     let three = c.in_ok-set_list_from-2.ensures.reading.few in
     let here = apart_is d c.blocks_for-gone.result c.args.before.head c.blocks_for-kept.result c.args.stored.head m in
-    let there = apart_is d (block_count_for now.block_size c.args.before.size) c.args.before.head (block_count_for now.block_size c.args.stored.size) c.args.stored.head n in
+    let there = apart_is d (skip_list_block_count now.block_size c.args.before.size) c.args.before.head (skip_list_block_count now.block_size c.args.stored.size) c.args.stored.head n in
     omega arith
 
 pub returns-in_err-set_list_from-clause-others : goal.returns-in_err-set_list_from-clause-others
@@ -123,7 +123,7 @@ returns-in_err-set_list_from-clause-others g c =
     let d : Blocks = g.D.BlockDevice.blocks c.args.dev.now in
     let now : Geometry = g.D.BlockDevice.geometry c.args.dev.now in
     let gone = counted_in c.geometry-block_size.result now c.args.before.size c.blocks_for-gone.result c.geometry-block_size.ensures c.blocks_for-gone.ensures in
-    others_left _ _ (blocks_to_head d (block_count_for now.block_size c.args.before.size) c.args.before.head) (blocks_to_head d (block_count_for now.block_size c.args.stored.size) c.args.stored.head)
+    others_left _ _ (blocks_to_head d (skip_list_block_count now.block_size c.args.before.size) c.args.before.head) (blocks_to_head d (skip_list_block_count now.block_size c.args.stored.size) c.args.stored.head)
     (keeps_in c.args.map.now c.set_list_from.new.map d _ c.args.before.head _ _ c.shared_block_count.ensures.reading.device.same gone c.set_list_from.ensures.others)
 
 pub returns-in_err-set_list_from-2-clause-others : goal.returns-in_err-set_list_from-2-clause-others
@@ -132,7 +132,7 @@ returns-in_err-set_list_from-2-clause-others g c =
     let now : Geometry = g.D.BlockDevice.geometry c.args.dev.now in
     let gone = counted_in c.geometry-block_size.result now c.args.before.size c.blocks_for-gone.result c.geometry-block_size.ensures c.blocks_for-gone.ensures in
     let kept = counted_in c.geometry-block_size.result now c.args.stored.size c.blocks_for-kept.result c.geometry-block_size.ensures c.blocks_for-kept.ensures in
-    others_more _ _ _ (blocks_to_head d (block_count_for now.block_size c.args.before.size) c.args.before.head) (blocks_to_head d (block_count_for now.block_size c.args.stored.size) c.args.stored.head)
+    others_more _ _ _ (blocks_to_head d (skip_list_block_count now.block_size c.args.before.size) c.args.before.head) (blocks_to_head d (skip_list_block_count now.block_size c.args.stored.size) c.args.stored.head)
     (keeps_in c.args.map.now c.set_list_from.new.map d _ c.args.before.head _ _ c.shared_block_count.ensures.reading.device.same gone c.set_list_from.ensures.others)
     (keeps_in c.set_list_from.new.map c.set_list_from-2.new.map d _ c.args.stored.head _ _ (c.set_list_from.ensures.reading.device.same ∙ c.shared_block_count.ensures.reading.device.same) kept c.set_list_from-2.ensures.others)
 
@@ -142,6 +142,6 @@ returns-clause-others g c =
     let now : Geometry = g.D.BlockDevice.geometry c.args.dev.now in
     let gone = counted_in c.geometry-block_size.result now c.args.before.size c.blocks_for-gone.result c.geometry-block_size.ensures c.blocks_for-gone.ensures in
     let kept = counted_in c.geometry-block_size.result now c.args.stored.size c.blocks_for-kept.result c.geometry-block_size.ensures c.blocks_for-kept.ensures in
-    others_more _ _ _ (blocks_to_head d (block_count_for now.block_size c.args.before.size) c.args.before.head) (blocks_to_head d (block_count_for now.block_size c.args.stored.size) c.args.stored.head)
+    others_more _ _ _ (blocks_to_head d (skip_list_block_count now.block_size c.args.before.size) c.args.before.head) (blocks_to_head d (skip_list_block_count now.block_size c.args.stored.size) c.args.stored.head)
     (keeps_in c.args.map.now c.set_list_from.new.map d _ c.args.before.head _ _ c.shared_block_count.ensures.reading.device.same gone c.set_list_from.ensures.others)
     (keeps_in c.set_list_from.new.map c.set_list_from-2.new.map d _ c.args.stored.head _ _ (c.set_list_from.ensures.reading.device.same ∙ c.shared_block_count.ensures.reading.device.same) kept c.set_list_from-2.ensures.others)

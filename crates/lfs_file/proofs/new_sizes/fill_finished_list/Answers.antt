@@ -20,24 +20,24 @@ write_zeros-requires g c = record {
       let hand = c.in_ok-begun.begun in
       let at = (c.in_ok-begun.ensures.begun c.args.map.now c.requires.stored).size in
       let longer = c.requires.room.longer in
-      part_fits (g.D.BlockDevice.geometry c.args.dev.now) (g.D.BlockDevice.geometry c.begin_over_finished.new.dev) hand.base c.args.stored _ _ _ _ (growing_size hand.list + (c.args.size - c.args.stored.size)) c.args.size
-      c.begin_over_finished.ensures.device.geometry c.in_ok-begun.ensures.base (omega arith) refl refl c.requires.room.room;
+      part_fits (g.D.BlockDevice.geometry c.args.dev.now) (g.D.BlockDevice.geometry c.start_draft.new.dev) hand.base c.args.stored _ _ _ _ (growing_size hand.list + (c.args.size - c.args.stored.size)) c.args.size
+      c.start_draft.ensures.device.geometry c.in_ok-begun.ensures.base (omega arith) refl refl c.requires.room.room;
 }
 
 pub returns-in_err-begun-clause-writing : goal.returns-in_err-begun-clause-writing
 returns-in_err-begun-clause-writing g c =
     let p = err_from_is_err_and c.from_residual.result c.from_residual.ensures.1 in
-    rw (p.1, p.2) (writes_as g.D.BlockDevice (writes_of_reads g.D.BlockDevice (KeepsUsedBlocks-refl c.args.map.now) c.begin_over_finished.ensures.device c.in_err-begun.ensures.reports))
+    rw (p.1, p.2) (writes_as g.D.BlockDevice (writes_of_reads g.D.BlockDevice (KeepsUsedBlocks-refl c.args.map.now) c.start_draft.ensures.device c.in_err-begun.ensures.reports))
 
 pub returns-in_err-write_zeros-clause-writing : goal.returns-in_err-write_zeros-clause-writing
 returns-in_err-write_zeros-clause-writing g c =
     let p = err_from_is_err_and c.from_residual-in_err-write_zeros.result c.from_residual-in_err-write_zeros.ensures.1 in
-    let first = writes_of_reads g.D.BlockDevice (KeepsUsedBlocks-refl c.args.map.now) c.begin_over_finished.ensures.device c.in_ok-begun.ensures.reports in
+    let first = writes_of_reads g.D.BlockDevice (KeepsUsedBlocks-refl c.args.map.now) c.start_draft.ensures.device c.in_ok-begun.ensures.reports in
     rw (p.1, p.2) (writes_fail g.D.BlockDevice first c.write_zeros.ensures.map c.write_zeros.ensures.device c.in_err-write_zeros.ensures.reports)
 
 pub returns-clause-writing : goal.returns-clause-writing
 returns-clause-writing g c =
-    let first = writes_of_reads g.D.BlockDevice (KeepsUsedBlocks-refl c.args.map.now) c.begin_over_finished.ensures.device c.in_ok-begun.ensures.reports in
+    let first = writes_of_reads g.D.BlockDevice (KeepsUsedBlocks-refl c.args.map.now) c.start_draft.ensures.device c.in_ok-begun.ensures.reports in
     writes_on g.D.BlockDevice first c.write_zeros.ensures.map c.write_zeros.ensures.device c.in_ok-write_zeros.ensures.reports
 
 pub returns-clause-filled : goal.returns-clause-filled
@@ -47,7 +47,7 @@ returns-clause-filled g c =
     let now : Geometry = g.D.BlockDevice.geometry c.args.dev.now in
     let old : List ℕ = stored_list_bytes d now.block_size stored in
     let hand = c.in_ok-begun.begun in
-    let read = c.begin_over_finished.ensures.device in
+    let read = c.start_draft.ensures.device in
     let at = c.in_ok-begun.ensures.begun c.args.map.now c.requires.stored in
     let longer = c.requires.room.longer in
     let sum = at.size in
@@ -57,10 +57,10 @@ returns-clause-filled g c =
     record {
       going = subst (λ (k : Geometry). CanEndUnfinished c.write_zeros.new.map (g.D.BlockDevice.blocks c.write_zeros.new.dev) k c.write_zeros.new.hand) read.geometry (zeroed.going (omega arith));
       size = omega arith;
-      bytes = lengthened old (unfinished_bytes (g.D.BlockDevice.blocks c.begin_over_finished.new.dev) hand) _ stored.size (growing_size hand.list) c.args.size all (omega arith) (ap (λ (x : Blocks). unfinished_bytes x hand) read.same ∙ at.bytes) sum zeroed.at.bytes;
+      bytes = lengthened old (unfinished_bytes (g.D.BlockDevice.blocks c.start_draft.new.dev) hand) _ stored.size (growing_size hand.list) c.args.size all (omega arith) (ap (λ (x : Blocks). unfinished_bytes x hand) read.same ∙ at.bytes) sum zeroed.at.bytes;
     }
 
 pub returns-clause-base : goal.returns-clause-base
 returns-clause-base g c =
-    let read = c.begin_over_finished.ensures.device in
+    let read = c.start_draft.ensures.device in
     list_from _ _ _ _ _ _ _ _ read.geometry read.same c.in_ok-begun.ensures.base c.write_zeros.ensures.base

@@ -7,11 +7,11 @@ use Rattle.lfs_file.proofs.ContentsCalled.{writes_as, writes_fail, writes_on}
 use Rattle.lfs_file.proofs.Truncations.{room_shorter}
 use Rattle.lfs_file.proofs.new_sizes.shorten_unfinished_list.Goals as goal
 
-pub end_unfinished_list-requires-clause-going : goal.end_unfinished_list-requires-clause-going
-end_unfinished_list-requires-clause-going g c = c.requires.can.stands
+pub complete_draft-requires-clause-going : goal.complete_draft-requires-clause-going
+complete_draft-requires-clause-going g c = c.requires.can.stands
 
-pub end_unfinished_list-requires-clause-room : goal.end_unfinished_list-requires-clause-room
-end_unfinished_list-requires-clause-room g c =
+pub complete_draft-requires-clause-room : goal.complete_draft-requires-clause-room
+complete_draft-requires-clause-room g c =
     let hand = c.args.hand in
     let shorter = c.requires.shorter in
     let room = c.requires.can.fits.room (λ e. absurd (omega arith)) in
@@ -20,12 +20,12 @@ end_unfinished_list-requires-clause-room g c =
 
 pub truncate_finished_list-requires : goal.truncate_finished_list-requires
 truncate_finished_list-requires g c =
-    let is = c.end_unfinished_list.ensures.writing.device.geometry in
+    let is = c.complete_draft.ensures.writing.device.geometry in
     let count : c.in_ok-stored.stored.size ≡ unfinished_length c.args.hand = c.in_ok-stored.ensures.ended.count in
     let shorter = c.requires.shorter in
     let large : memory_limit (g.D.BlockDevice.geometry c.args.dev.now) < unfinished_length c.args.hand = c.requires.can.fits.large in
     record {
-      stands = subst (λ (k : Geometry). IsFinishedList c.end_unfinished_list.new.map (g.D.BlockDevice.blocks c.end_unfinished_list.new.dev) k.block_size c.in_ok-stored.stored) (sym is) c.in_ok-stored.ensures.ended.stored;
+      stands = subst (λ (k : Geometry). IsFinishedList c.complete_draft.new.map (g.D.BlockDevice.blocks c.complete_draft.new.dev) k.block_size c.in_ok-stored.stored) (sym is) c.in_ok-stored.ensures.ended.stored;
       fits = record {
         large = λ flying. subst (λ (k : Geometry). memory_limit k < c.in_ok-stored.stored.size) (sym is) (omega arith);
         short = subst (λ (k : Geometry). memory_limit k < k.block_size) (sym is) c.requires.can.fits.short;
@@ -55,8 +55,8 @@ returns-clause-truncated g c =
     let stored = c.in_ok-stored.stored in
     let ended = c.in_ok-stored.ensures.ended in
     let cut = c.in_ok-cut.ensures.truncated in
-    let is = c.end_unfinished_list.ensures.writing.device.geometry in
-    let d = g.D.BlockDevice.blocks c.end_unfinished_list.new.dev in
+    let is = c.complete_draft.ensures.writing.device.geometry in
+    let d = g.D.BlockDevice.blocks c.complete_draft.new.dev in
     let limit : ℕ = memory_limit (g.D.BlockDevice.geometry c.args.dev.now) in
     record {
       stands = subst (λ (k : Geometry). AreSoundContents c.truncate_finished_list.new.map (g.D.BlockDevice.blocks c.truncate_finished_list.new.dev) k c.in_ok-cut.cut) is cut.stands;
@@ -69,5 +69,5 @@ returns-clause-truncated g c =
 pub returns-clause-owned : goal.returns-clause-owned
 returns-clause-owned g c =
     owned_right _ (owned_on c.truncate_finished_list.ensures.writing.map c.in_ok-stored.ensures.own.owned
-    (subst (λ (k : Geometry). AreUsedAmong c.truncate_finished_list.new.map (stored_blocks (g.D.BlockDevice.blocks c.end_unfinished_list.new.dev) k.block_size c.in_ok-stored.stored)
-    (contents_blocks (g.D.BlockDevice.blocks c.truncate_finished_list.new.dev) k.block_size c.in_ok-cut.cut)) c.end_unfinished_list.ensures.writing.device.geometry c.in_ok-cut.ensures.owned))
+    (subst (λ (k : Geometry). AreUsedAmong c.truncate_finished_list.new.map (stored_blocks (g.D.BlockDevice.blocks c.complete_draft.new.dev) k.block_size c.in_ok-stored.stored)
+    (contents_blocks (g.D.BlockDevice.blocks c.truncate_finished_list.new.dev) k.block_size c.in_ok-cut.cut)) c.complete_draft.ensures.writing.device.geometry c.in_ok-cut.ensures.owned))

@@ -1,5 +1,5 @@
 use Rattle.std.proofs.Common.{ℕ, ◌≡◌, ◌+◌, ◌<◌, ◌≤◌, inl, List, length, sym, ap, ◌∙◌, arith}
-use Rattle.lfs_file.proofs.Common.{err_from_is_err_and, used_count, block_count_for, in_flight_limit, Blocks, Finished, InHand, InMemory, stored_list_bytes}
+use Rattle.lfs_file.proofs.Common.{err_from_is_err_and, used_count, skip_list_block_count, in_flight_limit, Blocks, Finished, InHand, InMemory, stored_list_bytes}
 use Rattle.lfs_file.specs.Contents.{memory_limit}
 use Rattle.lfs_device.specs.declared.geometry.Geometry.{Geometry}
 use Rattle.lfs_file.proofs.Owning.{hand_owned, owned_is}
@@ -54,7 +54,7 @@ fill_finished_list-requires-clause-room g c =
     let longer : c.args.stored.size < c.args.size = c.if-stored-size.true in
     let known : c.inline_limit.result ≡ memory_limit (g.D.BlockDevice.geometry c.args.dev.now) = c.inline_limit.ensures ∙ ap (λ k. memory_limit k) c.geometry.ensures in
     let bound : memory_limit (g.D.BlockDevice.geometry c.args.dev.now) < c.args.size = (let test = c.if-size-inline_limit.false in omega arith) in
-    let room : used_count c.args.map.now + (block_count_for n c.args.size + in_flight_limit n c.args.stored) ≤ length c.args.map.now = c.requires.fits.room (bound, longer) in
+    let room : used_count c.args.map.now + (skip_list_block_count n c.args.size + in_flight_limit n c.args.stored) ≤ length c.args.map.now = c.requires.fits.room (bound, longer) in
     record { longer = longer; small = c.requires.fits.small; room = omega arith }
 
 pub shorten_stored_list-requires-clause-stored : goal.shorten_stored_list-requires-clause-stored

@@ -1,5 +1,5 @@
 use Rattle.std.proofs.Common.{ℕ, ◌≡◌, ◌+◌, ◌<◌, ◌≤◌, List, [], length, min, sym, ap, ◌∙◌, arith}
-use Rattle.lfs_file.proofs.Common.{err_from_is_err_and, used_count, block_count_for, Blocks, written_contents, buffered_bytes, InHand, InMemory}
+use Rattle.lfs_file.proofs.Common.{err_from_is_err_and, used_count, skip_list_block_count, Blocks, written_contents, buffered_bytes, InHand, InMemory}
 use Rattle.lfs_file.specs.Contents.{memory_limit}
 use Rattle.lfs_device.specs.declared.geometry.Geometry.{Geometry}
 use Rattle.lfs_file.proofs.ContentsCalled.{writes_as, writes_none, writes_same}
@@ -59,7 +59,7 @@ fill_memory_contents-requires-clause-room g c =
     let few : length (buffered_bytes c.args.list) ≤ memory_limit (g.D.BlockDevice.geometry c.args.dev.now) = c.requires.fits.large in
     let known : c.inline_limit.result ≡ memory_limit (g.D.BlockDevice.geometry c.args.dev.now) = c.inline_limit.ensures ∙ ap (λ k. memory_limit k) c.geometry.ensures in
     let many : memory_limit (g.D.BlockDevice.geometry c.args.dev.now) < c.args.size = (let test = c.if-size-inline_limit.true in omega arith) in
-    let room : used_count c.args.map.now + block_count_for (g.D.BlockDevice.geometry c.args.dev.now).block_size c.args.size ≤ length c.args.map.now = c.requires.fits.room many in
+    let room : used_count c.args.map.now + skip_list_block_count (g.D.BlockDevice.geometry c.args.dev.now).block_size c.args.size ≤ length c.args.map.now = c.requires.fits.room many in
     record { longer = omega arith; small = c.requires.fits.small; room = omega arith }
 
 pub returns-in_err-hand-clause-writing : goal.returns-in_err-hand-clause-writing

@@ -1,5 +1,5 @@
 use Rattle.std.proofs.Common.{sym, arith}
-use Rattle.lfs_file.proofs.Sizes.{block_count_for-place, place-le}
+use Rattle.lfs_file.proofs.Sizes.{skip_list_block_count-place, place-le}
 use Rattle.lfs_file.proofs.size.blocks_for.Goals as goal
 
 pub overflow_add-result : goal.overflow_add-result
@@ -8,4 +8,4 @@ overflow_add-result c =
     omega arith
 
 pub returns : goal.returns
-returns c = sym (block_count_for-place _ _ _ _ c.requires (omega arith) c.place-last.ensures)
+returns c = sym (skip_list_block_count-place _ _ _ _ c.requires (omega arith) c.place-last.ensures)

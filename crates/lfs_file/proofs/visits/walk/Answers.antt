@@ -1,6 +1,6 @@
 use Rattle.std.proofs.Common.{ℕ, ◌≡◌, ◌≤◌, ◌<◌, ◌+◌, ◌-◌, List, [], drop, reverse, slice_index, refl, sym, ap, subst, ◌∙◌, arith}
 use Rattle.std.proofs.Common.{suc, Result, Err, ◌^◌, ⊎_elim, rules, of_calls}
-use Rattle.lfs_file.proofs.Common.{cases_lt, w32, trailing_zeros, HasNotedPointers, visit_count, FoldsTo, LaterPointersName, ArePointersCopied, err_from_is_err_and, drop_all, Blocks, HasBlockSizes, block_bytes, AreListBlocks, IsSkipList, block_count_for, blocks_to_head, word_at}
+use Rattle.lfs_file.proofs.Common.{cases_lt, w32, trailing_zeros, HasNotedPointers, visit_count, FoldsTo, LaterPointersName, ArePointersCopied, err_from_is_err_and, drop_all, Blocks, HasBlockSizes, block_bytes, AreListBlocks, IsSkipList, skip_list_block_count, blocks_to_head, word_at}
 use Rattle.lfs_file.proofs.Ways.{none_off, one_on}
 use Rattle.lfs_device.specs.declared.error.Error.{Error}
 use Rattle.lfs_device.specs.declared.geometry.Geometry.{Geometry}
@@ -51,7 +51,7 @@ loop-index-init g c =
     }
 
 -- in a list a checked block is right
-module _ (d : Blocks) (geometry made : Geometry) (head size n index block : ℕ) (e : made ≡ geometry) (n_is : n ≡ block_count_for made.block_size size) (shape : HasBlockSizes geometry.block_size geometry.block_count d)
+module _ (d : Blocks) (geometry made : Geometry) (head size n index block : ℕ) (e : made ≡ geometry) (n_is : n ≡ skip_list_block_count made.block_size size) (shape : HasBlockSizes geometry.block_size geometry.block_count d)
     (fits : n - 1 < made.block_count) (some : 0 < index) (le : index ≤ n - 1) (is : block ≡ slice_index (blocks_to_head d (n - 1 + 1) head) index) (listed : IsSkipList d geometry.block_size head size) where
   as_chain : AreListBlocks d (n - 1 + 1) head
   as_chain = chain d made.block_size head size n made.valid.no_smaller n_is (sized d head size geometry made e listed)
@@ -66,14 +66,14 @@ few_blocks : (made : Geometry) (last : ℕ) → last < made.block_count → last
 few_blocks made last fits = let many = made.valid.no_more in omega arith
 
 -- and where all of it is checked it is a list
-list_of_walk : (d : Blocks) (head size n first : ℕ) (geometry made : Geometry) → made ≡ geometry → n ≡ block_count_for made.block_size size → HasBlockSizes geometry.block_size geometry.block_count d
+list_of_walk : (d : Blocks) (head size n first : ℕ) (geometry made : Geometry) → made ≡ geometry → n ≡ skip_list_block_count made.block_size size → HasBlockSizes geometry.block_size geometry.block_count d
     → 1 ≤ size → size < 2 ^ 31 → n - 1 < made.block_count → (words : List ℕ) → IsChecked d (n - 1) head first geometry.block_count 0 words → slice_index (blocks_to_head d (n - 1 + 1) head) 0 ≡ first
     → first < geometry.block_count → LaterPointersName words first 0 (n - 1) → IsSkipList d geometry.block_size head size
 list_of_walk d head size n first geometry made e n_is shape low high fits words checked is lt named =
     let many = made.valid.no_more in
     let walked = chain_of_walk d (n - 1) head first words (omega arith) (subst (λ k. IsChecked d (n - 1) head first k 0 words) (sym shape.count) checked) is (omega (arith, lt, shape.count)) named in
-    let count : n - 1 + 1 ≡ block_count_for geometry.block_size size = count_by geometry made size n e low n_is in
-    let whole : AreListBlocks d (block_count_for geometry.block_size size) head = subst (λ k. AreListBlocks d k head) count walked in
+    let count : n - 1 + 1 ≡ skip_list_block_count geometry.block_size size = count_by geometry made size n e low n_is in
+    let whole : AreListBlocks d (skip_list_block_count geometry.block_size size) head = subst (λ k. AreListBlocks d k head) count walked in
     record { size_low = low; size_high = high; blocks = whole }
 
 pub returns-in_err-before-clause-corrupt : goal.returns-in_err-before-clause-corrupt
@@ -173,7 +173,7 @@ returns-clause-listed g c =
     let list =
     list_of_walk old c.args.head c.args.size c.blocks_for-last.result c.in_ok-first.first _ _ c.geometry-geometry.ensures c.blocks_for-last.ensures shape (omega arith) (omega arith) (omega arith)
     _ (subst (λ k. IsChecked old last c.args.head c.in_ok-first.first (g.D.BlockDevice.geometry c.args.dev.now).block_count k c.loop-index.words) none inv.checked) is first
-    (subst (λ b. LaterPointersName c.loop-index.words b 0 last) c.if-block-first-2.false (c.if-not-named_by_later.ensures.yes refl)) in
+    (subst (λ b. LaterPointersName c.loop-index.words b 0 last) c.if-block-first-2.false (c.if-not-pointers_agree.ensures.yes refl)) in
     record {
       list = list;
       few =
@@ -195,10 +195,10 @@ returns-clause-visited g c =
     subst (λ n. FoldsTo (λ p x q. goal.F-step g p x tt q) c.args.visit.now (reverse (blocks_to_head old n c.args.head)) c.visit-2.new.self)
     (count_by (g.D.BlockDevice.geometry c.args.dev.now) c.geometry-geometry.result c.args.size c.blocks_for-last.result c.geometry-geometry.ensures (omega arith) c.blocks_for-last.ensures) all
 
-pub returns-then-not-named_by_later-clause-corrupt : goal.returns-then-not-named_by_later-clause-corrupt
-returns-then-not-named_by_later-clause-corrupt g c is listed =
+pub returns-then-not-pointers_agree-clause-corrupt : goal.returns-then-not-pointers_agree-clause-corrupt
+returns-then-not-pointers_agree-clause-corrupt g c is listed =
     let inv = c.loop-index.invariant in
     let ok = chain _ _ _ _ _ c.geometry-geometry.result.valid.no_smaller c.blocks_for-last.ensures (sized _ _ _ _ _ c.geometry-geometry.ensures listed) in
     let none : c.loop-index.index ≡ 0 = omega arith in
-    c.if-not-named_by_later.ensures.no refl (subst (λ k. LaterPointersName c.loop-index.words c.loop-index.block k (c.blocks_for-last.result - 1)) none
+    c.if-not-pointers_agree.ensures.no refl (subst (λ k. LaterPointersName c.loop-index.words c.loop-index.block k (c.blocks_for-last.result - 1)) none
     (named_of_chain _ _ c.args.head _ _ c.loop-index.index _ (few_blocks c.geometry-geometry.result _ c.if-last-geometry.false) inv.checked ok inv.low c.loop-index.block inv.at))

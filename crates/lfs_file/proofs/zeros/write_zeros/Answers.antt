@@ -28,8 +28,8 @@ zeroing-init g c =
       quiet = refl;
     }
 
-pub append_to_unfinished-requires : goal.append_to_unfinished-requires
-append_to_unfinished-requires g c = record {
+pub append_to_draft-requires : goal.append_to_draft-requires
+append_to_draft-requires g c = record {
   begun =
       let inv = c.zeroing.invariant in
       subst (λ (k : Geometry). IsUnfinishedList c.zeroing.map (g.D.BlockDevice.blocks c.zeroing.dev) k c.zeroing.hand) (sym inv.device.geometry) inv.zeroed.at.begun;
@@ -48,8 +48,8 @@ append_to_unfinished-requires g c = record {
       (growing_size c.zeroing.hand.list + length zeros) (growing_size c.args.hand.now.list + c.args.count) inv.device.geometry inv.base.same (omega arith) inv.map.used inv.map.count c.requires.room;
 }
 
-pub returns-in_err-append_to_unfinished-clause-device : goal.returns-in_err-append_to_unfinished-clause-device
-returns-in_err-append_to_unfinished-clause-device g c = used_on g.D.BlockDevice c.zeroing.invariant.map c.zeroing.invariant.device c.append_to_unfinished.ensures.device
+pub returns-in_err-append_to_draft-clause-device : goal.returns-in_err-append_to_draft-clause-device
+returns-in_err-append_to_draft-clause-device g c = used_on g.D.BlockDevice c.zeroing.invariant.map c.zeroing.invariant.device c.append_to_draft.ensures.device
 
 pub zeroing-preserved : goal.zeroing-preserved
 zeroing-preserved g c =
@@ -65,11 +65,11 @@ zeroing-preserved g c =
     let long = in_hand d geometry.block_size (g.D.BlockDevice.geometry c.args.dev.now).block_count hand.list hand.base geometry.valid.no_smaller (shaped d _ _ begun.geometry (g.met.D.BlockDevice.shape c.args.dev.now)) begun.begun.growing in
     let m = c.min-part.ensures in
     let test = c.zeroing-test.true in
-    let wrote = c.in_ok-append_to_unfinished.ensures.written in
+    let wrote = c.in_ok-append_to_draft.ensures.written in
     let size = inv.zeroed.at.size in
     let sum = wrote.size in
     let len : length zeros ≡ n = ap length part ∙ length-replicate {A = ℕ} n 0 in
-    let going = subst (λ (k : Geometry). CanEndUnfinished c.append_to_unfinished.new.map (g.D.BlockDevice.blocks c.append_to_unfinished.new.dev) k c.append_to_unfinished.new.hand) inv.device.geometry wrote.going in
+    let going = subst (λ (k : Geometry). CanEndUnfinished c.append_to_draft.new.map (g.D.BlockDevice.blocks c.append_to_draft.new.dev) k c.append_to_draft.new.hand) inv.device.geometry wrote.going in
     record {
       few = omega arith;
       zeroed = record {
@@ -80,16 +80,16 @@ zeroing-preserved g c =
         };
         going = λ some. going;
       };
-      base = list_then _ _ _ _ _ _ _ _ inv.device.geometry inv.base c.append_to_unfinished.ensures.base;
-      map = KeepsUsedBlocks-trans inv.map c.append_to_unfinished.ensures.map;
-      device = used_on g.D.BlockDevice inv.map inv.device c.append_to_unfinished.ensures.device;
-      quiet = quiet g.D.BlockDevice c.in_ok-append_to_unfinished.ensures.reports.faults ∙ inv.quiet;
+      base = list_then _ _ _ _ _ _ _ _ inv.device.geometry inv.base c.append_to_draft.ensures.base;
+      map = KeepsUsedBlocks-trans inv.map c.append_to_draft.ensures.map;
+      device = used_on g.D.BlockDevice inv.map inv.device c.append_to_draft.ensures.device;
+      quiet = quiet g.D.BlockDevice c.in_ok-append_to_draft.ensures.reports.faults ∙ inv.quiet;
     }
 
-pub returns-in_err-append_to_unfinished-clause-reports : goal.returns-in_err-append_to_unfinished-clause-reports
-returns-in_err-append_to_unfinished-clause-reports g c =
+pub returns-in_err-append_to_draft-clause-reports : goal.returns-in_err-append_to_draft-clause-reports
+returns-in_err-append_to_draft-clause-reports g c =
     let p = err_from_is_err_and c.from_residual.result c.from_residual.ensures.1 in
-    rw (p.1, p.2) (record { faults = reported_on g.D.BlockDevice c.zeroing.invariant.quiet (reported_as g.D.BlockDevice c.in_err-append_to_unfinished.ensures.reports.faults); errors = c.in_err-append_to_unfinished.ensures.reports.errors })
+    rw (p.1, p.2) (record { faults = reported_on g.D.BlockDevice c.zeroing.invariant.quiet (reported_as g.D.BlockDevice c.in_err-append_to_draft.ensures.reports.faults); errors = c.in_err-append_to_draft.ensures.reports.errors })
 
 pub returns-clause-zeroed : goal.returns-clause-zeroed
 returns-clause-zeroed g c =
@@ -99,8 +99,8 @@ returns-clause-zeroed g c =
     subst (λ n. AreZerosWritten c.zeroing.map (g.D.BlockDevice.blocks c.zeroing.dev) (g.D.BlockDevice.geometry c.args.dev.now) c.zeroing.hand n (growing_size hand.list + n)
     (written_contents (unfinished_bytes (g.D.BlockDevice.blocks c.args.dev.now) hand) (growing_size hand.list) (replicate n 0))) all inv.zeroed
 
-pub returns-in_err-append_to_unfinished-clause-base : goal.returns-in_err-append_to_unfinished-clause-base
-returns-in_err-append_to_unfinished-clause-base g c = list_then _ _ _ _ _ _ _ _ c.zeroing.invariant.device.geometry c.zeroing.invariant.base c.append_to_unfinished.ensures.base
+pub returns-in_err-append_to_draft-clause-base : goal.returns-in_err-append_to_draft-clause-base
+returns-in_err-append_to_draft-clause-base g c = list_then _ _ _ _ _ _ _ _ c.zeroing.invariant.device.geometry c.zeroing.invariant.base c.append_to_draft.ensures.base
 
-pub returns-in_err-append_to_unfinished-clause-map : goal.returns-in_err-append_to_unfinished-clause-map
-returns-in_err-append_to_unfinished-clause-map g c = KeepsUsedBlocks-trans c.zeroing.invariant.map c.append_to_unfinished.ensures.map
+pub returns-in_err-append_to_draft-clause-map : goal.returns-in_err-append_to_draft-clause-map
+returns-in_err-append_to_draft-clause-map g c = KeepsUsedBlocks-trans c.zeroing.invariant.map c.append_to_draft.ensures.map

@@ -10,11 +10,11 @@ use Rattle.lfs_fs.proofs.checks.check_mkdir.Goals as goal
 
 pub returns : goal.returns
 returns g c =
-    mkdir_checked (session_view c.args.tree.now c.args.files.now) c.args.bytes.now c.in-Some.path c.in_ok-found.found _ c.name_len.result c.name_len-2.result c.name_is_long.result c.is_nothing.result c.new_entry_overflows.result c.lacks_blocks.result
+    mkdir_checked (session_view c.args.tree.now c.args.files.now) c.args.bytes.now c.in-Some.path c.in_ok-found.found _ c.name_len.result c.name_len-2.result c.exceeds_name_max.result c.is_nothing.result c.new_entry_exceeds_limit.result c.lacks_free_blocks.result
     c.refuse_if.result c.refuse_if-2.result c.refuse_if-3.result c.refuse_if-4.result c.value_or_refusal.result
     c.if-has_failed.ensures c.if-not-is_writable.ensures c.in-Some.ensures c.in_ok-found.ensures.asks.asked c.in_ok-found.ensures.found
-    c.name_len.ensures.len c.name_is_long.ensures c.refuse_if.ensures c.is_nothing.ensures c.refuse_if-2.ensures c.name_len-2.ensures.len c.new_entry_overflows.ensures c.refuse_if-3.ensures
-    (c.lacks_blocks.ensures ∙ lacks_is c.look_up.new.self c.args.files.now 4 (ready_later _ _ c.args.files.now (c.requires (sym c.if-has_failed.ensures)) c.in_ok-found.ensures.asks.asked) ∙ ap (λ z. lacks_room (tree_summary c.look_up.new.self) (files_view z c.args.files.now) 4) c.in_ok-found.ensures.asks.asked.same) c.refuse_if-4.ensures c.value_or_refusal.ensures
+    c.name_len.ensures.len c.exceeds_name_max.ensures c.refuse_if.ensures c.is_nothing.ensures c.refuse_if-2.ensures c.name_len-2.ensures.len c.new_entry_exceeds_limit.ensures c.refuse_if-3.ensures
+    (c.lacks_free_blocks.ensures ∙ lacks_is c.look_up.new.self c.args.files.now 4 (ready_later _ _ c.args.files.now (c.requires (sym c.if-has_failed.ensures)) c.in_ok-found.ensures.asks.asked) ∙ ap (λ z. lacks_room (tree_summary c.look_up.new.self) (files_view z c.args.files.now) 4) c.in_ok-found.ensures.asks.asked.same) c.refuse_if-4.ensures c.value_or_refusal.ensures
 
 pub returns-in_err-found : goal.returns-in_err-found
 returns-in_err-found g c =

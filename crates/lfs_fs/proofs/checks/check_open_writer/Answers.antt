@@ -15,8 +15,8 @@ creation_refusal-refusal-requires-clause-ready g c = ready_later _ _ c.args.file
 pub creation_refusal-refusal-requires-clause-passes : goal.creation_refusal-refusal-requires-clause-passes
 creation_refusal-refusal-requires-clause-passes g c = passes_first c.args.tree.now c.look_up_creation.new.self c.args.bytes.now c.in-Some.path (flags_view c.args.flags) c.in_ok-found.found.entry c.if-has_failed.ensures c.if-not-is_writable.ensures c.in-Some.ensures c.requires.write c.if-not-is_allowed.ensures c.in_ok-found.ensures.asks.asked c.in_ok-found.ensures.found c.in_default-fault.is
 
-pub reopening_refusal-refusal-requires-clause-passes : goal.reopening_refusal-refusal-requires-clause-passes
-reopening_refusal-refusal-requires-clause-passes g c = passes_first c.args.tree.now c.look_up_creation.new.self c.args.bytes.now c.in-Some.path (flags_view c.args.flags) c.in_ok-found.found.entry c.if-has_failed.ensures c.if-not-is_writable.ensures c.in-Some.ensures c.requires.write c.if-not-is_allowed.ensures c.in_ok-found.ensures.asks.asked c.in_ok-found.ensures.found c.in_default-fault.is
+pub existing_entry_refusal-refusal-requires-clause-passes : goal.existing_entry_refusal-refusal-requires-clause-passes
+existing_entry_refusal-refusal-requires-clause-passes g c = passes_first c.args.tree.now c.look_up_creation.new.self c.args.bytes.now c.in-Some.path (flags_view c.args.flags) c.in_ok-found.found.entry c.if-has_failed.ensures c.if-not-is_writable.ensures c.in-Some.ensures c.requires.write c.if-not-is_allowed.ensures c.in_ok-found.ensures.asks.asked c.in_ok-found.ensures.found c.in_default-fault.is
 
 pub returns-in-Some-fault : goal.returns-in-Some-fault
 returns-in-Some-fault g c =
@@ -27,7 +27,7 @@ pub returns : goal.returns
 returns g c =
     writer_checked c.args.tree.now c.look_up_creation.new.self c.args.files.now c.args.bytes.now c.in-Some.path (flags_view c.args.flags) c.in_ok-found.found.entry c.size.result c.in_ok-found.found.target c.if-is_nothing.refusal c.value_or_refusal.result
     c.if-has_failed.ensures c.if-not-is_writable.ensures c.in-Some.ensures c.requires.write c.if-not-is_allowed.ensures c.in_ok-found.ensures.asks.asked c.in_ok-found.ensures.found
-    (elim c.if-is_nothing.branch [ then-is_nothing w ↦ w.refusal-is ∙ w.creation_refusal-refusal.ensures | else-is_nothing w ↦ w.refusal-is ∙ w.reopening_refusal-refusal.ensures ])
+    (elim c.if-is_nothing.branch [ then-is_nothing w ↦ w.refusal-is ∙ w.creation_refusal-refusal.ensures | else-is_nothing w ↦ w.refusal-is ∙ w.existing_entry_refusal-refusal.ensures ])
     c.size.ensures c.in_ok-found.ensures.target (λ settled. c.in_ok-found.ensures.handed_on (sym (ap (λ (t : TreeState). pairs_gstate t.pairs) c.in_ok-found.ensures.asks.asked.same) ∙ settled)) c.value_or_refusal.ensures
 
 pub returns-in_err-found : goal.returns-in_err-found

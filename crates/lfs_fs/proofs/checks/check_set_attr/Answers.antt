@@ -1,5 +1,5 @@
 use Rattle.std.proofs.Common.{◌∙◌, ap, arith, subst, sym}
-use Rattle.lfs_fs.proofs.Common.{node_attributes_of, lacks_room, IsAttributesSize, TreeState, tree_summary, shown_tree, files_view, session_view}
+use Rattle.lfs_fs.proofs.Common.{node_attributes_of, lacks_room, IsAttributesSize, TreeState, tree_summary, visible_tree, files_view, session_view}
 use Rattle.lfs_model.specs.session.Operations as ops
 use Rattle.lfs_fs.proofs.Answered.{ready_later}
 use Rattle.lfs_fs.proofs.Checked.{lookup_failed}
@@ -12,19 +12,19 @@ use Rattle.lfs_fs.proofs.checks.check_set_attr.Goals as goal
 
 pub replaced_attributes_size-size-requires : goal.replaced_attributes_size-size-requires
 replaced_attributes_size-size-requires g c =
-    can_replace (node_attributes_of (shown_tree c.args.tree.now c.in-Some.path)) c.in_ok-taken.taken c.args.kind c.in_ok-found.found.bytes c.args.value.now (omega arith)
-    (subst (λ (s : TreeState). IsAttributesSize (node_attributes_of (shown_tree s c.in-Some.path)) c.in_ok-taken.taken) c.in_ok-found.ensures.asks.asked.same c.in_ok-taken.ensures.size) c.in_ok-found.ensures.bytes.0
+    can_replace (node_attributes_of (visible_tree c.args.tree.now c.in-Some.path)) c.in_ok-taken.taken c.args.kind c.in_ok-found.found.bytes c.args.value.now (omega arith)
+    (subst (λ (s : TreeState). IsAttributesSize (node_attributes_of (visible_tree s c.in-Some.path)) c.in_ok-taken.taken) c.in_ok-found.ensures.asks.asked.same c.in_ok-taken.ensures.size) c.in_ok-found.ensures.bytes.0
 
 pub returns : goal.returns
 returns g c =
     let asked = asked_twice _ _ _ c.in_ok-found.ensures.asks.asked c.in_ok-taken.ensures.asks.asked in
     set_attr_checked (session_view c.args.tree.now c.args.files.now) c.args.bytes.now c.args.kind c.args.value.now c.in-Some.path c.in_ok-found.found.finding c.get_attr.new.self c.attributes_size.new.self
-    c.in_ok-found.found.bytes c.in_ok-taken.taken c.replaced_attributes_size-size.result c.name_len.result c.is_nothing.result c.attribute_is_long.result c.entry_overflows.result c.lacks_blocks.result
+    c.in_ok-found.found.bytes c.in_ok-taken.taken c.replaced_attributes_size-size.result c.name_len.result c.is_nothing.result c.exceeds_attr_max.result c.exceeds_entry_limit.result c.lacks_free_blocks.result
     c.refuse_if.result c.refuse_if-2.result c.refuse_if-3.result c.refuse_if-4.result c.value_or_refusal.result
     c.if-has_failed.ensures c.if-not-is_writable.ensures c.in-Some.ensures c.in_ok-found.ensures.asks.asked asked c.in_ok-found.ensures.found
     c.in_ok-found.ensures.bytes.0 c.in_ok-taken.ensures.size c.replaced_attributes_size-size.ensures
-    c.is_nothing.ensures c.refuse_if.ensures c.attribute_is_long.ensures c.refuse_if-2.ensures c.name_len.ensures.len c.entry_overflows.ensures c.refuse_if-3.ensures
-    (c.lacks_blocks.ensures ∙ lacks_is c.attributes_size.new.self c.args.files.now 2 (ready_later _ _ c.args.files.now (c.requires (sym c.if-has_failed.ensures)) asked) ∙ ap (λ z. lacks_room (tree_summary c.attributes_size.new.self) (files_view z c.args.files.now) 2) asked.same) c.refuse_if-4.ensures c.value_or_refusal.ensures
+    c.is_nothing.ensures c.refuse_if.ensures c.exceeds_attr_max.ensures c.refuse_if-2.ensures c.name_len.ensures.len c.exceeds_entry_limit.ensures c.refuse_if-3.ensures
+    (c.lacks_free_blocks.ensures ∙ lacks_is c.attributes_size.new.self c.args.files.now 2 (ready_later _ _ c.args.files.now (c.requires (sym c.if-has_failed.ensures)) asked) ∙ ap (λ z. lacks_room (tree_summary c.attributes_size.new.self) (files_view z c.args.files.now) 2) asked.same) c.refuse_if-4.ensures c.value_or_refusal.ensures
 
 pub returns-in_err-found : goal.returns-in_err-found
 returns-in_err-found g c =

@@ -6,7 +6,7 @@ pub returns-clause-written : goal.returns-clause-written
 returns-clause-written g c w e =
     let same = same_writer c.args.entries.now.items c.args.index c.in-Some-Writing.writer w _ _ c.index_mut.ensures.value c.in-Some-Writing.is c.in-Some-Writing.field-0-is e in
     record {
-      writer = c.write_by_writer.new.writer;
+      writer = c.write_to_draft.new.writer;
       only = search rules;
-      holds = rw (sym same) c.write_by_writer.ensures.written;
+      holds = rw (sym same) c.write_to_draft.ensures.written;
     }

@@ -1,5 +1,5 @@
 use Rattle.std.proofs.Common.{◌≡◌, ◌-◌, ap, length, min, arith}
-use Rattle.lfs_fs.proofs.Common.{file_bytes, shown_tree}
+use Rattle.lfs_fs.proofs.Common.{file_bytes, visible_tree}
 use Rattle.lfs_fs.proofs.ReaderReads.{known_read, whole_buffer}
 use Rattle.lfs_fs.proofs.reads.bytes_for_reader.Goals as goal
 
@@ -11,7 +11,7 @@ read-requires-clause-there g c = (c.args.reader.now.path, c.requires.kept.1.cont
 
 pub returns-clause-bytes : goal.returns-clause-bytes
 returns-clause-bytes g c =
-    let file = file_bytes (shown_tree c.args.tree.now c.args.reader.now.path) in
+    let file = file_bytes (visible_tree c.args.tree.now c.args.reader.now.path) in
     let position = c.args.reader.now.position in
     let size = c.size_of_contents.ensures.size c.args.reader.now.path c.requires.kept.1.contents in
     let long = ap (λ xs. length xs) c.deref_mut.ensures.value in

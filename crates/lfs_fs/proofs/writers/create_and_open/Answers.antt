@@ -1,7 +1,7 @@
 use Rattle.std.proofs.Common.{◌∙◌, [], sym, subst, true, refl}
 use Rattle.std.specs.Prelude.{IfSome}
 use Rattle.lfs_model.specs.session.Operations as ops
-use Rattle.lfs_fs.proofs.Common.{tree_creating, FileNode, IsCreationResult, CanCreateFile, SurvivesStops, kept_thread, shown_tree, flags_view}
+use Rattle.lfs_fs.proofs.Common.{tree_creating, FileNode, IsCreationResult, CanCreateFile, PowerLossesLeaveEither, kept_thread, visible_tree, flags_view}
 use Rattle.lfs_fs.proofs.Beginning.{begun_made}
 use Rattle.lfs_fs.proofs.writers.create_and_open.Goals as goal
 
@@ -20,7 +20,7 @@ returns-clause-begun g c =
     (c.in_ok-create.ensures.does.done (ops.Open c.path.inside.bytes.items (record (flags_view c.args.flags) { write = true })) (c.path.inside.bytes.items, (record (flags_view c.args.flags) { write = true }, (refl, c.path.view_is ∙ sym c.lend.ensures)))) (c.contains.ensures tt)
 
 pub returns-in_err-create-clause-survives : goal.returns-in_err-create-clause-survives
-returns-in_err-create-clause-survives g c = subst (λ p. SurvivesStops c.args.tree.now c.create.new.self (tree_creating p (FileNode [] []) (shown_tree c.args.tree.now))) c.lend.ensures c.create.ensures.does.survives
+returns-in_err-create-clause-survives g c = subst (λ p. PowerLossesLeaveEither c.args.tree.now c.create.new.self (tree_creating p (FileNode [] []) (visible_tree c.args.tree.now))) c.lend.ensures c.create.ensures.does.survives
 
 pub returns-clause-survives : goal.returns-clause-survives
-returns-clause-survives g c = subst (λ p. SurvivesStops c.args.tree.now c.create.new.self (tree_creating p (FileNode [] []) (shown_tree c.args.tree.now))) c.lend.ensures c.create.ensures.does.survives
+returns-clause-survives g c = subst (λ p. PowerLossesLeaveEither c.args.tree.now c.create.new.self (tree_creating p (FileNode [] []) (visible_tree c.args.tree.now))) c.lend.ensures c.create.ensures.does.survives

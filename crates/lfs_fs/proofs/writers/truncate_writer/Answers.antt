@@ -35,11 +35,11 @@ pub returns-clause-written : goal.returns-clause-written
 returns-clause-written g c =
     let k = c.in_ok-contents.ensures in
     let l = c.in_ok-contents-2.ensures in
-    has_truncated c.args.tree.now c.contents_of_writer.new.tree c.truncate.new.self c.args.writer.now c.args.new_size c.turns_by_resize-has_turned.result c.change_end_resized-last_end.result c.in_ok-contents.contents c.in_ok-contents-2.contents _
+    has_truncated c.args.tree.now c.contents_of_writer.new.tree c.truncate.new.self c.args.writer.now c.args.new_size c.nonsequential_after_resize-has_turned.result c.end_after_resize-last_end.result c.in_ok-contents.contents c.in_ok-contents-2.contents _
     c.requires k.asked k.over refl
     (same_form c.args.tree.now c.args.writer.now c.take-unsaved.result c.in_ok-contents.contents c.take-unsaved.ensures.value k.form)
     (same_bytes c.args.tree.now c.args.writer.now c.take-unsaved.result _ c.take-unsaved.ensures.value k.bytes)
-    c.lemma_forms_fit.ensures.truncated l.writes.beside l.over l.truncated.bytes l.truncated.form c.turns_by_resize-has_turned.ensures c.change_end_resized-last_end.ensures
+    c.lemma_forms_fit.ensures.truncated l.writes.beside l.over l.truncated.bytes l.truncated.form c.nonsequential_after_resize-has_turned.ensures c.end_after_resize-last_end.ensures
 
 pub returns-clause-beside : goal.returns-clause-beside
 returns-clause-beside g c = beside_later c.args.tree.now c.contents_of_writer.new.tree c.truncate.new.self c.in_ok-contents.ensures.asked c.in_ok-contents-2.ensures.writes.beside

@@ -9,17 +9,17 @@ use Rattle.lfs_lookup.proofs.attribute_sizes.attributes_size_at.Goals as goal
 pub cached_attributes_size-requires-clause-below : goal.cached_attributes_size-requires-clause-below
 cached_attributes_size-requires-clause-below g c =
     let t = c.args.thread.now.kept in
-    let f = slot_for t c.args.path.now c.in_ok-shown.shown c.in-Some.slot c.in_ok-shown.ensures.shown (sym c.spot_if_found.ensures ∙ c.in-Some.is) in
+    let f = slot_for t c.args.path.now c.in_ok-shown.shown c.in-Some.slot c.in_ok-shown.ensures.shown (sym c.slot_of_lookup.ensures ∙ c.in-Some.is) in
     subst (λ (ps : List Pair). c.in-Some.slot.pair < length ps) (sym c.look_up_path.ensures.reading.only.pairs) f.below
 
 pub cached_attributes_size-requires-clause-cached_log : goal.cached_attributes_size-requires-clause-cached_log
 cached_attributes_size-requires-clause-cached_log g c =
-    slot_is_cached c.look_up_path.new.thread c.in_ok-shown.shown (Some c.in-Some.slot) c.in_ok-shown.ensures.cached_log (sym (sym c.spot_if_found.ensures ∙ c.in-Some.is))
+    slot_is_cached c.look_up_path.new.thread c.in_ok-shown.shown (Some c.in-Some.slot) c.in_ok-shown.ensures.cached_log (sym (sym c.slot_of_lookup.ensures ∙ c.in-Some.is))
 
 pub returns-clause-is : goal.returns-clause-is
 returns-clause-is g c =
     let t = c.args.thread.now.kept in
-    let f = slot_for t c.args.path.now c.in_ok-shown.shown c.in-Some.slot c.in_ok-shown.ensures.shown (sym c.spot_if_found.ensures ∙ c.in-Some.is) in
+    let f = slot_for t c.args.path.now c.in_ok-shown.shown c.in-Some.slot c.in_ok-shown.ensures.shown (sym c.slot_of_lookup.ensures ∙ c.in-Some.is) in
     subst (λ a. IfOk c.cached_attributes_size.result (IsAttributesSize a)) f.attributes
     (c.cached_attributes_size.ensures.is f.held
     (subst (λ (ps : List Pair). slice_get (slice_index_or ps c.in-Some.slot.pair empty_anchor).content.slots c.in-Some.slot.id ≡ Some f.held) (sym c.look_up_path.ensures.reading.only.pairs) f.there))
@@ -30,7 +30,7 @@ returns-clause-reading g c =
 
 pub returns-in_default-clause-is : goal.returns-in_default-clause-is
 returns-in_default-clause-is g c =
-    subst (λ a. IsAttributesSize a 0) (sym (no_slot c.args.thread.now.kept c.args.path.now c.in_ok-shown.shown c.in_ok-shown.ensures.shown (sym c.spot_if_found.ensures ∙ c.in_default.is))) none_sized
+    subst (λ a. IsAttributesSize a 0) (sym (no_slot c.args.thread.now.kept c.args.path.now c.in_ok-shown.shown c.in_ok-shown.ensures.shown (sym c.slot_of_lookup.ensures ∙ c.in_default.is))) none_sized
 
 pub returns-clause-reads : goal.returns-clause-reads
 returns-clause-reads g c = record {

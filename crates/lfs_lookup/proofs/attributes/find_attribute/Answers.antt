@@ -9,8 +9,8 @@ use Rattle.lfs_lookup.proofs.attributes.find_attribute.Goals as goal
 pub attribute_if_slot-requires : goal.attribute_if_slot-requires
 attribute_if_slot-requires g c = record {
   works = c.look_up_path.ensures.reading.works;
-  below = slot_within c.args.thread.now.kept c.args.path.now c.in_ok-shown.shown c.spot_if_found.result c.look_up_path.new.thread.kept.pairs c.in_ok-shown.ensures.shown c.spot_if_found.ensures c.look_up_path.ensures.reading.only.pairs;
-  cached_log = slot_is_cached c.look_up_path.new.thread c.in_ok-shown.shown c.spot_if_found.result c.in_ok-shown.ensures.cached_log c.spot_if_found.ensures;
+  below = slot_within c.args.thread.now.kept c.args.path.now c.in_ok-shown.shown c.slot_of_lookup.result c.look_up_path.new.thread.kept.pairs c.in_ok-shown.ensures.shown c.slot_of_lookup.ensures c.look_up_path.ensures.reading.only.pairs;
+  cached_log = slot_is_cached c.look_up_path.new.thread c.in_ok-shown.shown c.slot_of_lookup.result c.in_ok-shown.ensures.cached_log c.slot_of_lookup.ensures;
 }
 
 pub returns-in_err-bytes-clause-reading : goal.returns-in_err-bytes-clause-reading
@@ -34,23 +34,23 @@ returns-in_err-bytes-clause-reads g c = record {
   kept = λ there. ap (λ (t : KeptThread). read_count t.history) c.attribute_if_slot.ensures.no_call ∙ c.look_up_path.ensures.reads.loads.none there;
 }
 
-pub finding_shown-requires : goal.finding_shown-requires
-finding_shown-requires g c = in_entry c.args.thread.now.kept c.args.path.now c.in_ok-shown.shown c.in_ok-shown.ensures.shown
+pub node_of_lookup-requires : goal.node_of_lookup-requires
+node_of_lookup-requires g c = in_entry c.args.thread.now.kept c.args.path.now c.in_ok-shown.shown c.in_ok-shown.ensures.shown
 
 pub returns-clause-found : goal.returns-clause-found
 returns-clause-found g c =
     let t = c.args.thread.now.kept in
     let device = c.device-device.result.now in
-    found_shown t c.args.path.now c.requires.accepted c.args.root c.in_ok-shown.shown c.finding_shown.result c.requires.root
+    found_shown t c.args.path.now c.requires.accepted c.args.root c.in_ok-shown.shown c.node_of_lookup.result c.requires.root
     (sized_on g.D.BlockDevice device t.disk (g.D.BlockDevice.geometry device).block_count (c.device-device.ensures.disk ∙ c.attribute_if_slot.ensures.reading.only.disk ∙ c.look_up_path.ensures.reading.only.disk)
     (g.D.BlockDevice.geometry device).valid.no_smaller (g.met.D.BlockDevice.shape device))
-    c.in_ok-shown.ensures.shown c.finding_shown.ensures
+    c.in_ok-shown.ensures.shown c.node_of_lookup.ensures
 
 pub returns-clause-is : goal.returns-clause-is
 returns-clause-is g c =
     let t = c.args.thread.now.kept in
-    let held = are_held t c.args.path.now c.in_ok-shown.shown c.spot_if_found.result c.in_ok-shown.ensures.shown c.spot_if_found.ensures in
-    c.in_ok-bytes.ensures.is (node_attributes_of (disk_tree t.disk t.pairs c.args.path.now)) (held_later t c.look_up_path.new.thread.kept c.spot_if_found.result _ c.look_up_path.ensures.reading.only.pairs held)
+    let held = are_held t c.args.path.now c.in_ok-shown.shown c.slot_of_lookup.result c.in_ok-shown.ensures.shown c.slot_of_lookup.ensures in
+    c.in_ok-bytes.ensures.is (node_attributes_of (disk_tree t.disk t.pairs c.args.path.now)) (held_later t c.look_up_path.new.thread.kept c.slot_of_lookup.result _ c.look_up_path.ensures.reading.only.pairs held)
 
 pub returns-clause-reads : goal.returns-clause-reads
 returns-clause-reads g c = record {

@@ -8,8 +8,8 @@ use Rattle.lfs_lookup.proofs.by_path.path_has_entries.Goals as goal
 pub has_entries-requires-clause-below : goal.has_entries-requires-clause-below
 has_entries-requires-clause-below g c =
     let t = c.args.thread.now.kept in
-    first_within t c.args.path.now c.requires.accepted c.look_up_path.new.thread.kept.pairs c.first_pair_found.result c.look_up_path.ensures.reading.only.pairs
-    (first_at t c.args.path.now c.requires.accepted c.args.root c.in_ok-shown.shown c.first_pair_found.result c.requires.root c.in_ok-shown.ensures.shown c.first_pair_found.ensures)
+    first_within t c.args.path.now c.requires.accepted c.look_up_path.new.thread.kept.pairs c.found_directory_index.result c.look_up_path.ensures.reading.only.pairs
+    (first_at t c.args.path.now c.requires.accepted c.args.root c.in_ok-shown.shown c.found_directory_index.result c.requires.root c.in_ok-shown.ensures.shown c.found_directory_index.ensures)
 
 pub returns-in_err-has_entries-clause-reading : goal.returns-in_err-has_entries-clause-reading
 returns-in_err-has_entries-clause-reading g c =
@@ -17,23 +17,23 @@ returns-in_err-has_entries-clause-reading g c =
     passed _ _ c.has_entries.result c.from_residual-in_err-has_entries.result _ p.0 c.in_err-has_entries.was p.1 p.2
     (further _ _ _ c.has_entries.result (answered _ _ c.look_up_path.result c.in_ok-shown.shown c.in_ok-shown.was c.look_up_path.ensures.reading) c.has_entries.ensures.reading)
 
-pub finding_shown-requires : goal.finding_shown-requires
-finding_shown-requires g c = in_entry c.args.thread.now.kept c.args.path.now c.in_ok-shown.shown c.in_ok-shown.ensures.shown
+pub node_of_lookup-requires : goal.node_of_lookup-requires
+node_of_lookup-requires g c = in_entry c.args.thread.now.kept c.args.path.now c.in_ok-shown.shown c.in_ok-shown.ensures.shown
 
 pub returns-clause-found : goal.returns-clause-found
 returns-clause-found g c =
     let t = c.args.thread.now.kept in
     let device = c.device-device.result.now in
-    found_shown t c.args.path.now c.requires.accepted c.args.root c.in_ok-shown.shown c.finding_shown.result c.requires.root
+    found_shown t c.args.path.now c.requires.accepted c.args.root c.in_ok-shown.shown c.node_of_lookup.result c.requires.root
     (sized_on g.D.BlockDevice device t.disk (g.D.BlockDevice.geometry device).block_count (c.device-device.ensures.disk ∙ c.has_entries.ensures.reading.only.disk ∙ c.look_up_path.ensures.reading.only.disk)
     (g.D.BlockDevice.geometry device).valid.no_smaller (g.met.D.BlockDevice.shape device))
-    c.in_ok-shown.ensures.shown c.finding_shown.ensures
+    c.in_ok-shown.ensures.shown c.node_of_lookup.ensures
 
 pub returns-clause-has : goal.returns-clause-has
 returns-clause-has g c =
     let t = c.args.thread.now.kept in
-    has_beneath t c.args.path.now c.requires.accepted c.look_up_path.new.thread.kept.pairs c.first_pair_found.result c.in_ok-has_entries.has_entries c.look_up_path.ensures.reading.only.pairs
-    (first_at t c.args.path.now c.requires.accepted c.args.root c.in_ok-shown.shown c.first_pair_found.result c.requires.root c.in_ok-shown.ensures.shown c.first_pair_found.ensures)
+    has_beneath t c.args.path.now c.requires.accepted c.look_up_path.new.thread.kept.pairs c.found_directory_index.result c.in_ok-has_entries.has_entries c.look_up_path.ensures.reading.only.pairs
+    (first_at t c.args.path.now c.requires.accepted c.args.root c.in_ok-shown.shown c.found_directory_index.result c.requires.root c.in_ok-shown.ensures.shown c.found_directory_index.ensures)
     c.in_ok-has_entries.ensures.has
 
 pub returns-clause-reading : goal.returns-clause-reading
@@ -52,8 +52,8 @@ returns-in_err-has_entries-clause-few g c =
     let t = c.args.thread.now.kept in
     let f = c.look_up_path.ensures.reads.few in
     let n = c.has_entries.ensures.few in
-    let k = few_from t c.args.path.now c.requires.accepted c.look_up_path.new.thread.kept.pairs c.first_pair_found.result c.look_up_path.ensures.reading.only.pairs
-    (first_at t c.args.path.now c.requires.accepted c.args.root c.in_ok-shown.shown c.first_pair_found.result c.requires.root c.in_ok-shown.ensures.shown c.first_pair_found.ensures) in
+    let k = few_from t c.args.path.now c.requires.accepted c.look_up_path.new.thread.kept.pairs c.found_directory_index.result c.look_up_path.ensures.reading.only.pairs
+    (first_at t c.args.path.now c.requires.accepted c.args.root c.in_ok-shown.shown c.found_directory_index.result c.requires.root c.in_ok-shown.ensures.shown c.found_directory_index.ensures) in
     let s = few_own (directory_pair_count t.pairs) c.args.path.now in
     omega (arith, f, n, k, s)
 
@@ -62,7 +62,7 @@ returns-clause-few g c =
     let t = c.args.thread.now.kept in
     let f = c.look_up_path.ensures.reads.few in
     let n = c.has_entries.ensures.few in
-    let k = few_from t c.args.path.now c.requires.accepted c.look_up_path.new.thread.kept.pairs c.first_pair_found.result c.look_up_path.ensures.reading.only.pairs
-    (first_at t c.args.path.now c.requires.accepted c.args.root c.in_ok-shown.shown c.first_pair_found.result c.requires.root c.in_ok-shown.ensures.shown c.first_pair_found.ensures) in
+    let k = few_from t c.args.path.now c.requires.accepted c.look_up_path.new.thread.kept.pairs c.found_directory_index.result c.look_up_path.ensures.reading.only.pairs
+    (first_at t c.args.path.now c.requires.accepted c.args.root c.in_ok-shown.shown c.found_directory_index.result c.requires.root c.in_ok-shown.ensures.shown c.found_directory_index.ensures) in
     let s = few_own (directory_pair_count t.pairs) c.args.path.now in
     omega (arith, f, n, k, s)

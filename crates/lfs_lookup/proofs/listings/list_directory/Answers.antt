@@ -17,8 +17,8 @@ returns-in_err-shown-clause-few g c =
 pub items_if_directory-requires-clause-below : goal.items_if_directory-requires-clause-below
 items_if_directory-requires-clause-below g c =
     let t = c.args.thread.now.kept in
-    first_within t c.args.path.now c.requires.accepted c.look_up_path.new.thread.kept.pairs c.first_pair_found.result c.look_up_path.ensures.reading.only.pairs
-    (first_at t c.args.path.now c.requires.accepted c.args.root c.in_ok-shown.shown c.first_pair_found.result c.requires.root c.in_ok-shown.ensures.shown c.first_pair_found.ensures)
+    first_within t c.args.path.now c.requires.accepted c.look_up_path.new.thread.kept.pairs c.found_directory_index.result c.look_up_path.ensures.reading.only.pairs
+    (first_at t c.args.path.now c.requires.accepted c.args.root c.in_ok-shown.shown c.found_directory_index.result c.requires.root c.in_ok-shown.ensures.shown c.found_directory_index.ensures)
 
 pub returns-in_err-items-clause-reading : goal.returns-in_err-items-clause-reading
 returns-in_err-items-clause-reading g c =
@@ -31,8 +31,8 @@ returns-in_err-items-clause-few g c =
     let t = c.args.thread.now.kept in
     let f = c.look_up_path.ensures.reads.few in
     let n = c.items_if_directory.ensures.few in
-    let k = few_from t c.args.path.now c.requires.accepted c.look_up_path.new.thread.kept.pairs c.first_pair_found.result c.look_up_path.ensures.reading.only.pairs
-    (first_at t c.args.path.now c.requires.accepted c.args.root c.in_ok-shown.shown c.first_pair_found.result c.requires.root c.in_ok-shown.ensures.shown c.first_pair_found.ensures) in
+    let k = few_from t c.args.path.now c.requires.accepted c.look_up_path.new.thread.kept.pairs c.found_directory_index.result c.look_up_path.ensures.reading.only.pairs
+    (first_at t c.args.path.now c.requires.accepted c.args.root c.in_ok-shown.shown c.found_directory_index.result c.requires.root c.in_ok-shown.ensures.shown c.found_directory_index.ensures) in
     let s = few_own (directory_pair_count t.pairs) c.args.path.now in
     omega (arith, f, n, k, s)
 
@@ -40,8 +40,8 @@ pub to_list_items-requires : goal.to_list_items-requires
 to_list_items-requires g c =
     let t = c.args.thread.now.kept in
     let device = c.device-device.result.now in
-    short_from t c.args.path.now c.requires.accepted c.look_up_path.new.thread.kept.pairs c.first_pair_found.result (items_view c.in_ok-items.items.items) (items_view c.sort_shorter_first.new.items.items) c.look_up_path.ensures.reading.only.pairs
-    (first_at t c.args.path.now c.requires.accepted c.args.root c.in_ok-shown.shown c.first_pair_found.result c.requires.root c.in_ok-shown.ensures.shown c.first_pair_found.ensures) c.in_ok-items.ensures.items c.sort_shorter_first.ensures
+    short_from t c.args.path.now c.requires.accepted c.look_up_path.new.thread.kept.pairs c.found_directory_index.result (items_view c.in_ok-items.items.items) (items_view c.sort_shorter_first.new.items.items) c.look_up_path.ensures.reading.only.pairs
+    (first_at t c.args.path.now c.requires.accepted c.args.root c.in_ok-shown.shown c.found_directory_index.result c.requires.root c.in_ok-shown.ensures.shown c.found_directory_index.ensures) c.in_ok-items.ensures.items c.sort_shorter_first.ensures
     (bytes_on g.D.BlockDevice device t.disk (c.device-device.ensures.disk ∙ c.items_if_directory.ensures.reading.only.disk ∙ c.look_up_path.ensures.reading.only.disk) (g.met.D.BlockDevice.bytes device))
 
 pub returns-in_err-listed-clause-reading : goal.returns-in_err-listed-clause-reading
@@ -55,29 +55,29 @@ returns-in_err-listed-clause-few g c =
     let t = c.args.thread.now.kept in
     let f = c.look_up_path.ensures.reads.few in
     let n = c.items_if_directory.ensures.few in
-    let k = few_from t c.args.path.now c.requires.accepted c.look_up_path.new.thread.kept.pairs c.first_pair_found.result c.look_up_path.ensures.reading.only.pairs
-    (first_at t c.args.path.now c.requires.accepted c.args.root c.in_ok-shown.shown c.first_pair_found.result c.requires.root c.in_ok-shown.ensures.shown c.first_pair_found.ensures) in
+    let k = few_from t c.args.path.now c.requires.accepted c.look_up_path.new.thread.kept.pairs c.found_directory_index.result c.look_up_path.ensures.reading.only.pairs
+    (first_at t c.args.path.now c.requires.accepted c.args.root c.in_ok-shown.shown c.found_directory_index.result c.requires.root c.in_ok-shown.ensures.shown c.found_directory_index.ensures) in
     let s = few_own (directory_pair_count t.pairs) c.args.path.now in
     omega (arith, f, n, k, s)
 
-pub finding_shown-requires : goal.finding_shown-requires
-finding_shown-requires g c = in_entry c.args.thread.now.kept c.args.path.now c.in_ok-shown.shown c.in_ok-shown.ensures.shown
+pub node_of_lookup-requires : goal.node_of_lookup-requires
+node_of_lookup-requires g c = in_entry c.args.thread.now.kept c.args.path.now c.in_ok-shown.shown c.in_ok-shown.ensures.shown
 
 pub returns-clause-found : goal.returns-clause-found
 returns-clause-found g c =
     let t = c.args.thread.now.kept in
     let device = c.device-device.result.now in
-    found_shown t c.args.path.now c.requires.accepted c.args.root c.in_ok-shown.shown c.finding_shown.result c.requires.root
+    found_shown t c.args.path.now c.requires.accepted c.args.root c.in_ok-shown.shown c.node_of_lookup.result c.requires.root
     (sized_on g.D.BlockDevice device t.disk (g.D.BlockDevice.geometry device).block_count (c.device-device.ensures.disk ∙ c.items_if_directory.ensures.reading.only.disk ∙ c.look_up_path.ensures.reading.only.disk)
     (g.D.BlockDevice.geometry device).valid.no_smaller (g.met.D.BlockDevice.shape device))
-    c.in_ok-shown.ensures.shown c.finding_shown.ensures
+    c.in_ok-shown.ensures.shown c.node_of_lookup.ensures
 
 pub returns-clause-items : goal.returns-clause-items
 returns-clause-items g c =
     let t = c.args.thread.now.kept in
     let device = c.device-device.result.now in
-    listed_from t c.args.path.now c.requires.accepted c.look_up_path.new.thread.kept.pairs c.first_pair_found.result (items_view c.in_ok-items.items.items) (items_view c.sort_shorter_first.new.items.items) (map listed_item_view c.in_ok-listed.listed.items) c.look_up_path.ensures.reading.only.pairs
-    (first_at t c.args.path.now c.requires.accepted c.args.root c.in_ok-shown.shown c.first_pair_found.result c.requires.root c.in_ok-shown.ensures.shown c.first_pair_found.ensures) c.in_ok-items.ensures.items c.sort_shorter_first.ensures
+    listed_from t c.args.path.now c.requires.accepted c.look_up_path.new.thread.kept.pairs c.found_directory_index.result (items_view c.in_ok-items.items.items) (items_view c.sort_shorter_first.new.items.items) (map listed_item_view c.in_ok-listed.listed.items) c.look_up_path.ensures.reading.only.pairs
+    (first_at t c.args.path.now c.requires.accepted c.args.root c.in_ok-shown.shown c.found_directory_index.result c.requires.root c.in_ok-shown.ensures.shown c.found_directory_index.ensures) c.in_ok-items.ensures.items c.sort_shorter_first.ensures
     (sized_on g.D.BlockDevice device t.disk (g.D.BlockDevice.geometry device).block_count (c.device-device.ensures.disk ∙ c.items_if_directory.ensures.reading.only.disk ∙ c.look_up_path.ensures.reading.only.disk)
     (g.D.BlockDevice.geometry device).valid.no_smaller (g.met.D.BlockDevice.shape device))
     c.in_ok-listed.ensures
@@ -87,8 +87,8 @@ returns-clause-few g c =
     let t = c.args.thread.now.kept in
     let f = c.look_up_path.ensures.reads.few in
     let n = c.items_if_directory.ensures.few in
-    let k = few_from t c.args.path.now c.requires.accepted c.look_up_path.new.thread.kept.pairs c.first_pair_found.result c.look_up_path.ensures.reading.only.pairs
-    (first_at t c.args.path.now c.requires.accepted c.args.root c.in_ok-shown.shown c.first_pair_found.result c.requires.root c.in_ok-shown.ensures.shown c.first_pair_found.ensures) in
+    let k = few_from t c.args.path.now c.requires.accepted c.look_up_path.new.thread.kept.pairs c.found_directory_index.result c.look_up_path.ensures.reading.only.pairs
+    (first_at t c.args.path.now c.requires.accepted c.args.root c.in_ok-shown.shown c.found_directory_index.result c.requires.root c.in_ok-shown.ensures.shown c.found_directory_index.ensures) in
     let s = few_own (directory_pair_count t.pairs) c.args.path.now in
     omega (arith, f, n, k, s)
 
@@ -105,8 +105,8 @@ returns-in_err-items-clause-kept g c = λ there.
     let t = c.args.thread.now.kept in
     let only = c.look_up_path.ensures.reading.only in
     let stay = on_ok c.look_up_path.result c.in_ok-shown.shown _ c.in_ok-shown.was (c.look_up_path.ensures.reads.loads.stay (on_hand_above c.args.thread.now c.args.path.now there)) in
-    let at = first_at t c.args.path.now c.requires.accepted c.args.root c.in_ok-shown.shown c.first_pair_found.result c.requires.root c.in_ok-shown.ensures.shown c.first_pair_found.ensures in
-    c.items_if_directory.ensures.kept (first_on_hand c.args.thread.now c.look_up_path.new.thread c.args.path.now c.requires.accepted only c.first_pair_found.result at stay there)
+    let at = first_at t c.args.path.now c.requires.accepted c.args.root c.in_ok-shown.shown c.found_directory_index.result c.requires.root c.in_ok-shown.ensures.shown c.found_directory_index.ensures in
+    c.items_if_directory.ensures.kept (first_on_hand c.args.thread.now c.look_up_path.new.thread c.args.path.now c.requires.accepted only c.found_directory_index.result at stay there)
     ∙ c.look_up_path.ensures.reads.loads.none (on_hand_above c.args.thread.now c.args.path.now there)
 
 pub returns-in_err-listed-clause-kept : goal.returns-in_err-listed-clause-kept
@@ -114,8 +114,8 @@ returns-in_err-listed-clause-kept g c = λ there.
     let t = c.args.thread.now.kept in
     let only = c.look_up_path.ensures.reading.only in
     let stay = on_ok c.look_up_path.result c.in_ok-shown.shown _ c.in_ok-shown.was (c.look_up_path.ensures.reads.loads.stay (on_hand_above c.args.thread.now c.args.path.now there)) in
-    let at = first_at t c.args.path.now c.requires.accepted c.args.root c.in_ok-shown.shown c.first_pair_found.result c.requires.root c.in_ok-shown.ensures.shown c.first_pair_found.ensures in
-    c.items_if_directory.ensures.kept (first_on_hand c.args.thread.now c.look_up_path.new.thread c.args.path.now c.requires.accepted only c.first_pair_found.result at stay there)
+    let at = first_at t c.args.path.now c.requires.accepted c.args.root c.in_ok-shown.shown c.found_directory_index.result c.requires.root c.in_ok-shown.ensures.shown c.found_directory_index.ensures in
+    c.items_if_directory.ensures.kept (first_on_hand c.args.thread.now c.look_up_path.new.thread c.args.path.now c.requires.accepted only c.found_directory_index.result at stay there)
     ∙ c.look_up_path.ensures.reads.loads.none (on_hand_above c.args.thread.now c.args.path.now there)
 
 pub returns-clause-kept : goal.returns-clause-kept
@@ -123,6 +123,6 @@ returns-clause-kept g c = λ there.
     let t = c.args.thread.now.kept in
     let only = c.look_up_path.ensures.reading.only in
     let stay = on_ok c.look_up_path.result c.in_ok-shown.shown _ c.in_ok-shown.was (c.look_up_path.ensures.reads.loads.stay (on_hand_above c.args.thread.now c.args.path.now there)) in
-    let at = first_at t c.args.path.now c.requires.accepted c.args.root c.in_ok-shown.shown c.first_pair_found.result c.requires.root c.in_ok-shown.ensures.shown c.first_pair_found.ensures in
-    c.items_if_directory.ensures.kept (first_on_hand c.args.thread.now c.look_up_path.new.thread c.args.path.now c.requires.accepted only c.first_pair_found.result at stay there)
+    let at = first_at t c.args.path.now c.requires.accepted c.args.root c.in_ok-shown.shown c.found_directory_index.result c.requires.root c.in_ok-shown.ensures.shown c.found_directory_index.ensures in
+    c.items_if_directory.ensures.kept (first_on_hand c.args.thread.now c.look_up_path.new.thread c.args.path.now c.requires.accepted only c.found_directory_index.result at stay there)
     ∙ c.look_up_path.ensures.reads.loads.none (on_hand_above c.args.thread.now c.args.path.now there)

@@ -1,5 +1,5 @@
 use Rattle.std.proofs.Common.{refl, subst, arith}
-use Rattle.lfs_lookup.proofs.Common.{directory_pair_count, ParentReached}
+use Rattle.lfs_lookup.proofs.Common.{directory_pair_count, IsPathParent}
 use Rattle.lfs_lookup.proofs.Reading.{answered, further}
 use Rattle.lfs_lookup.proofs.Descended.{names_are, sum_is, looked_in, leads_past_file, leads_past_nothing, few_same}
 use Rattle.lfs_lookup.proofs.Entered.{hiding_none}
@@ -17,14 +17,14 @@ pub returns-in-Directory-clause-answer : goal.returns-in-Directory-clause-answer
 returns-in-Directory-clause-answer g c =
     let t = c.args.thread.now.kept in
     let is = names_are (λ name. name.now) c.args.path.now _ _ c.in-Some.ensures.cases.0 in
-    let d = subst (ParentReached t _) c.in-Directory.is c.in_ok-parent.ensures.answer in
+    let d = subst (IsPathParent t _) c.in-Directory.is c.in_ok-parent.ensures.answer in
     looked_in t c.find_directory.new.thread.kept c.find_directory.ensures.reading.only _ _ c.in-Directory.parent c.search_directory.result d.begins c.search_directory.ensures.answer _ is (d.fault _)
 
 pub returns-in-Directory-clause-few : goal.returns-in-Directory-clause-few
 returns-in-Directory-clause-few g c =
     let t = c.args.thread.now.kept in
     let is = names_are (λ name. name.now) c.args.path.now _ _ c.in-Some.ensures.cases.0 in
-    let d = subst (ParentReached t _) c.in-Directory.is c.in_ok-parent.ensures.answer in
+    let d = subst (IsPathParent t _) c.in-Directory.is c.in_ok-parent.ensures.answer in
     let s = sum_is (directory_pair_count c.args.thread.now.kept.pairs) _ _ _ is in
     let few = c.find_directory.ensures.reads.few in
     let more = c.search_directory.ensures.few in
@@ -39,7 +39,7 @@ pub returns-in-File-clause-answer : goal.returns-in-File-clause-answer
 returns-in-File-clause-answer g c =
     let t = c.args.thread.now.kept in
     let is = names_are (λ name. name.now) c.args.path.now _ _ c.in-Some.ensures.cases.0 in
-    leads_past_file t _ _ _ is (subst (ParentReached t _) c.in-File.is c.in_ok-parent.ensures.answer)
+    leads_past_file t _ _ _ is (subst (IsPathParent t _) c.in-File.is c.in_ok-parent.ensures.answer)
 
 pub returns-in-File-clause-few : goal.returns-in-File-clause-few
 returns-in-File-clause-few g c =
@@ -52,7 +52,7 @@ pub returns-in-Nothing-clause-answer : goal.returns-in-Nothing-clause-answer
 returns-in-Nothing-clause-answer g c =
     let t = c.args.thread.now.kept in
     let is = names_are (λ name. name.now) c.args.path.now _ _ c.in-Some.ensures.cases.0 in
-    leads_past_nothing t _ _ _ is (subst (ParentReached t _) c.in-Nothing.is c.in_ok-parent.ensures.answer)
+    leads_past_nothing t _ _ _ is (subst (IsPathParent t _) c.in-Nothing.is c.in_ok-parent.ensures.answer)
 
 pub returns-in-Nothing-clause-few : goal.returns-in-Nothing-clause-few
 returns-in-Nothing-clause-few g c =
@@ -83,5 +83,5 @@ pub returns-in-Directory-clause-halves : goal.returns-in-Directory-clause-halves
 returns-in-Directory-clause-halves g c =
     let t = c.args.thread.now.kept in
     let is = names_are (λ name. name.now) c.args.path.now _ _ c.in-Some.ensures.cases.0 in
-    let d = subst (ParentReached t _) c.in-Directory.is c.in_ok-parent.ensures.answer in
+    let d = subst (IsPathParent t _) c.in-Directory.is c.in_ok-parent.ensures.answer in
     halved_last c.args.thread.now c.find_directory.new.thread _ _ _ is (c.find_directory.ensures.reads.halves refl) c.search_directory.new.thread c.in-Directory.parent c.requires.can.settled.accepted c.find_directory.ensures.reading.only d.begins c.search_directory.ensures.halves

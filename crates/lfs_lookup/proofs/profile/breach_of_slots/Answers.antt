@@ -1,8 +1,8 @@
 use Rattle.std.proofs.Common.{ℕ, ◌+◌, ◌<◌, length, slice_index_or, arith}
 use Rattle.std.specs.Prelude.{All}
-use Rattle.lfs_lookup.proofs.Common.{slice_get-get_or, IsWritableSlot, Slot, address_view, slot_view, BreaksSlots}
+use Rattle.lfs_lookup.proofs.Common.{slice_get-get_or, IsWritableSlot, Slot, address_of_array, slot_view, SomeSlotBreaksProfile}
 use Rattle.lfs_model.specs.declared.breaches.ProfileBreach.{ProfileBreach}
-use Rattle.lfs_lookup.specs.ProfileChecks.{BreaksSlot}
+use Rattle.lfs_lookup.specs.ProfileChecks.{SlotBreaksProfile}
 use Rattle.lfs_lookup.proofs.Profiled.{complete_count, complete_there, fits_next, no_slot, told, weaker}
 use Rattle.lfs_lookup.proofs.profile.breach_of_slots.Goals as goal
 
@@ -27,12 +27,12 @@ loop-id-preserved c all is shaped =
     let profile = c.args.geometry.now.profile in
     let size = c.args.geometry.now.block_size in
     let page = c.args.geometry.now.page in
-    let at = address_view c.args.pair in
+    let at = address_of_array c.args.pair in
     let Fits : Slot → Type 0 = IsWritableSlot profile size page in
-    let Some : ProfileBreach → Type 0 = BreaksSlots profile size page at all in
-    told ((k : ℕ) (d : Slot) → k < id → Fits (slice_index_or all k d)) (Fits s) ((k : ℕ) (d : Slot) → k < id + 1 → Fits (slice_index_or all k d)) Some c.loop-id.found c.breach_of_slot.result c.breach_to_tell-found.result
-    c.breach_to_tell-found.ensures.none c.breach_to_tell-found.ensures.either (c.loop-id.invariant all is shaped)
-    (weaker (Fits s) (Fits s) (BreaksSlot profile size page at id s) Some c.breach_of_slot.result (c.breach_of_slot.ensures s there (shaped id no_slot l)) (λ h. h) (λ b h. (id, (s, (slice_get-get_or all id no_slot l, h)))))
+    let Some : ProfileBreach → Type 0 = SomeSlotBreaksProfile profile size page at all in
+    told ((k : ℕ) (d : Slot) → k < id → Fits (slice_index_or all k d)) (Fits s) ((k : ℕ) (d : Slot) → k < id + 1 → Fits (slice_index_or all k d)) Some c.loop-id.found c.breach_of_slot.result c.breach_to_report-found.result
+    c.breach_to_report-found.ensures.none c.breach_to_report-found.ensures.either (c.loop-id.invariant all is shaped)
+    (weaker (Fits s) (Fits s) (SlotBreaksProfile profile size page at id s) Some c.breach_of_slot.result (c.breach_of_slot.ensures s there (shaped id no_slot l)) (λ h. h) (λ b h. (id, (s, (slice_get-get_or all id no_slot l, h)))))
     (fits_next profile size page all id l)
 
 pub returns : goal.returns
@@ -42,6 +42,6 @@ returns c all is shaped =
     let size = c.args.geometry.now.block_size in
     let page = c.args.geometry.now.page in
     let Fits : Slot → Type 0 = IsWritableSlot profile size page in
-    let Some : ProfileBreach → Type 0 = BreaksSlots profile size page (address_view c.args.pair) all in
+    let Some : ProfileBreach → Type 0 = SomeSlotBreaksProfile profile size page (address_of_array c.args.pair) all in
     weaker ((k : ℕ) (d : Slot) → k < c.loop-id.id → Fits (slice_index_or all k d)) (All Fits all) Some Some c.loop-id.found (c.loop-id.invariant all is shaped)
     (λ each k d l. each k d (omega (arith, n, l, c.loop-id-test.false))) (λ b h. h)

@@ -1,5 +1,5 @@
 use Rattle.std.proofs.Common.{◌<◌, ◌++◌, ◌∷◌, [], ◌-◌, ◌∙◌, Err, List, ap, length, sym, subst, take}
-use Rattle.lfs_lookup.proofs.Common.{map-append, err_from_is_err_and, Pair, all_entries, owned_view, PushesEntriesBelow, ArePushed, HasFirstIfDirectory, PathStruct, tree_items_view}
+use Rattle.lfs_lookup.proofs.Common.{map-append, err_from_is_err_and, Pair, all_entries, owned_view, PushesEntriesBelow, AreEntriesPushed, HasFirstPairIfDirectory, PathStruct, tree_items_view}
 use Rattle.lfs_lookup.specs.TreeWalk.{tree_item_view}
 use Rattle.lfs_lookup.specs.declared.walks.TreeItem.{TreeItem}
 use Rattle.lfs_lookup.proofs.Reading.{answered, both, further, has_read_nothing, lacks_memory, passed}
@@ -19,7 +19,7 @@ loop-found-init g c = record {
   under_way = subst (λ (done : List PathStruct). IsUnderWay c.args.thread.now.kept.disk c.args.thread.now.kept.pairs done (tree_items_view c.push_directory_items.new.pending.items)) (sym (ap tree_items_view c.new-walked.ensures.items))
       (begun c.args.thread.now.kept.disk c.args.thread.now.kept.pairs 0 (tree_items_view c.push_directory_items.new.pending.items) c.requires.accepted
       (root_shapes c.args.thread.now.kept.disk c.args.thread.now.kept.pairs c.requires.accepted)
-      (subst (λ (items : List TreeItem). ArePushed c.args.thread.now.kept.pairs [] 0 (tree_items_view items) (tree_items_view c.push_directory_items.new.pending.items)) c.new-pending.ensures.items c.in_ok-push_directory_items.ensures.pushed));
+      (subst (λ (items : List TreeItem). AreEntriesPushed c.args.thread.now.kept.pairs [] 0 (tree_items_view items) (tree_items_view c.push_directory_items.new.pending.items)) c.new-pending.ensures.items c.in_ok-push_directory_items.ensures.pushed));
 }
 
 pub push_below_entry-requires-clause-begins : goal.push_below_entry-requires-clause-begins
@@ -27,7 +27,7 @@ push_below_entry-requires-clause-begins g c =
     let inv = c.loop-found.invariant in
     let next = took c.args.thread.now.kept.disk c.args.thread.now.kept.pairs (tree_items_view c.loop-found.walked.items) (tree_items_view c.loop-found.pending.items) (tree_items_view c.pop.new.self.items) (tree_item_view c.in-Some.found)
     (ap tree_items_view c.in-Some.ensures.items ∙ map-append tree_item_view c.pop.new.self.items (c.in-Some.found ∷ [])) inv.under_way in
-    subst (λ (ps : List Pair). HasFirstIfDirectory ps (owned_view c.in-Some.found.structure)) (sym inv.read.only.pairs)
+    subst (λ (ps : List Pair). HasFirstPairIfDirectory ps (owned_view c.in-Some.found.structure)) (sym inv.read.only.pairs)
     (next_begins c.args.thread.now.kept.disk c.args.thread.now.kept.pairs (tree_items_view c.loop-found.walked.items) (tree_items_view c.pop.new.self.items) (tree_item_view c.in-Some.found) c.requires.accepted next)
 
 pub returns-in_err-push_below_entry-clause-reading : goal.returns-in_err-push_below_entry-clause-reading

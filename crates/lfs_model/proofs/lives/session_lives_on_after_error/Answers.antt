@@ -3,7 +3,7 @@ use Rattle.std.specs.Prelude.{codes}
 use Rattle.lfs_model.specs.declared.order.NameOrder.TheVariants.{LongerFirst}
 use Rattle.lfs_model.specs.session.Operations as ops
 use Rattle.lfs_model.specs.session.Operations.{Failed}
-use Rattle.lfs_model.proofs.Common.{ordered_disk, IsAccepted, HasFailed, Healthy, mounted_session, SystemState, Tree, IsStep, SurvivesPowerLoss, small_image, fresh_state}
+use Rattle.lfs_model.proofs.Common.{disk_with_order, IsAccepted, HasFailed, Healthy, mounted_session, SystemState, Tree, IsStep, SurvivesPowerLoss, small_image, fresh_state}
 use Rattle.lfs_model.specs.examples.Runs.{failed_state}
 use Rattle.lfs_model.proofs.AskedStep.{turn}
 use Rattle.lfs_model.proofs.Example.{fresh}
@@ -60,12 +60,12 @@ refused = record {
   survives_loss = none_stopped (ops.Stat (codes "/")) failed_state;
 }
 
-fits_longer : IsAccepted (ordered_disk LongerFirst small_image) pairs
-fits_longer = accepted (ordered_disk LongerFirst small_image) (record { geometry = fresh.geometry; content = fresh.content; first = fresh.first })
+fits_longer : IsAccepted (disk_with_order LongerFirst small_image) pairs
+fits_longer = accepted (disk_with_order LongerFirst small_image) (record { geometry = fresh.geometry; content = fresh.content; first = fresh.first })
 
-works_again : IsStep failed_state ops.Remount ops.Done (record fresh_state { disk = ordered_disk LongerFirst small_image })
+works_again : IsStep failed_state ops.Remount ops.Done (record fresh_state { disk = disk_with_order LongerFirst small_image })
 works_again =
-    subst (λ (tree : Tree). IsStep failed_state ops.Remount ops.Done (record { disk = ordered_disk LongerFirst small_image; calls = []; state = Healthy (mounted_session tree) })) (shows small_image)
+    subst (λ (tree : Tree). IsStep failed_state ops.Remount ops.Done (record { disk = disk_with_order LongerFirst small_image; calls = []; state = Healthy (mounted_session tree) })) (shows small_image)
     (remounted_step small_image LongerFirst pairs around HasFailed [] [] (λ s e. absurd (cc)) fits_longer (λ e. absurd (cc)) (refl, refl) tt)
 
 pub returns-clause-again : goal.returns-clause-again

@@ -1,5 +1,5 @@
 use Rattle.std.proofs.Common.{◌≡◌, inl, inr, List, [], ◌∷◌, ◌++◌, refl, sym, ap, ◌∙◌}
-use Rattle.lfs_model.proofs.Common.{Disk, ordered_disk, SystemState, Session, fresh_state, Tree, empty_tree, SessionHealth, HasFailed, Healthy, mounted_session, small_image}
+use Rattle.lfs_model.proofs.Common.{Disk, disk_with_order, SystemState, Session, fresh_state, Tree, empty_tree, SessionHealth, HasFailed, Healthy, mounted_session, small_image}
 use Rattle.lfs_model.specs.crash.Lives.{Turn, IsLife}
 use Rattle.lfs_model.specs.crash.RepeatedPowerLoss.{LossInLife}
 use Rattle.lfs_model.proofs.FreshLife.{lived, premises}
@@ -39,4 +39,4 @@ none_begun to left tree same (inl h) = absurd (none_short h.done h.cut h.others 
 none_begun to left tree same (inr h) = h.is ∙ sym (ap (λ (s : Session). s.tree) (same_session (mounted_session empty_tree) h.session (ap (λ (m : SystemState). m.state) same ∙ h.healthy)))
 
 pub returns-clause-none_begun : goal.returns-clause-none_begun
-returns-clause-none_begun c = λ to same left s. none_begun to (ordered_disk s.order left) s.tree same s.cut
+returns-clause-none_begun c = λ to same left s. none_begun to (disk_with_order s.order left) s.tree same s.cut

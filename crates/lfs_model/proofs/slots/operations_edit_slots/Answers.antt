@@ -2,7 +2,7 @@ use Rattle.std.proofs.Common.{ℕ, ◌≡◌, inl, inr, List, [], ◌∷◌, ref
 use Rattle.std.specs.Prelude.{codes, slice_index}
 use Rattle.lfs_model.proofs.Common.{same_Some, default_profile, Slot, Struct, Inline, superblock_slot, file_slot, directory_slot, root_and_directory, root_with_file, all_slots}
 use Rattle.lfs_model.specs.session.SlotEdits.{MovesSlot}
-use Rattle.lfs_model.proofs.Sites.{AnyByRecursion}
+use Rattle.lfs_model.proofs.Sites.{HoldsForSome}
 use Rattle.lfs_model.proofs.Spliced.{comes}
 use Rattle.lfs_model.proofs.slots.operations_edit_slots.Goals as goal
 
@@ -48,7 +48,7 @@ other_bytes (u, left, cleared, (at, out, clear, into)) = go (comes (record u { n
     says : first_byte u ≡ 120
     says = sym (ap first_byte (same_Some (record (file_slot (codes "a")) { struct = Inline (codes "x") }) u at))
 
-    go : AnyByRecursion (λ s. s ≡ record u { name = codes "b" }) (all_slots (root_with_file (codes "b") (codes "y"))) → ⊥
+    go : HoldsForSome (λ s. s ≡ record u { name = codes "b" }) (all_slots (root_with_file (codes "b") (codes "y"))) → ⊥
     go (inl e) = absurd (let k : 0 ≡ first_byte u = ap first_byte e in omega (arith, says))
     go (inr (inl e)) = absurd (let k : 121 ≡ first_byte u = ap first_byte e in omega (arith, says))
     go (inr (inr e)) = e

@@ -1,6 +1,6 @@
 use Rattle.std.proofs.Common.{ℕ, ◌≡◌, Bool, true, false, cond, ◌&&◌, List, [], ◌∷◌, Option, Some, None, refl, sym, ap, ◌∙◌, option_map, option_and_then}
 use Rattle.std.specs.Prelude.{codes}
-use Rattle.lfs_model.proofs.Common.{Disk, same_name, Slot, Struct, Inline, Ctz, Path, slot_at_path, same_path, all_entries, file_slot, struct_at, KeepsStructs, root_with_file, writer_session}
+use Rattle.lfs_model.proofs.Common.{Disk, same_name, Slot, Struct, Inline, Ctz, Path, slot_at_path, same_path, all_entries, file_slot, struct_at, KeepsOtherStructs, root_with_file, writer_session}
 use Rattle.lfs_model.specs.session.Operations as ops
 use Rattle.lfs_model.proofs.Paths.{Names, alike, unlike, names, same_itself}
 use Rattle.lfs_model.proofs.slots.other_files_keep_their_structs.Goals as goal
@@ -10,7 +10,7 @@ abbrev below : List ℕ → Path → Bool → Option Struct
 below bytes r b = option_map (λ (u : Slot). u.struct)
     (option_and_then (λ c. slot_at_path (all_entries (root_with_file (codes "a") bytes)) c r) (cond b (Some (record (file_slot (codes "a")) { struct = Inline bytes })) None))
 
-committed : (disk : Disk) → KeepsStructs disk (root_with_file (codes "a") []) (writer_session (codes "a" ∷ []) true (codes "hi")) (ops.Sync 0) (root_with_file (codes "a") (codes "hi"))
+committed : (disk : Disk) → KeepsOtherStructs disk (root_with_file (codes "a") []) (writer_session (codes "a" ∷ []) true (codes "hi")) (ops.Sync 0) (root_with_file (codes "a") (codes "hi"))
 committed disk [] file off elsewhere = absurd (cc)
 committed disk (n ∷ r) file off elsewhere = go (names n (codes "a")) r elsewhere
   where

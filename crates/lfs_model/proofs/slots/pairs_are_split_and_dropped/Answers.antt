@@ -1,9 +1,9 @@
 use Rattle.std.proofs.Common.{◌≤◌, [], ◌∷◌, None, refl, arith}
 use Rattle.std.specs.Prelude.{codes}
-use Rattle.lfs_model.proofs.Common.{FitsPair, small_image, pair_with_tail, long_attribute_slot}
+use Rattle.lfs_model.proofs.Common.{IsFittingPair, small_image, pair_with_tail, long_attribute_slot}
 use Rattle.lfs_model.proofs.slots.pairs_are_split_and_dropped.Goals as goal
 
-too_much : FitsPair small_image (pair_with_tail (2, 3) (long_attribute_slot (codes "a") ∷ long_attribute_slot (codes "b") ∷ []) None) → ⊥
+too_much : IsFittingPair small_image (pair_with_tail (2, 3) (long_attribute_slot (codes "a") ∷ long_attribute_slot (codes "b") ∷ []) None) → ⊥
 too_much h = let k : 1026 ≤ 857 = h.size in omega arith
 
 pub returns-clause-cut : goal.returns-clause-cut

@@ -1,7 +1,7 @@
 use Rattle.std.proofs.Common.{ℕ, ◌+◌, ◌≡◌, ◌≤◌, inl, inr, true, List, [], ◌∷◌, length, refl, sym, ap, ◌∙◌, arith}
 use Rattle.std.specs.Prelude.{codes}
-use Rattle.lfs_model.proofs.Common.{same_Some, default_profile, Slot, Struct, Inline, Ctz, Branch, attributes_with, superblock_slot, file_numbered, file_slot, directory_slot, ReplacesSlot, GivesBytes, StoresWriter, large_image, root_and_directory, root_and_two, root_with_file, long_attribute_slot, writer_session, all_slots}
-use Rattle.lfs_model.proofs.Sites.{AnyByRecursion}
+use Rattle.lfs_model.proofs.Common.{same_Some, default_profile, Slot, Struct, Inline, Ctz, Branch, attributes_with, superblock_slot, file_numbered, file_slot, directory_slot, ReplacesSlot, IsStructOfBytes, StoresWriter, large_image, root_and_directory, root_and_two_pairs, root_with_file, long_attribute_slot, writer_session, all_slots}
+use Rattle.lfs_model.proofs.Sites.{HoldsForSome}
 use Rattle.lfs_model.proofs.Spliced.{comes}
 use Rattle.lfs_model.proofs.slots.slots_and_attributes_are_replaced.Goals as goal
 
@@ -34,8 +34,8 @@ pub returns-clause-clean : goal.returns-clause-clean
 returns-clause-clean c = (refl, inl (refl, refl))
 
 -- no slot has an attribute
-unset : ReplacesSlot (λ u v. v ≡ record u { attributes = attributes_with 0x41 (codes "x") u.attributes }) root_and_two (codes "d" ∷ codes "a" ∷ []) root_and_two root_and_two → ⊥
-unset (u, v, (at, is, spliced)) = go (comes v (u ∷ []) root_and_two root_and_two spliced)
+unset : ReplacesSlot (λ u v. v ≡ record u { attributes = attributes_with 0x41 (codes "x") u.attributes }) root_and_two_pairs (codes "d" ∷ codes "a" ∷ []) root_and_two_pairs root_and_two_pairs → ⊥
+unset (u, v, (at, is, spliced)) = go (comes v (u ∷ []) root_and_two_pairs root_and_two_pairs spliced)
   where
     some : length v.attributes ≡ 1
     some = ap (λ (s : Slot). length s.attributes) is ∙ sym (ap (λ (s : Slot). length (attributes_with 0x41 (codes "x") s.attributes)) (same_Some (file_slot (codes "a")) u at))
@@ -43,7 +43,7 @@ unset (u, v, (at, is, spliced)) = go (comes v (u ∷ []) root_and_two root_and_t
     none : (s : Slot) → length s.attributes ≡ 0 → s ≡ v → ⊥
     none s e f = absurd (let k = ap (λ (t : Slot). length t.attributes) f in omega (arith, some))
 
-    go : AnyByRecursion (λ s. s ≡ v) (all_slots root_and_two) → ⊥
+    go : HoldsForSome (λ s. s ≡ v) (all_slots root_and_two_pairs) → ⊥
     go (inl e) = none (superblock_slot default_profile 4096 16) refl e
     go (inr (inl e)) = none (directory_slot (codes "d") (4, 5)) refl e
     go (inr (inr (inl e))) = none (file_slot (codes "a")) refl e
@@ -58,13 +58,13 @@ size : Struct → ℕ
 size (Inline bytes) = length bytes
 size _ = 0
 
-stored : (s : Struct) → GivesBytes large_image (codes "hi") s → size s ≡ 2
+stored : (s : Struct) → IsStructOfBytes large_image (codes "hi") s → size s ≡ 2
 unfolding size
 stored (Inline own) h = ap length h.0
 stored (Ctz head long) h = absurd (let k : 512 + 1 ≤ 2 = h.2 in omega arith)
 stored (Branch to) h = absurd h
 
-uncommitted : ReplacesSlot (λ u v. (v ≡ record u { struct = v.struct }) × GivesBytes large_image (codes "hi") v.struct) (root_with_file (codes "a") []) (codes "a" ∷ []) (root_with_file (codes "a") []) (root_with_file (codes "a") []) → ⊥
+uncommitted : ReplacesSlot (λ u v. (v ≡ record u { struct = v.struct }) × IsStructOfBytes large_image (codes "hi") v.struct) (root_with_file (codes "a") []) (codes "a" ∷ []) (root_with_file (codes "a") []) (root_with_file (codes "a") []) → ⊥
 unfolding size
 uncommitted (u, v, (at, (is, said), spliced)) = go (comes v (u ∷ []) (root_with_file (codes "a") []) (root_with_file (codes "a") []) spliced)
   where
@@ -74,7 +74,7 @@ uncommitted (u, v, (at, (is, said), spliced)) = go (comes v (u ∷ []) (root_wit
     other : (s : Slot) (n : ℕ) → size s.struct ≡ n → s ≡ v → n ≡ 2
     other s n e f = sym e ∙ ap (λ (t : Slot). size t.struct) f ∙ two
 
-    go : AnyByRecursion (λ s. s ≡ v) (all_slots (root_with_file (codes "a") [])) → ⊥
+    go : HoldsForSome (λ s. s ≡ v) (all_slots (root_with_file (codes "a") [])) → ⊥
     go (inl e) = absurd (let k : 24 ≡ 2 = other (superblock_slot default_profile 4096 16) 24 refl e in omega arith)
     go (inr (inl e)) = absurd (let k : 0 ≡ 2 = other (file_slot (codes "a")) 0 refl e in omega arith)
     go (inr (inr e)) = e

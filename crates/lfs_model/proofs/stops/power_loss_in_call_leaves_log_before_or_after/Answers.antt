@@ -2,7 +2,7 @@ use Rattle.std.proofs.Common.{◌≡◌, List, [], ◌∷◌, ◌++◌, inl, ref
 use Rattle.std.specs.Prelude.{ℕ, take}
 use Rattle.lfs_model.proofs.Common.{get_or-set_other, block_log, unwritten_bytes, small_commit, appending_commit}
 use Rattle.lfs_model.specs.format.Crc.{crc_of, checksum_after_bits}
-use Rattle.lfs_model.specs.format.Log.{chain_of, chain_within, commit_within, entry_at, closes}
+use Rattle.lfs_model.specs.format.Log.{chain_of, bounded_commit_sequence, bounded_commit_at, entry_at, closes}
 use Rattle.lfs_model.proofs.Stopped.{stops_before, stops_whole}
 use Rattle.lfs_model.proofs.stops.power_loss_in_call_leaves_log_before_or_after.Goals as goal
 
@@ -19,7 +19,7 @@ abbrev torn : List ℕ
 torn = small_commit ++ take 10 appending_commit ++ unwritten_bytes 886
 
 torn_log : block_log torn ≡ block_log first
-unfolding chain_of chain_within commit_within entry_at closes crc_of checksum_after_bits
+unfolding chain_of bounded_commit_sequence bounded_commit_at entry_at closes crc_of checksum_after_bits
 torn_log = refl
 
 pub returns-clause-torn : goal.returns-clause-torn

@@ -2,7 +2,7 @@ use Rattle.std.proofs.Common.{[], ◌∷◌, refl, arith}
 use Rattle.std.specs.Prelude.{List, codes}
 use Rattle.std.proofs.lemmas.Fmt.{decimal_digit}
 use Rattle.lfs_model.proofs.Common.{FileNode, DirectoryNode, PathNode, entry_paths, tree_of_nodes}
-use Rattle.lfs_model.specs.layers.Listing.{IsWalk}
+use Rattle.lfs_model.specs.layers.Listing.{IsTreeWalk}
 use Rattle.lfs_model.specs.examples.Images.{small_nodes}
 use Rattle.lfs_model.proofs.Walked.{same_walk}
 use Rattle.lfs_model.proofs.tree.example_tree_is_listed_and_unpacked.Goals as goal
@@ -14,7 +14,7 @@ entries =
     ∷ record { path = codes "d" ∷ codes "x" ∷ []; node = FileNode [] [] }
     ∷ []
 
-walk : IsWalk (tree_of_nodes small_nodes) entries
+walk : IsTreeWalk (tree_of_nodes small_nodes) entries
 walk = (refl, refl, (refl, refl, (refl, refl, tt)))
 
 pub returns-clause-lines : goal.returns-clause-lines

@@ -1,6 +1,6 @@
 use Rattle.std.proofs.Common.{◌≡◌, ◌∙◌, ◌≤◌, ◌+◌, inr, Err, List, true, sym, ap, ap₂, subst, subst₂, arith}
 use Rattle.std.specs.Prelude.{sum_by}
-use Rattle.lfs_mount.proofs.Common.{err_from_is_err_and, disk_of_blocks, ordered_disk, Disk, read_count, Gstate, move_view, PairHeader, disk_of_device, header_pairs, IsHeadersVerdict, AreThreadDirectories, header_descriptions, violation_in_order, pair_reads}
+use Rattle.lfs_mount.proofs.Common.{err_from_is_err_and, disk_of_blocks, disk_with_order, Disk, read_count, Gstate, move_view, PairHeader, disk_of_device, header_pairs, IsHeaderCheckResult, AreThreadDirectories, header_descriptions, violation_in_order, pair_reads}
 use Rattle.lfs_mount.proofs.Called.{only_read, passed_on, quiet, read_on, same_error}
 use Rattle.lfs_mount.proofs.InOrders.{head_in, read_in}
 use Rattle.lfs_mount.proofs.KnownMoves.{directories_within}
@@ -27,7 +27,7 @@ returns-in_err-check_move-clause-broken g c = λ v is order.
     let history = g.D.BlockDevice.history c.args.device.now in
     let state : Gstate = move_view c.args.state.now in
     let e = err_from_is_err_and c.from_residual-in_err-check_move.result c.from_residual-in_err-check_move.ensures.1 in
-    move_breaks (ordered_disk order disk) history c.args.pairs.now c.args.map.now state c.in_ok-root.root (read_in order disk history c.args.pairs.now c.args.map.now state c.requires)
+    move_breaks (disk_with_order order disk) history c.args.pairs.now c.args.map.now state c.in_ok-root.root (read_in order disk history c.args.pairs.now c.args.map.now state c.requires)
     (head_in order disk c.args.pairs.now c.in_ok-root.root c.in_ok-root.ensures.head)
     c.pairs_from_index-directories.result.now c.pairs_from_index-directories.ensures v (c.in_err-check_move.ensures.broken v (ap Err (same_error e.1 e.2 is)))
 
@@ -56,9 +56,9 @@ returns-in_err-violations-clause-broken g c = λ v is order.
     let read = c.in_ok-root.ensures.device.device in
     let e = err_from_is_err_and c.from_residual-in_err-violations.result c.from_residual-in_err-violations.ensures.1 in
     let state : Gstate = move_view c.args.state.now in
-    pairs_break (ordered_disk order disk) history c.args.pairs.now c.args.map.now state c.in_ok-root.root (read_in order disk history c.args.pairs.now c.args.map.now state c.requires)
+    pairs_break (disk_with_order order disk) history c.args.pairs.now c.args.map.now state c.in_ok-root.root (read_in order disk history c.args.pairs.now c.args.map.now state c.requires)
     (head_in order disk c.args.pairs.now c.in_ok-root.root c.in_ok-root.ensures.head)
-    (ordered_disk order now) (ap (ordered_disk order) (ap₂ disk_of_blocks read.geometry read.same)) c.pairs_from_index-directories.result.now c.pairs_from_index-directories.ensures v (c.in_err-violations.ensures.broken v (ap Err (same_error e.1 e.2 is)) order)
+    (disk_with_order order now) (ap (disk_with_order order) (ap₂ disk_of_blocks read.geometry read.same)) c.pairs_from_index-directories.result.now c.pairs_from_index-directories.ensures v (c.in_err-violations.ensures.broken v (ap Err (same_error e.1 e.2 is)) order)
 
 pub returns-in_err-violations-clause-device : goal.returns-in_err-violations-clause-device
 returns-in_err-violations-clause-device g c =
@@ -72,10 +72,10 @@ returns-clause-image g c = λ order.
     let history = g.D.BlockDevice.history c.args.device.now in
     let read = c.in_ok-root.ensures.device.device in
     let state : Gstate = move_view c.args.state.now in
-    subst (IsHeadersVerdict (ordered_disk order disk) c.args.pairs.now (violation_in_order order c.in_ok-violations.violations) c.args.map.now) (sym c.start_allocation_elsewhere.ensures.same)
-    (has_image (ordered_disk order disk) history c.args.pairs.now c.args.map.now state c.in_ok-root.root (read_in order disk history c.args.pairs.now c.args.map.now state c.requires)
+    subst (IsHeaderCheckResult (disk_with_order order disk) c.args.pairs.now (violation_in_order order c.in_ok-violations.violations) c.args.map.now) (sym c.seed_allocation_start.ensures.same)
+    (has_image (disk_with_order order disk) history c.args.pairs.now c.args.map.now state c.in_ok-root.root (read_in order disk history c.args.pairs.now c.args.map.now state c.requires)
     (head_in order disk c.args.pairs.now c.in_ok-root.root c.in_ok-root.ensures.head)
-    (ordered_disk order now) (ap (ordered_disk order) (ap₂ disk_of_blocks read.geometry read.same)) c.check_directories.new.map c.pairs_from_index-directories.result.now c.pairs_from_index-directories.ensures
+    (disk_with_order order now) (ap (disk_with_order order) (ap₂ disk_of_blocks read.geometry read.same)) c.check_directories.new.map c.pairs_from_index-directories.result.now c.pairs_from_index-directories.ensures
     c.in_ok-check_move.ensures.right (violation_in_order order c.in_ok-violations.violations) (c.in_ok-violations.ensures.ok order))
 
 pub returns-clause-device : goal.returns-clause-device
@@ -90,12 +90,12 @@ returns-clause-few g c = λ order fits.
     let disk : Disk = disk_of_device g.D.BlockDevice c.args.device.now in
     let history = g.D.BlockDevice.history c.args.device.now in
     let state : Gstate = move_view c.args.state.now in
-    let image : IsHeadersVerdict (ordered_disk order disk) c.args.pairs.now (violation_in_order order c.in_ok-violations.violations) c.args.map.now c.start_allocation_elsewhere.new.map = returns-clause-image g c order in
+    let image : IsHeaderCheckResult (disk_with_order order disk) c.args.pairs.now (violation_in_order order c.in_ok-violations.violations) c.args.map.now c.seed_allocation_start.new.map = returns-clause-image g c order in
     let read = c.in_ok-root.ensures.device.device in
     let first = c.in_ok-root.ensures.reads in
     let rest = subst₂ (λ (d : Disk) (hs : List PairHeader). read_count (g.D.BlockDevice.history c.check_directories.new.device) ≤ read_count (g.D.BlockDevice.history c.superblock_chain_length.new.dev) + sum_by (pair_reads d) (header_descriptions state true hs))
     (ap₂ disk_of_blocks read.geometry read.same) c.pairs_from_index-directories.ensures (c.in_ok-violations.ensures.few) in
-    let most = directories_read (ordered_disk order disk) history c.args.pairs.now c.args.map.now state c.in_ok-root.root (read_in order disk history c.args.pairs.now c.args.map.now state c.requires)
+    let most = directories_read (disk_with_order order disk) history c.args.pairs.now c.args.map.now state c.in_ok-root.root (read_in order disk history c.args.pairs.now c.args.map.now state c.requires)
     (head_in order disk c.args.pairs.now c.in_ok-root.root c.in_ok-root.ensures.head) (g.met.D.BlockDevice.bytes c.args.device.now) (image.accepted fits) in
     omega (arith, first, rest, most)
 

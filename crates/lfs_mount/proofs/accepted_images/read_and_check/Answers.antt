@@ -1,8 +1,8 @@
 use Rattle.std.proofs.Common.{Err, arith, ◌≡◌, ◌≤◌, ◌+◌, sym, ap, subst, ◌∙◌}
-use Rattle.lfs_mount.proofs.Common.{count_before_root, header_pairs, ordered_disk, Disk, Blocks, OnlyReadsSince, fault_count, read_count, Breaks, OnlyReadsSince-trans, move_view, KeptThread, disk_of_device, mount_reads, err_from_is_err_and}
+use Rattle.lfs_mount.proofs.Common.{count_before_root, header_pairs, disk_with_order, Disk, Blocks, OnlyReadsSince, fault_count, read_count, Breaks, OnlyReadsSince-trans, move_view, KeptThread, disk_of_device, mount_reads, err_from_is_err_and}
 use Rattle.lfs_model.proofs.Histories.{read_count-since}
 use Rattle.lfs_thread.specs.Kept.{IsCacheCurrent}
-use Rattle.lfs_mount.specs.ReadImage.{view_in_order}
+use Rattle.lfs_mount.specs.ReadImage.{thread_with_order}
 use Rattle.lfs_mount.proofs.MountReads.{thread_reads-no_fewer, mount_few, some_pair}
 use Rattle.lfs_mount.proofs.ReadImages.{plain_again}
 use Rattle.lfs_model.specs.declared.order.NameOrder.{NameOrder}
@@ -52,16 +52,16 @@ returns-in-Ok-clause-read g c =
     let kept = c.from_parts.ensures.kept in
     record {
       works = c.from_parts.ensures.works;
-      disk_is = ap (λ (k : KeptThread). k.disk) kept ∙ ap (λ (o : NameOrder). ordered_disk o now) (ap (λ (k : KeptThread). k.disk.order) parts.ensures.same ∙ ap (λ (d : Disk). d.order) read.disk) ∙ disk_now device ∙ from;
+      disk_is = ap (λ (k : KeptThread). k.disk) kept ∙ ap (λ (o : NameOrder). disk_with_order o now) (ap (λ (k : KeptThread). k.disk.order) parts.ensures.same ∙ ap (λ (d : Disk). d.order) read.disk) ∙ disk_now device ∙ from;
       reads = subst (λ (k : KeptThread). OnlyReadsSince old.blocks first k.history) (sym kept) (OnlyReadsSince-trans before device.reads (ap (λ (d : Disk). d.blocks) from));
       no_fault = ap (λ (k : KeptThread). fault_count k.history) kept ∙ quiet;
       root = c.in-Ok.ensures.root ∙ sym (ap count_before_root (ap (λ (k : KeptThread). k.pairs) kept ∙ ap (λ (d : Disk). header_pairs d parts.result.pairs.items) (disk_now device) ∙ ap (header_pairs disk) (sym c.deref.ensures.value)));
       mounted = λ order fits.
           let image = c.in-Ok.ensures.image order in
-          is_mounted (ordered_disk order old) (ordered_disk order disk) (ordered_disk order now) first history later
-          parts.result.pairs.items c.deref.result.now parts.result.map c.check_image.new.map (view_in_order order c.from_parts.result)
-          (ap (ordered_disk order) from) (ap (ordered_disk order) (disk_now device)) c.deref.ensures.value before device.reads (image.accepted fits) image.marked
-          parts.ensures.kept.size quiet c.from_parts.ensures.works (ap (λ (k : KeptThread). record k { disk = ordered_disk order k.disk }) kept);
+          is_mounted (disk_with_order order old) (disk_with_order order disk) (disk_with_order order now) first history later
+          parts.result.pairs.items c.deref.result.now parts.result.map c.check_image.new.map (thread_with_order order c.from_parts.result)
+          (ap (disk_with_order order) from) (ap (disk_with_order order) (disk_now device)) c.deref.ensures.value before device.reads (image.accepted fits) image.marked
+          parts.ensures.kept.size quiet c.from_parts.ensures.works (ap (λ (k : KeptThread). record k { disk = disk_with_order order k.disk }) kept);
       few = λ order fits.
           let some = some_pair c.in_ok-thread.thread.kept.pairs read.thread.links in
           let begun = read.few in
@@ -75,7 +75,7 @@ returns-in-Ok-clause-read g c =
                 from (disk_now device) c.deref.ensures.value (ap (λ (k : KeptThread). k.pairs) same) (ap (λ (k : KeptThread). k.pairs) kept)
                 (count ∙ begun) (c.in-Ok.ensures.few order fits));
           };
-      broken = λ order violation found. subst (λ (d : Disk). Breaks (ordered_disk order d) violation) from ((c.in-Ok.ensures.image order).broken violation found);
+      broken = λ order violation found. subst (λ (d : Disk). Breaks (disk_with_order order d) violation) from ((c.in-Ok.ensures.image order).broken violation found);
     }
 
 pub returns-in-Err-clause-broken : goal.returns-in-Err-clause-broken
@@ -84,8 +84,8 @@ returns-in-Err-clause-broken g c = λ order.
     let parts = c.into_parts-parts in
     let same = plain_again g.D.BlockDevice c.args.device parts.result.device parts.result.order parts.result.pairs.items parts.result.map c.in_ok-thread.thread.kept parts.ensures.same read.disk in
     let from : disk_of_device g.D.BlockDevice parts.result.device ≡ disk_of_device g.D.BlockDevice c.args.device = ap (λ (k : KeptThread). k.disk) same ∙ read.disk in
-    true_violation (ordered_disk order (disk_of_device g.D.BlockDevice c.args.device)) c.in-Err.error
-    (λ v is. subst (λ (d : Disk). Breaks (ordered_disk order d) v) from (c.in-Err.ensures.broken v (ap Err is) order))
+    true_violation (disk_with_order order (disk_of_device g.D.BlockDevice c.args.device)) c.in-Err.error
+    (λ v is. subst (λ (d : Disk). Breaks (disk_with_order order d) v) from (c.in-Err.ensures.broken v (ap Err is) order))
 
 pub returns-in-Err-clause-back : goal.returns-in-Err-clause-back
 returns-in-Err-clause-back g c =

@@ -1,5 +1,5 @@
 use Rattle.std.proofs.Common.{rules, inr, refl, subst, ◌≡◌, Some, None}
-use Rattle.lfs_mount.proofs.Common.{disk_of_device, MarksUsed, blocks_last_first}
+use Rattle.lfs_mount.proofs.Common.{disk_of_device, MarksFreeBlocksUsed, list_blocks_backwards}
 use Rattle.lfs_mount.proofs.Markings.{all_free, all_keep, some_taken}
 use Rattle.lfs_mount.proofs.lists.mark_slot_list.Goals as goal
 
@@ -16,6 +16,6 @@ returns-in-None-clause-marked g c =
     let e : c.walk-walked.new.visit.1.now ≡ None = search (rules, flags, c.in-None.is) in
     record {
       list = c.in_default.ensures.listed.list;
-      marked = subst (MarksUsed c.args.map.now (blocks_last_first (disk_of_device g.D.BlockDevice c.args.device.now) c.args.list))
+      marked = subst (MarksFreeBlocksUsed c.args.map.now (list_blocks_backwards (disk_of_device g.D.BlockDevice c.args.device.now) c.args.list))
           (search (rules, names)) (all_free _ (λ p. p.0.now) (λ p. p.1.now) (λ p b q r. search rules) _ _ _ c.in_default.ensures.visited e).1;
     }

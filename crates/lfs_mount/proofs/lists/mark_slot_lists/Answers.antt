@@ -1,6 +1,6 @@
 use Rattle.std.proofs.Common.{ℕ, List, refl, sym, ap, ap₂, ◌∙◌, ◌≤◌, Err, subst, take, ◌+◌, arith, flat_map, option_map}
 use Rattle.std.proofs.lemmas.List.{take-map}
-use Rattle.lfs_mount.proofs.Common.{err_from_is_err_and, slice_get-map, slice_get_read, ReadsOnly, disk_of_blocks, BlockStates, Disk, fault_count, read_count, slot_view, disk_of_device, BreaksList, lists_view, MarksList, MarksLists, MarksUsed, raw_slot_lists, blocks_last_first, list_reads}
+use Rattle.lfs_mount.proofs.Common.{err_from_is_err_and, slice_get-map, slice_get_read, ReadsOnly, disk_of_blocks, BlockStates, Disk, fault_count, read_count, slot_view, disk_of_device, IsInvalidOrSharedList, lists_view, MarksListBlocksUsed, MarksAllListsUsed, MarksFreeBlocksUsed, list_heads_and_sizes, list_blocks_backwards, list_reads}
 use Rattle.lfs_device.specs.declared.device.BlockDevice.{Ghosts}
 use Rattle.lfs_device.specs.declared.geometry.Geometry.{Geometry}
 use Rattle.lfs_model.specs.declared.violations.Violation.{Violation}
@@ -11,8 +11,8 @@ use Rattle.lfs_mount.proofs.lists.mark_slot_lists.Goals as goal
 use Rattle.lfs_mount.proofs.lists.mark_slot_lists.Goals.{in-Some+in_ok-mark_slot_list, in_default}
 
 -- on the device as it was before
-first_on : {D : Type 0} (g : Ghosts D) (old mid : D) → ReadsOnly g old mid → (sets : BlockStates) (l : ℕ × ℕ) (at : List ℕ) (slot : ℕ) (v : Violation) → BreaksList (disk_of_device g mid) sets l at slot v → BreaksList (disk_of_device g old) sets l at slot v
-first_on g old mid reads sets l at slot v broken = subst (λ (d : Disk). BreaksList d sets l at slot v) (ap₂ disk_of_blocks reads.geometry reads.same) broken
+first_on : {D : Type 0} (g : Ghosts D) (old mid : D) → ReadsOnly g old mid → (sets : BlockStates) (l : ℕ × ℕ) (at : List ℕ) (slot : ℕ) (v : Violation) → IsInvalidOrSharedList (disk_of_device g mid) sets l at slot v → IsInvalidOrSharedList (disk_of_device g old) sets l at slot v
+first_on g old mid reads sets l at slot v broken = subst (λ (d : Disk). IsInvalidOrSharedList d sets l at slot v) (ap₂ disk_of_blocks reads.geometry reads.same) broken
 
 pub returns-in_err-mark_slot_list-clause-broken : goal.returns-in_err-mark_slot_list-clause-broken
 returns-in_err-mark_slot_list-clause-broken g c = λ v is.
@@ -28,9 +28,9 @@ returns-in_err-mark_slot_list-clause-broken g c = λ v is.
         list = sym c.list_of_slot.ensures ∙ c.in-Some.is;
       };
       mid = c.loop-index.map;
-      before = subst (λ ss. MarksUsed c.args.map.now (flat_map (blocks_last_first disk) (raw_slot_lists ss)) c.loop-index.map) (sym (take-map slot_view c.loop-index.index c.args.slots.now)) c.loop-index.invariant.marked.marked;
+      before = subst (λ ss. MarksFreeBlocksUsed c.args.map.now (flat_map (list_blocks_backwards disk) (list_heads_and_sizes ss)) c.loop-index.map) (sym (take-map slot_view c.loop-index.index c.args.slots.now)) c.loop-index.invariant.marked.marked;
       breaks = first_on g.D.BlockDevice c.args.device.now c.loop-index.device c.loop-index.invariant.device c.loop-index.map c.in-Some.list c.args.member.now.at _ v
-          (subst (λ n. BreaksList (disk_of_device g.D.BlockDevice c.loop-index.device) c.loop-index.map c.in-Some.list c.args.member.now.at n v) c.entry_slot_number-number.ensures
+          (subst (λ n. IsInvalidOrSharedList (disk_of_device g.D.BlockDevice c.loop-index.device) c.loop-index.map c.in-Some.list c.args.member.now.at n v) c.entry_slot_id-number.ensures
           (c.in_err-mark_slot_list.ensures.broken v (ap Err (same_error p.1 p.2 is))));
     }
 
@@ -48,10 +48,10 @@ loop-index-preserved g c =
       | in-Some+in_ok-mark_slot_list w ↦
           let same = ap₂ disk_of_blocks c.loop-index.invariant.device.geometry c.loop-index.invariant.device.same in
           record {
-            marked = subst (λ m. MarksLists disk c.args.map.now lists m) (sym w.map-is)
+            marked = subst (λ m. MarksAllListsUsed disk c.args.map.now lists m) (sym w.map-is)
                 (lists_more disk c.args.slots.now c.loop-index.index c.index-slots-index.result w.in-Some.list c.args.map.now c.loop-index.map w.mark_slot_list.new.map at
                 (sym c.list_of_slot.ensures ∙ w.in-Some.is) c.loop-index.invariant.marked
-                (subst (λ (d : Disk). MarksList d c.loop-index.map w.in-Some.list w.mark_slot_list.new.map) same w.in_ok-mark_slot_list.ensures.marked));
+                (subst (λ (d : Disk). MarksListBlocksUsed d c.loop-index.map w.in-Some.list w.mark_slot_list.new.map) same w.in_ok-mark_slot_list.ensures.marked));
             device = subst (ReadsOnly g.D.BlockDevice c.args.device.now) (sym w.device-is) (read_on g.D.BlockDevice c.loop-index.invariant.device w.in_ok-mark_slot_list.ensures.reading.device);
             quiet = ap (λ d. fault_count (g.D.BlockDevice.history d)) w.device-is ∙ quiet g.D.BlockDevice w.in_ok-mark_slot_list.ensures.reading ∙ c.loop-index.invariant.quiet;
             few =
@@ -65,7 +65,7 @@ loop-index-preserved g c =
                 omega arith;
           }
       | in_default w ↦ record {
-        marked = subst (λ m. MarksLists disk c.args.map.now lists m) (sym w.map-is)
+        marked = subst (λ m. MarksAllListsUsed disk c.args.map.now lists m) (sym w.map-is)
             (lists_stay disk c.args.slots.now c.loop-index.index c.index-slots-index.result c.args.map.now c.loop-index.map at (sym c.list_of_slot.ensures ∙ w.in_default.is) c.loop-index.invariant.marked);
         device = subst (ReadsOnly g.D.BlockDevice c.args.device.now) (sym w.device-is) c.loop-index.invariant.device;
         quiet = ap (λ d. fault_count (g.D.BlockDevice.history d)) w.device-is ∙ c.loop-index.invariant.quiet;

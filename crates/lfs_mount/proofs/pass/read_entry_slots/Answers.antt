@@ -1,5 +1,5 @@
 use Rattle.std.proofs.Common.{inl, inr, ap, subst, ◌≡◌, arith, map, option_map, Some}
-use Rattle.lfs_mount.proofs.Common.{length-map, err_from_is_err_and, RawContent, slot_view, BreaksMovedSlot, raw_block_slots}
+use Rattle.lfs_mount.proofs.Common.{length-map, err_from_is_err_and, RawContent, slot_view, HasInvalidMovedSlot, raw_block_slots}
 use Rattle.lfs_tag.specs.ContentView.{content_view}
 use Rattle.lfs_mount.proofs.Called.{same_error}
 use Rattle.lfs_mount.proofs.SlotCounts.{few_slots}
@@ -11,7 +11,7 @@ returns-in_err-remove_moved_slot-clause-broken c = λ v is.
     let b = c.in_err-remove_moved_slot.ensures.broken in
     let same : b.0 ≡ v = let f = same_error e.1 e.2 is in let h = b.1.0 in cc in
     let slots : raw_block_slots c.args.log.now ≡ Some (map slot_view c.in-Ok.content.slots.items) = ap (option_map (λ (x : RawContent). x.slots)) c.in-Ok.ensures.content in
-    inr (_, (slots, inl (subst (BreaksMovedSlot c.args.member.now (map slot_view c.in-Ok.content.slots.items)) same b.1.1)))
+    inr (_, (slots, inl (subst (HasInvalidMovedSlot c.args.member.now (map slot_view c.in-Ok.content.slots.items)) same b.1.1)))
 
 pub returns-clause-few : goal.returns-clause-few
 returns-clause-few c = λ small.

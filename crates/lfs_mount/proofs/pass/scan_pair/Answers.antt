@@ -1,13 +1,13 @@
 use Rattle.std.proofs.Common.{ℕ, List, Err, inl, inr, refl, arith, ◌≡◌, ◌≤◌, ◌+◌, sym, ap, ap₂, ◌∙◌, length, map, subst}
 use Rattle.std.specs.Prelude.{sum_by}
-use Rattle.lfs_mount.proofs.Common.{err_from_is_err_and, ReadsOnly, disk_of_blocks, BlockStates, RawSlot, ordered_disk, Disk, disk_block, read_count, slot_view, disk_of_device, BreaksEntryList, block_entry_slots, LacksEntryAt, scan_view, lists_view, MarksLists, list_reads, described_lists, scan_after_slots}
+use Rattle.lfs_mount.proofs.Common.{err_from_is_err_and, ReadsOnly, disk_of_blocks, BlockStates, RawSlot, disk_with_order, Disk, disk_block, read_count, slot_view, disk_of_device, HasInvalidOrSharedList, block_entry_slots, IsNoEntryAt, scan_view, lists_view, MarksAllListsUsed, list_reads, described_lists, scan_after_slots}
 use Rattle.lfs_device.specs.declared.device.BlockDevice.{Ghosts}
 use Rattle.lfs_device.specs.declared.geometry.Geometry.{Geometry}
 use Rattle.lfs_model.specs.declared.order.NameOrder.{NameOrder}
 use Rattle.lfs_model.specs.declared.violations.Violation.{Violation}
 use Rattle.lfs_model.specs.declared.violations.Violation.TheVariants as violation
 use Rattle.lfs_mount.specs.ListsView.{raw_slots_view}
-use Rattle.lfs_mount.specs.declared.pass.PairBeforeSlotsAreRead.{PairBeforeSlotsAreRead}
+use Rattle.lfs_mount.specs.declared.pass.DirectoryPairHeader.{DirectoryPairHeader}
 use Rattle.lfs_mount.proofs.Called.{gone_on, passed_on, quiet, same_error, violation_of}
 use Rattle.lfs_mount.proofs.Kept.{held_kept}
 use Rattle.lfs_mount.proofs.ReadCounts.{takes_lists}
@@ -15,13 +15,13 @@ use Rattle.lfs_mount.proofs.Scans.{scan_none_at}
 use Rattle.lfs_mount.proofs.pass.scan_pair.Goals as goal
 
 -- whatever the order of names, on the device as it was before
-lists_first_on : {D : Type 0} (g : Ghosts D) (old mid : D) → ReadsOnly g old mid → (order : NameOrder) (m : PairBeforeSlotsAreRead) (sets : BlockStates) (slots : List RawSlot) (v : Violation) → BreaksEntryList (disk_of_device g mid) m sets slots v
-    → BreaksEntryList (ordered_disk order (disk_of_device g old)) m sets slots v
+lists_first_on : {D : Type 0} (g : Ghosts D) (old mid : D) → ReadsOnly g old mid → (order : NameOrder) (m : DirectoryPairHeader) (sets : BlockStates) (slots : List RawSlot) (v : Violation) → HasInvalidOrSharedList (disk_of_device g mid) m sets slots v
+    → HasInvalidOrSharedList (disk_with_order order (disk_of_device g old)) m sets slots v
 lists_first_on g old mid reads order m sets slots v broken =
-    let b = subst (λ (d : Disk). BreaksEntryList d m sets slots v) (ap₂ disk_of_blocks reads.geometry reads.same) broken in
+    let b = subst (λ (d : Disk). HasInvalidOrSharedList d m sets slots v) (ap₂ disk_of_blocks reads.geometry reads.same) broken in
     record { index = b.index; l = b.l; is = b.is; mid = b.mid; before = b.before; breaks = b.breaks }
 
-lists_in_order : (order : NameOrder) (disk : Disk) {old new : BlockStates} {all : List (ℕ × ℕ)} → MarksLists disk old all new → MarksLists (ordered_disk order disk) old all new
+lists_in_order : (order : NameOrder) (disk : Disk) {old new : BlockStates} {all : List (ℕ × ℕ)} → MarksAllListsUsed disk old all new → MarksAllListsUsed (disk_with_order order disk) old all new
 lists_in_order order disk m = record { lists = m.lists; marked = m.marked }
 
 pub returns-in-Err-clause-broken : goal.returns-in-Err-clause-broken
@@ -31,16 +31,16 @@ returns-in-Err-clause-broken g c = λ v is order.
     let none = c.in-Err.ensures.corrupt (ap Err from.0) order in
     let at = scan_none_at order c.args.places.now (scan_view order c.args.known.now) (map slot_view c.deref-2.result.now) none in
     let same = ap (map slot_view) (c.deref-2.ensures.value ∙ sym c.deref-in-Err.ensures.value) in
-    let first = c.first_non_entry.ensures.holds at.0 (subst (λ ss. LacksEntryAt ss at.0) same at.1) in
+    let first = c.first_invalid_slot.ensures.holds at.0 (subst (λ ss. IsNoEntryAt ss at.0) same at.1) in
     inr (
       map slot_view c.in_ok-slots.slots.items,
       (
         ap (block_entry_slots c.args.member.now) (sym log) ∙ c.in_ok-slots.ensures.kept,
         inl (
-          c.first_non_entry.result,
+          c.first_invalid_slot.result,
           (
-            sym from.1 ∙ ap (violation.Entry c.args.member.now.at) c.entry_slot_number-slot.ensures,
-            subst (λ ss. LacksEntryAt ss c.first_non_entry.result) (ap (map slot_view) c.deref-in-Err.ensures.value) first,
+            sym from.1 ∙ ap (violation.Entry c.args.member.now.at) c.entry_slot_id-slot.ensures,
+            subst (λ ss. IsNoEntryAt ss c.first_invalid_slot.result) (ap (map slot_view) c.deref-in-Err.ensures.value) first,
           ),
         ),
       ),
@@ -65,7 +65,7 @@ returns-in_err-mark_slot_lists-clause-broken g c = λ v is order.
       map slot_view c.in_ok-slots.slots.items,
       (
         ap (block_entry_slots c.args.member.now) (sym log) ∙ c.in_ok-slots.ensures.kept,
-        inr (subst (λ ss. BreaksEntryList (ordered_disk order (disk_of_device g.D.BlockDevice c.args.device.now)) c.args.member.now c.args.map.now ss v) (ap (map slot_view) c.deref-3.ensures.value) broken),
+        inr (subst (λ ss. HasInvalidOrSharedList (disk_with_order order (disk_of_device g.D.BlockDevice c.args.device.now)) c.args.member.now c.args.map.now ss v) (ap (map slot_view) c.deref-3.ensures.value) broken),
       ),
     )
 
@@ -85,9 +85,9 @@ returns-clause-taken g c = λ order.
       entries = map slot_view c.in_ok-slots.slots.items;
       kept = held.1.1;
       scan = ap (λ xs. scan_after_slots order c.args.places.now (scan_view order c.args.known.now) (map slot_view xs)) (sym c.deref-2.ensures.value) ∙ c.in_default.ensures.ok order;
-      lists = lists_in_order order disk (subst (λ ls. MarksLists disk c.args.map.now ls c.mark_slot_lists.new.map)
+      lists = lists_in_order order disk (subst (λ ls. MarksAllListsUsed disk c.args.map.now ls c.mark_slot_lists.new.map)
           (ap lists_view c.deref-3.ensures.value)
-          (subst (λ d. MarksLists d c.args.map.now (lists_view c.deref-3.result.now) c.mark_slot_lists.new.map) (ap₂ disk_of_blocks c.in_ok-bytes.ensures.reading.device.geometry c.in_ok-bytes.ensures.reading.device.same) c.in_ok-mark_slot_lists.ensures.marked));
+          (subst (λ d. MarksAllListsUsed d c.args.map.now (lists_view c.deref-3.result.now) c.mark_slot_lists.new.map) (ap₂ disk_of_blocks c.in_ok-bytes.ensures.reading.device.geometry c.in_ok-bytes.ensures.reading.device.same) c.in_ok-mark_slot_lists.ensures.marked));
     }
 
 pub returns-clause-few : goal.returns-clause-few

@@ -1,7 +1,7 @@
 use Rattle.std.proofs.Common.{Result, Ok, Err, None, arith, ap, sym, ◌≡◌, ◌<◌, ◌∙◌, refl, true, false, subst, length, set, slice_get, get_or, ◌++◌, ◌∷◌, [], length-append, nat_eq, map}
 use Rattle.std.specs.Prelude.{All, IfSome}
 use Rattle.std.specs.List.{IsDistinct}
-use Rattle.lfs_mount.proofs.Common.{length-set, length-replicate, length-map, and_from, slice_get_read, address_view, BreaksGraphRule, graph_view, vertex_view, AreFoundMarks, IsRepeated}
+use Rattle.lfs_mount.proofs.Common.{length-set, length-replicate, length-map, and_from, slice_get_read, address_of_array, BreaksGraphRule, graph_view, vertex_view, AreVisitedMarks, OccursTwice}
 use Rattle.lfs_model.specs.declared.violations.Violation.{Violation}
 use Rattle.lfs_thread.specs.declared.mount_error.MountError.{MountError}
 use Rattle.lfs_thread.specs.declared.mount_error.MountError.TheVariants.{Corrupt}
@@ -20,7 +20,7 @@ loop-next-init c =
     let found = pushed ∙ ap (λ xs. xs ++ 0 ∷ []) empty in
     record {
       found = found;
-      marked = subst (AreFoundMarks (set c.in_ok-is_found.is_found.items 0 true)) (sym found) (first_marked c.in_ok-is_found.is_found.items (length c.args.directories.now) none c.requires.some);
+      marked = subst (AreVisitedMarks (set c.in_ok-is_found.is_found.items 0 true)) (sym found) (first_marked c.in_ok-is_found.is_found.items (length c.args.directories.now) none c.requires.some);
       len = length-set c.in_ok-is_found.is_found.items 0 true ∙ ap length none ∙ length-replicate (length c.args.directories.now) false;
       sound = λ j u lt. absurd (omega arith);
       passed = omega arith;
@@ -42,8 +42,8 @@ returns-then-not-contains-clause-broken c = λ v sync is.
     let within = marked_within c.loop-next.is_found.items c.loop-next.found.items c.loop-next.invariant.marked c.loop-next.next c.index.result.now at in
     let lt : c.index.result.now < length c.args.directories.now = omega (arith, within, c.loop-next.invariant.len) in
     let here = slice_get_read c.args.directories.now _ c.index.result.now c.index-directories-place.result refl lt c.index-directories-place.is in
-    subst (BreaksGraphRule c.args.order (graph_view c.args.order c.args.directories.now) (map address_view c.args.addresses.now) sync) (same_violation is)
-    (names_broken (graph_view c.args.order c.args.directories.now) (map address_view c.args.addresses.now) sync (some_in c.args.order c.args.directories.now c.requires.some) c.loop-next.next c.index.result.now
+    subst (BreaksGraphRule c.args.order (graph_view c.args.order c.args.directories.now) (map address_of_array c.args.addresses.now) sync) (same_violation is)
+    (names_broken (graph_view c.args.order c.args.directories.now) (map address_of_array c.args.addresses.now) sync (some_in c.args.order c.args.directories.now c.requires.some) c.loop-next.next c.index.result.now
     (vertex_view c.args.order c.index-directories-place.result) (get_or c.args.addresses.now c.index.result.now []) c.loop-next.invariant.sound
     (ap (λ xs. slice_get xs c.loop-next.next) (sym c.loop-next.invariant.found) ∙ at) (vertex_at c.args.order c.args.directories.now c.index.result.now c.index-directories-place.result here)
     (sym c.contains.ensures ∙ c.if-not-contains.true) (first_at c.args.addresses.now c.index.result.now (omega (arith, lt, c.requires.places))))
@@ -54,14 +54,14 @@ returns-then-not-directory-clause-broken c = λ v sync is.
     let within = marked_within c.loop-next.is_found.items c.loop-next.found.items c.loop-next.invariant.marked c.loop-next.next c.index.result.now at in
     let lt : c.index.result.now < length c.args.directories.now = omega (arith, within, c.loop-next.invariant.len) in
     let here = slice_get_read c.args.directories.now _ c.index.result.now c.index-directories-place.result refl lt c.index-directories-place.is in
-    subst (BreaksGraphRule c.args.order (graph_view c.args.order c.args.directories.now) (map address_view c.args.addresses.now) sync) (same_violation is)
-    (branch_broken (graph_view c.args.order c.args.directories.now) (map address_view c.args.addresses.now) sync (some_in c.args.order c.args.directories.now c.requires.some) c.loop-next.next c.index.result.now
+    subst (BreaksGraphRule c.args.order (graph_view c.args.order c.args.directories.now) (map address_of_array c.args.addresses.now) sync) (same_violation is)
+    (branch_broken (graph_view c.args.order c.args.directories.now) (map address_of_array c.args.addresses.now) sync (some_in c.args.order c.args.directories.now c.requires.some) c.loop-next.next c.index.result.now
     (vertex_view c.args.order c.index-directories-place.result) (get_or c.args.addresses.now c.index.result.now []) c.loop-next.invariant.sound
     (ap (λ xs. slice_get xs c.loop-next.next) (sym c.loop-next.invariant.found) ∙ at) (vertex_at c.args.order c.args.directories.now c.index.result.now c.index-directories-place.result here)
     (sym c.contains.ensures ∙ c.if-not-contains.false) c.if-not-directory.true (first_at c.args.addresses.now c.index.result.now (omega (arith, lt, c.requires.places))))
 
-pub mark_branches_found-requires-clause-within : goal.mark_branches_found-requires-clause-within
-mark_branches_found-requires-clause-within c =
+pub mark_subdirectories_visited-requires-clause-within : goal.mark_subdirectories_visited-requires-clause-within
+mark_subdirectories_visited-requires-clause-within c =
     let at = slice_get_read c.loop-next.found.items _ c.loop-next.next c.index.result.now refl (omega arith) c.index.ensures in
     let within = marked_within c.loop-next.is_found.items c.loop-next.found.items c.loop-next.invariant.marked c.loop-next.next c.index.result.now at in
     let lt : c.index.result.now < length c.args.directories.now = omega (arith, within, c.loop-next.invariant.len) in
@@ -82,15 +82,15 @@ returns-in-Some-clause-broken c = λ v sync is.
     let lt : c.index.result.now < length c.args.directories.now = omega (arith, within, c.loop-next.invariant.len) in
     let here = slice_get_read c.args.directories.now _ c.index.result.now c.index-directories-place.result refl lt c.index-directories-place.is in
     let below = subst (λ o. IfSome o (λ b. b < length c.loop-next.is_found.items)) c.in-Some.is c.in_ok-branch.ensures.within in
-    let twice = subst (λ o. IfSome o (IsRepeated (c.loop-next.found.items ++ c.deref.result.now))) c.in-Some.is c.in_ok-branch.ensures.twice in
+    let twice = subst (λ o. IfSome o (OccursTwice (c.loop-next.found.items ++ c.deref.result.now))) c.in-Some.is c.in_ok-branch.ensures.twice in
     let next = ap (λ xs. c.loop-next.found.items ++ xs) c.deref.ensures.value
     ∙ branches_found c.args.order c.args.directories.now c.loop-next.found.items c.loop-next.next c.index.result.now c.index-directories-place.result c.loop-next.invariant.found at here in
     let sound = sound_of c.args.order c.args.directories.now c.index.result.now c.index-directories-place.result here ∙ and_from _ _ (sym c.contains.ensures ∙ c.if-not-contains.false) c.if-not-directory.false in
-    subst (BreaksGraphRule c.args.order (graph_view c.args.order c.args.directories.now) (map address_view c.args.addresses.now) sync) (same_violation is)
-    (paths_broken (graph_view c.args.order c.args.directories.now) (map address_view c.args.addresses.now) sync (some_in c.args.order c.args.directories.now c.requires.some) c.loop-next.next c.in-Some.branch
+    subst (BreaksGraphRule c.args.order (graph_view c.args.order c.args.directories.now) (map address_of_array c.args.addresses.now) sync) (same_violation is)
+    (paths_broken (graph_view c.args.order c.args.directories.now) (map address_of_array c.args.addresses.now) sync (some_in c.args.order c.args.directories.now c.requires.some) c.loop-next.next c.in-Some.branch
     (get_or c.args.addresses.now c.in-Some.branch [])
     (next_sound (graph_view c.args.order c.args.directories.now) c.loop-next.next c.index.result.now (ap (λ xs. slice_get xs c.loop-next.next) (sym c.loop-next.invariant.found) ∙ at) c.loop-next.invariant.sound sound)
-    (subst (IsDistinct nat_eq) c.loop-next.invariant.found c.loop-next.invariant.marked.distinct) (subst (λ xs. IsRepeated xs c.in-Some.branch) next twice)
+    (subst (IsDistinct nat_eq) c.loop-next.invariant.found c.loop-next.invariant.marked.distinct) (subst (λ xs. OccursTwice xs c.in-Some.branch) next twice)
     (first_at c.args.addresses.now c.in-Some.branch (omega (arith, below, c.loop-next.invariant.len, c.requires.places))))
 
 pub loop-next-smaller : goal.loop-next-smaller
@@ -118,6 +118,6 @@ pub returns-clause-reached : goal.returns-clause-reached
 returns-clause-reached c = record {
   steps = c.loop-next.next;
   finished = nothing_left (graph_view c.args.order c.args.directories.now) c.loop-next.is_found.items c.loop-next.found.items c.loop-next.next c.loop-next.invariant.found (omega arith) c.loop-next.invariant.marked c.loop-next.invariant.sound;
-  marked = subst (AreFoundMarks c.loop-next.is_found.items) c.loop-next.invariant.found c.loop-next.invariant.marked;
+  marked = subst (AreVisitedMarks c.loop-next.is_found.items) c.loop-next.invariant.found c.loop-next.invariant.marked;
   len = c.loop-next.invariant.len ∙ sym (length-map c.args.directories.now (vertex_view c.args.order));
 }

@@ -1,6 +1,6 @@
 use Rattle.std.proofs.Common.{◌∙◌, ◌≡◌, ◌-◌, suc, Err, Some, None, true, false, arith, rules, length, ap, subst, sym, refl}
 use Rattle.std.proofs.lemmas.List.{get_or_default}
-use Rattle.lfs_mount.proofs.Common.{slice_get_read, err_from_is_err_and, ordered_disk, PairsBreak, PairHeader, disk_of_device, header_pairs}
+use Rattle.lfs_mount.proofs.Common.{slice_get_read, err_from_is_err_and, disk_with_order, PairsBreak, PairHeader, disk_of_device, header_pairs}
 use Rattle.lfs_device.specs.declared.geometry.Geometry.{Geometry}
 use Rattle.lfs_model.specs.declared.violations.Violation.TheVariants as violation
 use Rattle.lfs_mount.proofs.Called.{only_read, passed_on, quiet, read_on, same_error}
@@ -13,11 +13,11 @@ returns-in_default-clause-broken g c = λ v is order.
     let disk = disk_of_device g.D.BlockDevice c.args.dev.now in
     let has = has_headers_in order disk (g.D.BlockDevice.history c.args.dev.now) c.args.pairs.now c.requires in
     let which : violation.NoSuperblock ≡ v = cc in
-    subst (PairsBreak (ordered_disk order disk) (header_pairs disk c.args.pairs.now)) which
-    (no_superblock (ordered_disk order disk) (g.D.BlockDevice.history c.args.dev.now) c.args.pairs.now has (sym c.in_default.ensures.first))
+    subst (PairsBreak (disk_with_order order disk) (header_pairs disk c.args.pairs.now)) which
+    (no_superblock (disk_with_order order disk) (g.D.BlockDevice.history c.args.dev.now) c.args.pairs.now has (sym c.in_default.ensures.first))
 
-pub read_first_struct-requires : goal.read_first_struct-requires
-read_first_struct-requires g c =
+pub read_superblock_struct-requires : goal.read_superblock_struct-requires
+read_superblock_struct-requires g c =
     let low = active_within (disk_of_device g.D.BlockDevice c.args.dev.now) (g.D.BlockDevice.history c.args.dev.now) c.args.pairs.now c.requires c.in-Some.first (sym c.in-Some.ensures.first) c.index-pairs-first.result c.index-pairs-first.is in
     let count = (g.met.D.BlockDevice.shape c.args.dev.now).count in
     omega (arith, low, count)
@@ -27,7 +27,7 @@ returns-in_err-bytes-clause-broken g c = λ v is order.
     let e = err_from_is_err_and c.from_residual.result c.from_residual.ensures.1 in
     let disk = disk_of_device g.D.BlockDevice c.args.dev.now in
     let has = has_headers_in order disk (g.D.BlockDevice.history c.args.dev.now) c.args.pairs.now c.requires in
-    first_breaks (ordered_disk order disk) (g.D.BlockDevice.history c.args.dev.now) c.args.pairs.now has c.in-Some.first (sym c.in-Some.ensures.first) c.index-pairs-first.result c.index-pairs-first.is v
+    first_breaks (disk_with_order order disk) (g.D.BlockDevice.history c.args.dev.now) c.args.pairs.now has c.in-Some.first (sym c.in-Some.ensures.first) c.index-pairs-first.result c.index-pairs-first.is v
     (first_breaks_in order disk c.index-pairs-first.result v (c.in_err-bytes.ensures.broken v (ap Err (same_error e.1 e.2 is))))
 
 pub loop-index-init : goal.loop-index-init
@@ -94,8 +94,8 @@ returns-in_err-pair_repeats_superblock-clause-broken g c = λ v is order.
     let broken = c.in_err-pair_repeats_superblock.ensures.broken v (ap Err (same_error e.1 e.2 is)) in
     let none = same_block _ _ _ _ _ _ next.result None c.loop-index.invariant.device.geometry c.loop-index.invariant.device.same c.deref.ensures.value broken.1 in
     let first = first_struct disk history c.args.pairs.now c.requires c.in-Some.first (sym c.in-Some.ensures.first) c.index-pairs-first.result c.index-pairs-first.is c.in_ok-bytes.bytes.items c.in_ok-bytes.ensures.found in
-    subst (PairsBreak (ordered_disk order disk) (header_pairs disk c.args.pairs.now)) (sym broken.0)
-    (differs (ordered_disk order disk) history c.args.pairs.now has c.in_ok-bytes.bytes.items c.loop-index.root c.loop-index.index this.result next.result step c.loop-index.invariant.walked
+    subst (PairsBreak (disk_with_order order disk) (header_pairs disk c.args.pairs.now)) (sym broken.0)
+    (differs (disk_with_order order disk) history c.args.pairs.now has c.in_ok-bytes.bytes.items c.loop-index.root c.loop-index.index this.result next.result step c.loop-index.invariant.walked
     (sym c.can_chain_continue.ensures ∙ c.if-not-can_chain_continue.false) first none)
 
 pub returns-in_err-pair_repeats_superblock-clause-device : goal.returns-in_err-pair_repeats_superblock-clause-device

@@ -1,5 +1,5 @@
 use Rattle.lfs_operations.proofs.Common.{ℕ, ◌≡◌, ◌-◌, sym, subst, ap, ◌∙◌, Err, on_ok_weaker, err_from_is_err_and, Gstate, zero_gstate, disk_tree, CleanLossLeaves, KeptThread, ChangesThreadBlocks, thread_pair, address_blocks, move_view, CanDropAt, IsPairDropped, LeftByDrop, removal_written_address, tree_without_entry}
-use Rattle.lfs_operations.specs.Unlinking.{number_after_unlink}
+use Rattle.lfs_operations.specs.Unlinking.{pair_index_after_unlink}
 use Rattle.lfs_operations.proofs.LastDrop.{can_drop_last}
 use Rattle.lfs_operations.proofs.Putting.{survives_more, survives_step}
 use Rattle.lfs_operations.proofs.Removed.{reports_again}
@@ -26,19 +26,19 @@ returns-in_err-unlink_directory_entry-clause-survives g c take = survives_step c
 pub drop_pair_at-requires-clause-can : goal.drop_pair_at-requires-clause-can
 drop_pair_at-requires-clause-can g c =
     let m = c.unlink_directory_entry.new.thread.kept in
-    subst (CanDropAt m c.number_after_unlinking-own.result) (sym c.none.ensures)
-    (subst (λ (i : ℕ). CanDropAt m i zero_gstate) (sym c.number_after_unlinking-own.ensures)
+    subst (CanDropAt m c.index_after_unlinking-own.result) (sym c.none.ensures)
+    (subst (λ (i : ℕ). CanDropAt m i zero_gstate) (sym c.index_after_unlinking-own.ensures)
     (can_drop_last (unlinked c.args.thread.now.kept c.args.pair c.args.id c.args.first c.args.gone c.requires.can m c.in_ok-unlink_directory_entry.ensures.is_unlinked).last))
 
 pub returns-clause-is_removed : goal.returns-clause-is_removed
 returns-clause-is_removed g c = on_ok_weaker c.drop_pair_at.result (λ is take.
     directory_removed (unlinked c.args.thread.now.kept c.args.pair c.args.id c.args.first c.args.gone take c.unlink_directory_entry.new.thread.kept c.in_ok-unlink_directory_entry.ensures.is_unlinked) c.drop_pair_at.new.thread.kept
-    (then_dropped c.unlink_directory_entry.new.thread.kept c.number_after_unlinking-own.result (number_after_unlink c.args.thread.now.kept c.args.pair c.args.first c.args.gone) (move_view c.none.result) c.drop_pair_at.new.thread.kept c.number_after_unlinking-own.ensures c.none.ensures is)) c.drop_pair_at.ensures.is_dropped
+    (then_dropped c.unlink_directory_entry.new.thread.kept c.index_after_unlinking-own.result (pair_index_after_unlink c.args.thread.now.kept c.args.pair c.args.first c.args.gone) (move_view c.none.result) c.drop_pair_at.new.thread.kept c.index_after_unlinking-own.ensures c.none.ensures is)) c.drop_pair_at.ensures.is_dropped
 
 pub returns-clause-alters : goal.returns-clause-alters
 returns-clause-alters g c = on_ok_weaker c.drop_pair_at.result (λ is.
     directory_alters (unlinked c.args.thread.now.kept c.args.pair c.args.id c.args.first c.args.gone c.requires.can c.unlink_directory_entry.new.thread.kept c.in_ok-unlink_directory_entry.ensures.is_unlinked) c.drop_pair_at.new.thread.kept
-    (then_dropped c.unlink_directory_entry.new.thread.kept c.number_after_unlinking-own.result (number_after_unlink c.args.thread.now.kept c.args.pair c.args.first c.args.gone) (move_view c.none.result) c.drop_pair_at.new.thread.kept c.number_after_unlinking-own.ensures c.none.ensures is)) c.drop_pair_at.ensures.is_dropped
+    (then_dropped c.unlink_directory_entry.new.thread.kept c.index_after_unlinking-own.result (pair_index_after_unlink c.args.thread.now.kept c.args.pair c.args.first c.args.gone) (move_view c.none.result) c.drop_pair_at.new.thread.kept c.index_after_unlinking-own.ensures c.none.ensures is)) c.drop_pair_at.ensures.is_dropped
 
 pub returns-clause-errors : goal.returns-clause-errors
 returns-clause-errors g c = steps_then c.args.thread.now c.unlink_directory_entry.new.thread c.drop_pair_at.new.thread c.in_ok-unlink_directory_entry.field-0 c.unlink_directory_entry.result c.drop_pair_at.result c.in_ok-unlink_directory_entry.was c.unlink_directory_entry.ensures.errors c.drop_pair_at.ensures.errors
@@ -47,7 +47,7 @@ pub returns-clause-device : goal.returns-clause-device
 returns-clause-device g c =
     let m = c.unlink_directory_entry.new.thread.kept in
     writes_then (unlinked c.args.thread.now.kept c.args.pair c.args.id c.args.first c.args.gone c.requires.can m c.in_ok-unlink_directory_entry.ensures.is_unlinked) c.drop_pair_at.new.thread.kept c.unlink_directory_entry.ensures.device
-    (subst (λ (i : ℕ). ChangesThreadBlocks (address_blocks (thread_pair m (i - 1)).at) m c.drop_pair_at.new.thread.kept) c.number_after_unlinking-own.ensures c.drop_pair_at.ensures.device)
+    (subst (λ (i : ℕ). ChangesThreadBlocks (address_blocks (thread_pair m (i - 1)).at) m c.drop_pair_at.new.thread.kept) c.index_after_unlinking-own.ensures c.drop_pair_at.ensures.device)
 
 pub returns-clause-survives : goal.returns-clause-survives
 returns-clause-survives g c take =
@@ -57,5 +57,5 @@ returns-clause-survives g c take =
     survives_more (disk_tree t.disk t.pairs) (tree_without_entry t take.can.path take.can.name) c.unlink_directory_entry.ensures.device c.drop_pair_at.ensures.device
     (survives_step t.disk (left_first t c.args.pair c.args.id c.args.first c.args.gone take) c.unlink_directory_entry.ensures.stops)
     (left_second (unlinked t c.args.pair c.args.id c.args.first c.args.gone take m c.in_ok-unlink_directory_entry.ensures.is_unlinked))
-    (subst (λ (i : ℕ). CleanLossLeaves m.history new.history (LeftByDrop m (i - 1) zero_gstate)) c.number_after_unlinking-own.ensures
-    (subst (λ (s : Gstate). CleanLossLeaves m.history new.history (LeftByDrop m (c.number_after_unlinking-own.result - 1) s)) c.none.ensures c.drop_pair_at.ensures.stops))
+    (subst (λ (i : ℕ). CleanLossLeaves m.history new.history (LeftByDrop m (i - 1) zero_gstate)) c.index_after_unlinking-own.ensures
+    (subst (λ (s : Gstate). CleanLossLeaves m.history new.history (LeftByDrop m (c.index_after_unlinking-own.result - 1) s)) c.none.ensures c.drop_pair_at.ensures.stops))

@@ -4,7 +4,7 @@ use Rattle.lfs_operations.proofs.MovLater.{renamed_across}
 use Rattle.lfs_operations.proofs.moves.rename_across.Goals as goal
 
 pub returns-clause-renamed : goal.returns-clause-renamed
-returns-clause-renamed g c = on_ok_weaker c.move_across.result (λ h rename. renamed_across rename h) c.move_across.ensures.moved
+returns-clause-renamed g c = on_ok_weaker c.move_between_pairs.result (λ h rename. renamed_across rename h) c.move_between_pairs.ensures.moved
 
 pub returns-clause-alters : goal.returns-clause-alters
-returns-clause-alters g c = on_ok_weaker c.move_across.result (λ h. altered_across c.args.replaces c.requires.can h c.move_across.ensures.device) c.move_across.ensures.moved
+returns-clause-alters g c = on_ok_weaker c.move_between_pairs.result (λ h. altered_across c.args.replaces c.requires.can h c.move_between_pairs.ensures.device) c.move_between_pairs.ensures.moved

@@ -20,7 +20,7 @@ overflow_sub-behind g c = enough_behind c.args.thread.now.kept c.loop-dropped.th
 
 pub drop_pair_at-requires-clause-can : goal.drop_pair_at-requires-clause-can
 drop_pair_at-requires-clause-can g c = can_take
-    (taking c.args.thread.now.kept c.loop-dropped.thread.kept c.args.unreached.now c.loop-dropped.dropped (move_view c.lemma_gstate_zero-wanted.result) c.loop-dropped-test.true c.loop-dropped.invariant.way c.lemma_gstate_zero-wanted.ensures)
+    (taking c.args.thread.now.kept c.loop-dropped.thread.kept c.args.unreached.now c.loop-dropped.dropped (move_view c.gstate_after_drop-wanted.result) c.loop-dropped-test.true c.loop-dropped.invariant.way c.gstate_after_drop-wanted.ensures)
 
 pub returns-in_err-drop_pair_at-clause-errors : goal.returns-in_err-drop_pair_at-clause-errors
 returns-in_err-drop_pair_at-clause-errors g c =
@@ -29,12 +29,12 @@ returns-in_err-drop_pair_at-clause-errors g c =
 
 pub returns-in_err-drop_pair_at-clause-device : goal.returns-in_err-drop_pair_at-clause-device
 returns-in_err-drop_pair_at-clause-device g c = writes_on
-    (taking c.args.thread.now.kept c.loop-dropped.thread.kept c.args.unreached.now c.loop-dropped.dropped (move_view c.lemma_gstate_zero-wanted.result) c.loop-dropped-test.true c.loop-dropped.invariant.way c.lemma_gstate_zero-wanted.ensures)
+    (taking c.args.thread.now.kept c.loop-dropped.thread.kept c.args.unreached.now c.loop-dropped.dropped (move_view c.gstate_after_drop-wanted.result) c.loop-dropped-test.true c.loop-dropped.invariant.way c.gstate_after_drop-wanted.ensures)
     c.drop_pair_at.new.thread.kept c.drop_pair_at.ensures.device
 
 pub returns-in_err-drop_pair_at-clause-survives : goal.returns-in_err-drop_pair_at-clause-survives
 returns-in_err-drop_pair_at-clause-survives g c = survives_on
-    (taking c.args.thread.now.kept c.loop-dropped.thread.kept c.args.unreached.now c.loop-dropped.dropped (move_view c.lemma_gstate_zero-wanted.result) c.loop-dropped-test.true c.loop-dropped.invariant.way c.lemma_gstate_zero-wanted.ensures)
+    (taking c.args.thread.now.kept c.loop-dropped.thread.kept c.args.unreached.now c.loop-dropped.dropped (move_view c.gstate_after_drop-wanted.result) c.loop-dropped-test.true c.loop-dropped.invariant.way c.gstate_after_drop-wanted.ensures)
     c.drop_pair_at.new.thread.kept (stays_by _ c.loop-dropped.thread.kept c.drop_pair_at.new.thread.kept c.drop_pair_at.ensures.device) c.drop_pair_at.ensures.stops
 
 pub loop-dropped-preserved : goal.loop-dropped-preserved
@@ -49,7 +49,7 @@ loop-dropped-preserved g c =
       no_fault = c.in_ok-drop_pair_at.ensures.errors.reported.no_fault (λ e. absurd (let k : _ = e in cc)) ∙ c.loop-dropped.invariant.no_fault;
       still = λ none. absurd (omega arith);
       way = subst (λ k. IsUnderWay c.args.thread.now.kept c.drop_pair_at.new.thread.kept k (drop k c.args.unreached.now)) one (moves_on
-          (taking c.args.thread.now.kept c.loop-dropped.thread.kept c.args.unreached.now c.loop-dropped.dropped (move_view c.lemma_gstate_zero-wanted.result) c.loop-dropped-test.true c.loop-dropped.invariant.way c.lemma_gstate_zero-wanted.ensures)
+          (taking c.args.thread.now.kept c.loop-dropped.thread.kept c.args.unreached.now c.loop-dropped.dropped (move_view c.gstate_after_drop-wanted.result) c.loop-dropped-test.true c.loop-dropped.invariant.way c.gstate_after_drop-wanted.ensures)
           c.drop_pair_at.new.thread.kept c.in_ok-drop_pair_at.ensures.is_dropped c.drop_pair_at.ensures.device c.drop_pair_at.ensures.stops);
     }
 

@@ -1,4 +1,4 @@
-use Rattle.lfs_operations.proofs.Common.{ap, sym, subst, ◌∙◌, ◌∷◌, Err, on_ok_weaker, err_from_is_err_and, Delete, changes_view, CleanLossLeaves, CanPut, LeftByPut, ArePut, ReportsPut, id_after_removal, renaming_changes, removal_changes, slot_changes, ◌++◌}
+use Rattle.lfs_operations.proofs.Common.{ap, sym, subst, ◌∙◌, ◌∷◌, Err, on_ok_weaker, err_from_is_err_and, Delete, changes_view, CleanLossLeaves, CanCommitOrSplit, LeftByCommitOrSplit, AreCommittedOrSplit, ReportsCommitOrSplit, id_after_removal, renaming_changes, removal_changes, slot_creation_changes, ◌++◌}
 use Rattle.lfs_device.specs.declared.error.Error.TheVariants as Error
 use Rattle.lfs_operations.proofs.Putting.{not_both}
 use Rattle.lfs_operations.proofs.RenameRead.{can_after_read, moves_after_read, moves_unread, put_after_read, read_stops, read_writes, stops_after_read, writes_after_read}
@@ -29,35 +29,35 @@ pub returns-in_err-changes-clause-survives : goal.returns-in_err-changes-clause-
 returns-in_err-changes-clause-survives g c rename =
     survives_here c.args.to.replaces c.args.thread.now.kept c.args.pair c.args.id c.args.to.id c.args.name.now rename c.copy_pair_slot.new.thread.kept.history (read_stops c.args.thread.now.kept c.copy_pair_slot.new.thread.kept c.requires.can.can (renaming_changes c.args.to.replaces c.args.thread.now.kept c.args.pair c.args.id c.args.to.id c.args.name.now) c.copy_pair_slot.ensures.only)
 
-pub change_or_split-requires-clause-can : goal.change_or_split-requires-clause-can
-change_or_split-requires-clause-can g c =
-    let are = ap changes_view c.deref.ensures.value ∙ c.in_ok-changes.ensures ∙ ap (λ z. Delete c.args.id ∷ (removal_changes c.args.to.replaces (id_after_removal c.args.id c.args.to.id) ++ slot_changes (id_after_removal c.args.id c.args.to.id) c.args.name.now z)) c.in_ok-copy.ensures.copied in
-    subst (CanPut c.copy_pair_slot.new.thread.kept c.args.pair) (sym are)
+pub commit_or_split-requires-clause-can : goal.commit_or_split-requires-clause-can
+commit_or_split-requires-clause-can g c =
+    let are = ap changes_view c.deref.ensures.value ∙ c.in_ok-changes.ensures ∙ ap (λ z. Delete c.args.id ∷ (removal_changes c.args.to.replaces (id_after_removal c.args.id c.args.to.id) ++ slot_creation_changes (id_after_removal c.args.id c.args.to.id) c.args.name.now z)) c.in_ok-copy.ensures.copied in
+    subst (CanCommitOrSplit c.copy_pair_slot.new.thread.kept c.args.pair) (sym are)
     (can_after_read c.args.thread.now.kept c.copy_pair_slot.new.thread.kept c.args.pair (renaming_changes c.args.to.replaces c.args.thread.now.kept c.args.pair c.args.id c.args.to.id c.args.name.now) c.copy_pair_slot.ensures.only
     (moves_here c.args.to.replaces c.args.thread.now.kept c.args.pair c.args.id c.args.to.id c.args.name.now c.requires.can).can_put)
 
 pub returns-clause-renamed : goal.returns-clause-renamed
 returns-clause-renamed g c =
-    on_ok_weaker c.change_or_split.result (λ is rename.
-    let are = ap changes_view c.deref.ensures.value ∙ c.in_ok-changes.ensures ∙ ap (λ z. Delete c.args.id ∷ (removal_changes c.args.to.replaces (id_after_removal c.args.id c.args.to.id) ++ slot_changes (id_after_removal c.args.id c.args.to.id) c.args.name.now z)) c.in_ok-copy.ensures.copied in
-    renamed_here c.args.to.replaces c.args.thread.now.kept c.args.pair c.args.id c.args.to.id c.args.name.now rename c.change_or_split.new.thread.kept
-    (put_after_read c.args.thread.now.kept c.copy_pair_slot.new.thread.kept c.change_or_split.new.thread.kept c.args.pair (renaming_changes c.args.to.replaces c.args.thread.now.kept c.args.pair c.args.id c.args.to.id c.args.name.now) c.copy_pair_slot.ensures.only
-    (subst (λ z. ArePut c.copy_pair_slot.new.thread.kept c.args.pair z c.change_or_split.new.thread.kept) are is)))
-    c.change_or_split.ensures.is_put
+    on_ok_weaker c.commit_or_split.result (λ is rename.
+    let are = ap changes_view c.deref.ensures.value ∙ c.in_ok-changes.ensures ∙ ap (λ z. Delete c.args.id ∷ (removal_changes c.args.to.replaces (id_after_removal c.args.id c.args.to.id) ++ slot_creation_changes (id_after_removal c.args.id c.args.to.id) c.args.name.now z)) c.in_ok-copy.ensures.copied in
+    renamed_here c.args.to.replaces c.args.thread.now.kept c.args.pair c.args.id c.args.to.id c.args.name.now rename c.commit_or_split.new.thread.kept
+    (put_after_read c.args.thread.now.kept c.copy_pair_slot.new.thread.kept c.commit_or_split.new.thread.kept c.args.pair (renaming_changes c.args.to.replaces c.args.thread.now.kept c.args.pair c.args.id c.args.to.id c.args.name.now) c.copy_pair_slot.ensures.only
+    (subst (λ z. AreCommittedOrSplit c.copy_pair_slot.new.thread.kept c.args.pair z c.commit_or_split.new.thread.kept) are is)))
+    c.commit_or_split.ensures.is_put
 
 pub returns-clause-errors : goal.returns-clause-errors
 returns-clause-errors g c =
-    let are = ap changes_view c.deref.ensures.value ∙ c.in_ok-changes.ensures ∙ ap (λ z. Delete c.args.id ∷ (removal_changes c.args.to.replaces (id_after_removal c.args.id c.args.to.id) ++ slot_changes (id_after_removal c.args.id c.args.to.id) c.args.name.now z)) c.in_ok-copy.ensures.copied in
-    moves_after_read c.args.thread.now c.copy_pair_slot.new.thread c.change_or_split.new.thread c.args.pair (renaming_changes c.args.to.replaces c.args.thread.now.kept c.args.pair c.args.id c.args.to.id c.args.name.now) c.change_or_split.result c.copy_pair_slot.ensures.only
+    let are = ap changes_view c.deref.ensures.value ∙ c.in_ok-changes.ensures ∙ ap (λ z. Delete c.args.id ∷ (removal_changes c.args.to.replaces (id_after_removal c.args.id c.args.to.id) ++ slot_creation_changes (id_after_removal c.args.id c.args.to.id) c.args.name.now z)) c.in_ok-copy.ensures.copied in
+    moves_after_read c.args.thread.now c.copy_pair_slot.new.thread c.commit_or_split.new.thread c.args.pair (renaming_changes c.args.to.replaces c.args.thread.now.kept c.args.pair c.args.id c.args.to.id c.args.name.now) c.commit_or_split.result c.copy_pair_slot.ensures.only
     (c.copy_pair_slot.ensures.errors.no_fault (λ io. not_both c.copy_pair_slot.result c.in_ok-copy.copy Error.Io c.in_ok-copy.was io))
-    (subst (λ z. ReportsPut c.copy_pair_slot.new.thread c.change_or_split.new.thread c.args.pair z c.change_or_split.result) are c.change_or_split.ensures.errors)
+    (subst (λ z. ReportsCommitOrSplit c.copy_pair_slot.new.thread c.commit_or_split.new.thread c.args.pair z c.commit_or_split.result) are c.commit_or_split.ensures.errors)
 
 pub returns-clause-device : goal.returns-clause-device
-returns-clause-device g c = writes_after_read c.args.thread.now.kept c.copy_pair_slot.new.thread.kept c.change_or_split.new.thread.kept c.args.pair c.copy_pair_slot.ensures.only c.change_or_split.ensures.device
+returns-clause-device g c = writes_after_read c.args.thread.now.kept c.copy_pair_slot.new.thread.kept c.commit_or_split.new.thread.kept c.args.pair c.copy_pair_slot.ensures.only c.commit_or_split.ensures.device
 
 pub returns-clause-survives : goal.returns-clause-survives
 returns-clause-survives g c rename =
-    let are = ap changes_view c.deref.ensures.value ∙ c.in_ok-changes.ensures ∙ ap (λ z. Delete c.args.id ∷ (removal_changes c.args.to.replaces (id_after_removal c.args.id c.args.to.id) ++ slot_changes (id_after_removal c.args.id c.args.to.id) c.args.name.now z)) c.in_ok-copy.ensures.copied in
-    survives_here c.args.to.replaces c.args.thread.now.kept c.args.pair c.args.id c.args.to.id c.args.name.now rename c.change_or_split.new.thread.kept.history
-    (stops_after_read c.args.thread.now.kept c.copy_pair_slot.new.thread.kept c.change_or_split.new.thread.kept c.requires.can.can (renaming_changes c.args.to.replaces c.args.thread.now.kept c.args.pair c.args.id c.args.to.id c.args.name.now) c.copy_pair_slot.ensures.only c.change_or_split.ensures.device
-    (subst (λ z. CleanLossLeaves c.copy_pair_slot.new.thread.kept.history c.change_or_split.new.thread.kept.history (LeftByPut c.copy_pair_slot.new.thread.kept c.args.pair z)) are c.change_or_split.ensures.stops))
+    let are = ap changes_view c.deref.ensures.value ∙ c.in_ok-changes.ensures ∙ ap (λ z. Delete c.args.id ∷ (removal_changes c.args.to.replaces (id_after_removal c.args.id c.args.to.id) ++ slot_creation_changes (id_after_removal c.args.id c.args.to.id) c.args.name.now z)) c.in_ok-copy.ensures.copied in
+    survives_here c.args.to.replaces c.args.thread.now.kept c.args.pair c.args.id c.args.to.id c.args.name.now rename c.commit_or_split.new.thread.kept.history
+    (stops_after_read c.args.thread.now.kept c.copy_pair_slot.new.thread.kept c.commit_or_split.new.thread.kept c.requires.can.can (renaming_changes c.args.to.replaces c.args.thread.now.kept c.args.pair c.args.id c.args.to.id c.args.name.now) c.copy_pair_slot.ensures.only c.commit_or_split.ensures.device
+    (subst (λ z. CleanLossLeaves c.copy_pair_slot.new.thread.kept.history c.commit_or_split.new.thread.kept.history (LeftByCommitOrSplit c.copy_pair_slot.new.thread.kept c.args.pair z)) are c.commit_or_split.ensures.stops))

@@ -1,4 +1,4 @@
-use Rattle.lfs_operations.proofs.Common.{ap, sym, subst, ◌∙◌, ◌-◌, Err, on_ok_weaker, err_from_is_err_and, Gstate, disk_tree, CleanLossLeaves, thread_pair, CanDropAt, IsPairDropped, LeftByDrop, tree_renamed, ReportsReadCommits, replace_directory_changes}
+use Rattle.lfs_operations.proofs.Common.{ap, sym, subst, ◌∙◌, ◌-◌, Err, on_ok_weaker, err_from_is_err_and, Gstate, disk_tree, CleanLossLeaves, thread_pair, CanDropAt, IsPairDropped, LeftByDrop, tree_with_entry_renamed, ReportsReadCommits, replace_directory_changes}
 use Rattle.lfs_operations.proofs.Putting.{survives_more}
 use Rattle.lfs_operations.proofs.AlteredOnto.{altered_within}
 use Rattle.lfs_operations.proofs.OntoReporting.{over_from, over_then}
@@ -46,7 +46,7 @@ returns-clause-device g c =
 pub returns-clause-survives : goal.returns-clause-survives
 returns-clause-survives g c rename =
     let t = c.args.thread.now.kept in
-    survives_more (disk_tree t.disk t.pairs) (tree_renamed t rename.over.can.path rename.over.can.name c.args.name.now) c.rename_over_directory.ensures.device c.drop_pair_at.ensures.device (c.rename_over_directory.ensures.survives rename.over)
+    survives_more (disk_tree t.disk t.pairs) (tree_with_entry_renamed t rename.over.can.path rename.over.can.name c.args.name.now) c.rename_over_directory.ensures.device c.drop_pair_at.ensures.device (c.rename_over_directory.ensures.survives rename.over)
     (left_within t c.args.pair c.args.id c.args.to.id c.args.name.now c.args.to.own_pair rename c.rename_over_directory.new.thread.kept (c.in_ok-rename_over_directory.ensures.renamed rename.over).changed)
     (subst (λ (s : Gstate). CleanLossLeaves c.rename_over_directory.new.thread.kept.history c.drop_pair_at.new.thread.kept.history (LeftByDrop c.rename_over_directory.new.thread.kept (c.args.to.own_pair - 1) s)) c.none.ensures c.drop_pair_at.ensures.stops)
 

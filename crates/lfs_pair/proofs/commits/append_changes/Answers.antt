@@ -1,4 +1,4 @@
-use Rattle.lfs_pair.proofs.Common.{SameExcept, block_bytes, AreUnprogrammed, address_blocks, encoded_size, aligned_end, IsCommitOffset, padded_commit_end, LogGetsCommit, LossLeavesCommit, disk_of_blocks, entries_of_changes, HoldsAtLosses-weaker, PartialCommit, header_address, commit_with_entries, KeepsFirstEntry, LossLeavesNew, changes_view, err_from_is_err_and}
+use Rattle.lfs_pair.proofs.Common.{SameExcept, block_bytes, AreUnprogrammed, address_blocks, encoded_size, aligned_commit_end, IsCommitOffset, padded_commit_end, LogGetsCommit, LossLeavesCommit, disk_of_blocks, entries_of_changes, HoldsAtLosses-weaker, PartialCommit, header_address, commit_with_entries, KeepsFirstEntry, LossLeavesNew, changes_view, err_from_is_err_and}
 use Rattle.lfs_pair.specs.Writing.{BlockGetsCommit}
 use Rattle.lfs_pair.proofs.Anew.{nothing_more}
 use Rattle.std.proofs.Common.{rules, ◌≡◌, ◌+◌, ◌%◌, ◌<◌, inl, Ok, refl, sym, ap, ap₂, ◌∙◌, subst, subst₂, arith, Some}
@@ -75,7 +75,7 @@ returns-clause-appends g c content pair made logged header =
     (subst (IsIn (disk_of_blocks (g.D.BlockDevice.geometry c.args.dev.now) (g.D.BlockDevice.blocks c.append_commit.new.dev)) (header_address c.args.pair.now) c.args.pair.now.active) (some_same new)
     (appended _ _ _ _ _ _ _ (g.D.BlockDevice.blocks c.append_commit.new.dev) ready others adds.commit)) in
     let gets = subst (λ (b : PartialCommit). LogGetsCommit b (block_bytes (g.D.BlockDevice.blocks c.args.dev.now) c.args.pair.now.active) (block_bytes (g.D.BlockDevice.blocks c.append_commit.new.dev) c.args.pair.now.active)) built adds.commit in
-    let ends = ap padded_commit_end built ∙ ap (aligned_end c.geometry-geometry.result.page) (nothing_more (encoded_size (entries_of_changes (changes_view c.args.changes.now)))) ∙ ap (λ (k : Geometry). aligned_end k.page (encoded_size (entries_of_changes (changes_view c.args.changes.now)))) c.geometry-geometry.ensures in
+    let ends = ap padded_commit_end built ∙ ap (aligned_commit_end c.geometry-geometry.result.page) (nothing_more (encoded_size (entries_of_changes (changes_view c.args.changes.now)))) ∙ ap (λ (k : Geometry). aligned_commit_end k.page (encoded_size (entries_of_changes (changes_view c.args.changes.now)))) c.geometry-geometry.ensures in
     record {
       holds = now_holds _ _ _ pair c.args.pair.now.active _ holds
           header.blocks header.active header.fetched

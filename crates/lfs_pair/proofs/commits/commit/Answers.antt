@@ -1,4 +1,4 @@
-use Rattle.lfs_pair.proofs.Common.{block_bytes, err_from_is_err_and, disk_of_blocks, changes_view, RawContentFits, content_view}
+use Rattle.lfs_pair.proofs.Common.{block_bytes, err_from_is_err_and, disk_of_blocks, changes_view, RawContentFitsInPair, content_view}
 use Rattle.lfs_pair.proofs.Erring.{reports_ok, reports_on}
 use Rattle.lfs_pair.proofs.Following.{same_error}
 use Rattle.std.proofs.Common.{subst, rules, Some, Err, inr, refl, sym, ap, ◌∙◌}
@@ -21,7 +21,7 @@ returns-then-not-content_fits-clause-ends g c = record {
   full = λ is.
       let made = made_here _ _ c.args.pair.now c.requires.can.held _ (changes_view c.args.changes.now) (Some (content_view c.in_ok-content.content)) c.requires.can.is_pair c.requires.holds c.in_ok-content.ensures.content in
       is_full (unread g.D.BlockDevice c.args.dev.now).device made c.in_ok-content.ensures.logged (λ fits.
-      let is = c.content_fits.ensures.1 (subst (λ (k : Geometry). RawContentFits k.block_size k.page (content_view c.in_ok-content.content)) (sym c.geometry-geometry.ensures) fits) in
+      let is = c.content_fits.ensures.1 (subst (λ (k : Geometry). RawContentFitsInPair k.block_size k.page (content_view c.in_ok-content.content)) (sym c.geometry-geometry.ensures) fits) in
       absurd (cc (c.if-not-content_fits.true, is)));
 }
 

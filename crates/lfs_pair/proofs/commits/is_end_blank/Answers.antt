@@ -1,6 +1,6 @@
 use Rattle.std.proofs.Common.{rules, ◌≡◌, ◌+◌, ◌-◌, ◌≤◌, ℕ, Bool, true, false, Ok, inl, inr, refl, sym, ap, ◌∙◌, subst, arith}
 use Rattle.lfs_device.specs.declared.geometry.Geometry.{Geometry}
-use Rattle.lfs_pair.proofs.Common.{AreUnprogrammed, blank_count, OnlyAsksBlank}
+use Rattle.lfs_pair.proofs.Common.{AreUnprogrammed, blank_answer_count, OnlyAsksBlank}
 use Rattle.lfs_model.proofs.Histories.{is_unprogrammed_byte-blank}
 use Rattle.lfs_pair.proofs.Changed.{active_below, ends_in_block}
 use Rattle.lfs_pair.proofs.commits.is_end_blank.Goals as goal
@@ -49,7 +49,7 @@ returns-clause-yes g c done =
     let size = ap (λ (k : Geometry). k.block_size) c.geometry-geometry.ensures in
     let ends = ends_in_block _ _ c.args.pair.now c.requires.pair.0 _ c.requires.pair.1 (shape.sizes c.args.pair.now.active below ∙ sym size) c.geometry-geometry.result.valid.no_smaller in
     record {
-      known = inr (let here = ap blank_count word in omega (arith, here));
+      known = inr (let here = ap blank_answer_count word in omega (arith, here));
       whole_pages = search rules;
       unprogrammed = subst (AreUnprogrammed (g.D.BlockDevice.history c.is_unprogrammed.new.self) c.args.pair.now.active c.args.pair.now.end)
           (whole c.args.pair.now.end c.geometry-geometry.result.block_size ends ∙ size) (is_unprogrammed_byte-blank word);

@@ -1,7 +1,7 @@
 use Rattle.std.proofs.Common.{rules, ◌≡◌, ◌+◌, ◌-◌, ◌^◌, ◌≤◌, ℕ, refl, sym, ap, ◌∙◌, inl, arith, subst}
 use Rattle.std.specs.Prelude.{min, take}
 use Rattle.lfs_device.specs.declared.geometry.Geometry.{Geometry}
-use Rattle.lfs_pair.proofs.Common.{block_bytes, overwritten_at, IsValidGeometry, AreUnprogrammed, blank_count, erase_count, program_count, read_count, padded_commit_end, LogGetsCommit, goes_on, HoldsAtLosses-read_count, LeftByLoss-read, AreUnprogrammed-read_count, blank_count-read_count, erase_count-read_count, program_count-read_count, SameExcept-refl}
+use Rattle.lfs_pair.proofs.Common.{block_bytes, overwritten_at, IsValidGeometry, AreUnprogrammed, blank_answer_count, erase_count, program_count, read_count, padded_commit_end, LogGetsCommit, goes_on, HoldsAtLosses-read_count, LeftByLoss-read, AreUnprogrammed-read_count, blank_answer_count-read_count, erase_count-read_count, program_count-read_count, SameExcept-refl}
 use Rattle.lfs_model.specs.format.Blocks.{programmed}
 use Rattle.lfs_model.proofs.Histories.{AreUnprogrammed-part, is_unprogrammed_byte-program}
 use Rattle.lfs_model.proofs.Overwrites.{block_bytes-programmed, take-overwritten}
@@ -104,5 +104,5 @@ returns-clause-programs g c =
     record {
       erases = let here = ap erase_count c.prog.ensures.history in let before = erase_count-read_count reads in omega arith;
       programs = let here = ap program_count c.prog.ensures.history in let before = program_count-read_count reads in omega arith;
-      blanks = let here = ap blank_count c.prog.ensures.history in let before = blank_count-read_count reads in omega arith;
+      blanks = let here = ap blank_answer_count c.prog.ensures.history in let before = blank_answer_count-read_count reads in omega arith;
     }

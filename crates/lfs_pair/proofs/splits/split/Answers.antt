@@ -1,5 +1,5 @@
 use Rattle.std.proofs.Common.{rules, arith, ◌∙◌, sym, subst, ◌+◌, ◌%◌, ◌^◌, Some, ap}
-use Rattle.lfs_pair.proofs.Common.{disk_of_blocks, address_view, goes_on_by, AllCallsSince-behind, HoldsAtLosses-weaker, header_address, changes_view, block_bytes, RawContent, has_commit, HasOneCommit, content_view, HeaderSaysActive, KeepsFirstEntry, LossLeavesNew, HasWrittenContent}
+use Rattle.lfs_pair.proofs.Common.{disk_of_blocks, address_of_array, goes_on_by, AllCallsSince-behind, HoldsAtLosses-weaker, header_address, changes_view, block_bytes, RawContent, has_commit, HasOneCommit, content_view, HeaderSaysActive, KeepsFirstEntry, LossLeavesNew, HasWrittenContent}
 use Rattle.lfs_pair.proofs.Erring.{reports_ok}
 use Rattle.lfs_pair.proofs.Calls.{only_trans, only_wider}
 use Rattle.lfs_pair.proofs.Changed.{content_made_here, is_active}
@@ -47,7 +47,7 @@ compact-requires g c =
 pub returns-in_err-fresh_pair-clause-device : goal.returns-in_err-fresh_pair-clause-device
 returns-in_err-fresh_pair-clause-device g c =
     record {
-      only = only_wider _ (among_second (header_address c.args.pair.now) (address_view c.args.fresh)) c.in_err-fresh_pair.ensures.writes.device;
+      only = only_wider _ (among_second (header_address c.args.pair.now) (address_of_array c.args.fresh)) c.in_err-fresh_pair.ensures.writes.device;
       few = let first = c.in_err-fresh_pair.ensures.writes.few in omega (arith, first);
     }
 
@@ -61,8 +61,8 @@ pub returns-in_err-compact-clause-device : goal.returns-in_err-compact-clause-de
 returns-in_err-compact-clause-device g c =
     let fresh = c.in_ok-fresh_pair.ensures in
     record {
-      only = only_trans (only_wider _ (among_second (header_address c.args.pair.now) (address_view c.args.fresh)) fresh.writes.device)
-          (only_wider _ (among_first (header_address c.args.pair.now) (address_view c.args.fresh)) c.in_err-compact.ensures.writes.device);
+      only = only_trans (only_wider _ (among_second (header_address c.args.pair.now) (address_of_array c.args.fresh)) fresh.writes.device)
+          (only_wider _ (among_first (header_address c.args.pair.now) (address_of_array c.args.fresh)) c.in_err-compact.ensures.writes.device);
       few = let first = fresh.writes.few in let second = c.in_err-compact.ensures.writes.few in omega (arith, first, second);
     }
 
@@ -80,8 +80,8 @@ pub returns-clause-device : goal.returns-clause-device
 returns-clause-device g c =
     let fresh = c.in_ok-fresh_pair.ensures in
     record {
-      only = only_trans (only_wider _ (among_second (header_address c.args.pair.now) (address_view c.args.fresh)) fresh.writes.device)
-          (only_wider _ (among_first (header_address c.args.pair.now) (address_view c.args.fresh)) c.in_ok-compact.ensures.writes.device);
+      only = only_trans (only_wider _ (among_second (header_address c.args.pair.now) (address_of_array c.args.fresh)) fresh.writes.device)
+          (only_wider _ (among_first (header_address c.args.pair.now) (address_of_array c.args.fresh)) c.in_ok-compact.ensures.writes.device);
       few = let first = fresh.writes.few in let second = c.in_ok-compact.ensures.writes.few in omega (arith, first, second);
     }
 
@@ -111,20 +111,20 @@ returns-clause-splits g c =
       cut = ready.parts.cut;
       is_cut = ready.parts.is_cut;
       front = subst (HasWrittenContent _ _ (header_address c.args.pair.now) c.compact.new.pair) ready.parts.front_is c.in_ok-compact.ensures.done.holds;
-      back = subst (HasWrittenContent _ _ (address_view c.args.fresh) c.in_ok-fresh_pair.fresh_pair) ready.parts.back_is
-          (subst (λ k. HasWrittenContent (disk_of_blocks k (g.D.BlockDevice.blocks c.compact.new.dev)) (g.D.BlockDevice.history c.compact.new.dev) (address_view c.args.fresh) c.in_ok-fresh_pair.fresh_pair (content_view c.in_ok-back.back)) (sym c.in_ok-compact.ensures.writes.device.geometry)
+      back = subst (HasWrittenContent _ _ (address_of_array c.args.fresh) c.in_ok-fresh_pair.fresh_pair) ready.parts.back_is
+          (subst (λ k. HasWrittenContent (disk_of_blocks k (g.D.BlockDevice.blocks c.compact.new.dev)) (g.D.BlockDevice.history c.compact.new.dev) (address_of_array c.args.fresh) c.in_ok-fresh_pair.fresh_pair (content_view c.in_ok-back.back)) (sym c.in_ok-compact.ensures.writes.device.geometry)
           (NowHolds-stays {disk = disk_of_blocks (g.D.BlockDevice.geometry c.write_fresh_pair.new.dev) (g.D.BlockDevice.blocks c.write_fresh_pair.new.dev)} (fresh_elsewhere ready.apart) c.in_ok-compact.ensures.writes.device.others c.in_ok-compact.ensures.writes.device.elsewhere fresh.holds));
       first = subst (λ k. KeepsFirstEntry (disk_of_blocks (g.D.BlockDevice.geometry c.args.dev.now) (g.D.BlockDevice.blocks c.args.dev.now)) (header_address c.args.pair.now) (Some k) (disk_of_blocks (g.D.BlockDevice.geometry c.compact.new.dev) (g.D.BlockDevice.blocks c.compact.new.dev))) ready.parts.front_is
-          (λ e h anew. c.in_ok-compact.ensures.done.first e (first_while_fresh (disk_of_blocks (g.D.BlockDevice.geometry c.args.dev.now) (g.D.BlockDevice.blocks c.args.dev.now)) (header_address c.args.pair.now) (address_view c.args.fresh) (g.D.BlockDevice.blocks c.write_fresh_pair.new.dev) ready.apart only.others e h) anew);
+          (λ e h anew. c.in_ok-compact.ensures.done.first e (first_while_fresh (disk_of_blocks (g.D.BlockDevice.geometry c.args.dev.now) (g.D.BlockDevice.blocks c.args.dev.now)) (header_address c.args.pair.now) (address_of_array c.args.fresh) (g.D.BlockDevice.blocks c.write_fresh_pair.new.dev) ready.apart only.others e h) anew);
       moved = c.in_ok-compact.ensures.done.compacted.active;
       kept = c.in_ok-compact.ensures.done.compacted.kept ∙ only.others.others c.args.pair.now.active (active_elsewhere (disk_of_blocks (g.D.BlockDevice.geometry c.args.dev.now) (g.D.BlockDevice.blocks c.args.dev.now)) c.args.pair.now.active (pair_elsewhere ready.apart) c.requires.can.commit.is_pair.active);
       front_anew = subst (λ (k : RawContent). HasOneCommit ((c.args.pair.now.revision + 1) % 2 ^ 32) k (block_bytes (g.D.BlockDevice.blocks c.compact.new.dev) c.compact.new.pair.active)) ready.parts.front_is c.in_ok-compact.ensures.done.compacted.anew.holds;
       back_fresh = record {
         active = fresh.fresh.active;
         revision_is = fresh.fresh.revision_is;
-        anew = subst (λ (k : RawContent). HasOneCommit 1 k (block_bytes (g.D.BlockDevice.blocks c.compact.new.dev) (address_view c.args.fresh).0)) ready.parts.back_is
-            (subst (HasOneCommit 1 (content_view c.in_ok-back.back)) (sym (c.in_ok-compact.ensures.writes.device.others.others (address_view c.args.fresh).0 (fresh_elsewhere ready.apart).first)) fresh.fresh.anew);
-        cleared = ap has_commit (c.in_ok-compact.ensures.writes.device.others.others (address_view c.args.fresh).1 (fresh_elsewhere ready.apart).second) ∙ fresh.fresh.cleared;
+        anew = subst (λ (k : RawContent). HasOneCommit 1 k (block_bytes (g.D.BlockDevice.blocks c.compact.new.dev) (address_of_array c.args.fresh).0)) ready.parts.back_is
+            (subst (HasOneCommit 1 (content_view c.in_ok-back.back)) (sym (c.in_ok-compact.ensures.writes.device.others.others (address_of_array c.args.fresh).0 (fresh_elsewhere ready.apart).first)) fresh.fresh.anew);
+        cleared = ap has_commit (c.in_ok-compact.ensures.writes.device.others.others (address_of_array c.args.fresh).1 (fresh_elsewhere ready.apart).second) ∙ fresh.fresh.cleared;
       };
       inside = cut_inside ready.parts.is_cut;
       clears = clears_more (HoldsAtLosses-worst only.at_worst) (HoldsAtLosses-worst c.in_ok-compact.ensures.writes.device.at_worst) fresh.clears c.in_ok-compact.ensures.done.compacted.anew;

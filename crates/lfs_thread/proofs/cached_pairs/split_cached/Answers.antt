@@ -1,6 +1,6 @@
 use Rattle.std.proofs.Common.{◌≡◌, ◌≢◌, ◌≤◌, ◌<◌, ◌+◌, ◌⊎◌, ℕ, inl, inr, arith, sym, ap, subst, ◌∙◌, refl}
 use Rattle.lfs_model.proofs.Cache.{cached_bytes-without_same}
-use Rattle.lfs_thread.proofs.Common.{IsCacheCurrent, block_bytes, block_count, cached_bytes, cached_bytes-without_other, disk_of_blocks, address_view, header_address, read_count, reads_unless_cached}
+use Rattle.lfs_thread.proofs.Common.{IsCacheCurrent, block_bytes, block_count, cached_bytes, cached_bytes-without_other, disk_of_blocks, address_of_array, header_address, read_count, reads_unless_cached}
 use Rattle.lfs_thread.proofs.BehindRead.{can_split_behind, fails_behind, faults_behind, only_read, reading_behind, split_left, split_stops_behind, splits_behind}
 use Rattle.lfs_thread.proofs.CachedLogs.{current_filled, IsUncached, current_without, current_split, if_ok, inactive_other, of_active, on_err, outside_both, uncached, uncached_filled, uncached_without}
 use Rattle.lfs_thread.proofs.CachedPair.{fill_reads}
@@ -36,7 +36,7 @@ pub returns-clause-splits : goal.returns-clause-splits
 returns-clause-splits g c =
     let read = c.in_ok-fill.ensures.reading.device in
     let at = header_address c.args.pair.now in
-    let fresh = address_view c.args.fresh in
+    let fresh = address_of_array c.args.fresh in
     let active = c.args.pair.now.active in
     let inactive = c.inactive_block.result in
     let can = c.requires.can in

@@ -1,4 +1,4 @@
-use Rattle.lfs_thread.proofs.Common.{err_from_is_err_and, option_map, disk_of_blocks, address_view, header_address, fetch_reads, IsThreadBeginning, disk_of_device, IsThreadViolation}
+use Rattle.lfs_thread.proofs.Common.{err_from_is_err_and, option_map, disk_of_blocks, address_of_array, header_address, fetch_reads, IsThreadBeginning, disk_of_device, IsThreadViolation}
 use Rattle.lfs_thread.specs.declared.mount_error.MountError.TheVariants.{NoMemory}
 use Rattle.std.proofs.Common.{◌≡◌, ◌+◌, ◌<◌, ◌∙◌, Err, [], ◌∷◌, length, refl, sym, ap, ap₂, subst, arith, rules, length-append}
 use Rattle.lfs_device.specs.declared.geometry.Geometry.{Geometry}
@@ -20,7 +20,7 @@ loop-init g c = record {
 pub returns-in-None-clause-kept : goal.returns-in-None-clause-kept
 returns-in-None-clause-kept g c =
     begun_kept _ _ _ _ (subst (IsThreadBeginning (disk_of_blocks (g.D.BlockDevice.geometry c.loop.device) (g.D.BlockDevice.blocks c.loop.device)) (g.D.BlockDevice.history c.loop.device) c.loop.pairs.items c.loop.map)
-    (ap (option_map address_view) c.in-None.is) c.loop.invariant.begun)
+    (ap (option_map address_of_array) c.in-None.is) c.loop.invariant.begun)
 
 pub returns-in-None-clause-marked : goal.returns-in-None-clause-marked
 returns-in-None-clause-marked g c = (c.loop.invariant.begun.marked, begun_none_in_flight _ _ _ _ _ c.loop.invariant.begun)
@@ -29,7 +29,7 @@ pub returns-in_err-pair-in-Some-clause-broken : goal.returns-in_err-pair-in-Some
 returns-in_err-pair-in-Some-clause-broken g c =
     let p = err_from_is_err_and c.from_residual.result c.from_residual.ensures.1 in
     let same : disk_of_device g.D.BlockDevice c.loop.device ≡ disk_of_device g.D.BlockDevice c.args.device.now = ap₂ disk_of_blocks c.loop.invariant.device.geometry c.loop.invariant.device.same in
-    let before = begun_before _ _ _ _ _ (address_view c.in-Some.at) (ap (option_map address_view) c.in-Some.is) c.loop.invariant.begun in
+    let before = begun_before _ _ _ _ _ (address_of_array c.in-Some.at) (ap (option_map address_of_array) c.in-Some.is) c.loop.invariant.begun in
     let broken = c.in_err-pair-in-Some.ensures.broken _ before in
     subst (λ r. IfErr r (IsThreadViolation (disk_of_device g.D.BlockDevice c.args.device.now))) (sym p.1)
     (subst (IsThreadViolation (disk_of_device g.D.BlockDevice c.args.device.now)) (sym p.2)
@@ -60,11 +60,11 @@ loop-preserved g c =
     let read = c.in_ok-pair-in-Some.ensures in
     let no_fault = read.reported.no_fault (λ e. absurd (cc)) in
     record {
-      begun = begun_next (disk_of_blocks (g.D.BlockDevice.geometry c.loop.device) (g.D.BlockDevice.blocks c.loop.device)) _ _ _ _ c.loop.pairs.items _ c.loop.map _ (option_map address_view c.loop.next) (address_view c.in-Some.at) c.in_ok-pair-in-Some.pair (option_map address_view c.tail_address-next.result)
-          (ap₂ disk_of_blocks read.reported.device.geometry read.reported.device.same) read.reported.device.reads (ap (option_map address_view) c.in-Some.is) c.loop.invariant.begun read.read.header read.read.address read.read.stands c.in_ok-push-in-Some.ensures.items read.read.marked c.tail_address-next.ensures;
+      begun = begun_next (disk_of_blocks (g.D.BlockDevice.geometry c.loop.device) (g.D.BlockDevice.blocks c.loop.device)) _ _ _ _ c.loop.pairs.items _ c.loop.map _ (option_map address_of_array c.loop.next) (address_of_array c.in-Some.at) c.in_ok-pair-in-Some.pair (option_map address_of_array c.tail_address-next.result)
+          (ap₂ disk_of_blocks read.reported.device.geometry read.reported.device.same) read.reported.device.reads (ap (option_map address_of_array) c.in-Some.is) c.loop.invariant.begun read.read.header read.read.address read.read.stands c.in_ok-push-in-Some.ensures.items read.read.marked c.tail_address-next.ensures;
       device = read_on c.loop.invariant.device read.reported.device;
       no_fault = no_fault ∙ c.loop.invariant.no_fault;
-      few = more_reads _ (disk_of_blocks (g.D.BlockDevice.geometry c.args.device.now) (g.D.BlockDevice.blocks c.args.device.now)) c.loop.pairs.items c.in_ok-pair-in-Some.pair _ (address_view c.in-Some.at) _ _ _
+      few = more_reads _ (disk_of_blocks (g.D.BlockDevice.geometry c.args.device.now) (g.D.BlockDevice.blocks c.args.device.now)) c.loop.pairs.items c.in_ok-pair-in-Some.pair _ (address_of_array c.in-Some.at) _ _ _
           (ap₂ disk_of_blocks c.loop.invariant.device.geometry c.loop.invariant.device.same) read.read.address c.in_ok-push-in-Some.ensures.items c.loop.invariant.few read.few;
       count = ap length c.in_ok-push-in-Some.ensures.items ∙ length-append c.loop.pairs.items (c.in_ok-pair-in-Some.pair ∷ []) ∙ ap (λ n. n + 1) c.loop.invariant.count;
     }

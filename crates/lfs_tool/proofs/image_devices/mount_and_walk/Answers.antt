@@ -1,6 +1,6 @@
 use Rattle.std.proofs.Common.{◌∙◌, Err, ap, subst, sym}
 use Rattle.lfs_device.specs.DeviceDisk.{disk_of_blocks as shown}
-use Rattle.lfs_tool.proofs.Common.{ordered_disk, Disk, fault_count, IsAccepted, IsMountError, AreWalkItems, ram_blocks, ram_geometry, tree_items_view}
+use Rattle.lfs_tool.proofs.Common.{disk_with_order, Disk, fault_count, IsAccepted, IsMountError, AreWalkItems, ram_blocks, ram_geometry, tree_items_view}
 use Rattle.lfs_model.specs.format.Thread.{count_before_root}
 use Rattle.lfs_tool.proofs.Mounts.{not_mounted, only_memory}
 use Rattle.lfs_tool.proofs.image_devices.mount_and_walk.Goals as goal
@@ -18,11 +18,11 @@ returns-in-Ok-walk_tree-clause-items c =
     let places = tree_items_view walked.items.items in
     let m = c.in-Ok.ensures.mounted.mounted in
     let e = walked.ensures in
-    let same = ap (λ (d : Disk). ordered_disk d.order disk) (sym e.reading.only.disk) in
+    let same = ap (λ (d : Disk). disk_with_order d.order disk) (sym e.reading.only.disk) in
     record {
       works = e.reading.works;
       disk_is = e.reading.only.disk ∙ m.disk_is ∙ same;
-      accepted = subst (λ d. IsAccepted d c.walk_tree.new.thread.kept.pairs) same (subst (IsAccepted (ordered_disk thread.kept.disk.order disk)) (sym e.reading.only.pairs) m.accepted);
+      accepted = subst (λ d. IsAccepted d c.walk_tree.new.thread.kept.pairs) same (subst (IsAccepted (disk_with_order thread.kept.disk.order disk)) (sym e.reading.only.pairs) m.accepted);
       walked = subst (λ d. AreWalkItems d c.walk_tree.new.thread.kept.pairs places) (m.disk_is ∙ same) (subst (λ ps. AreWalkItems thread.kept.disk ps places) (sym e.reading.only.pairs) e.walked);
     }
 

@@ -1,6 +1,6 @@
 use Rattle.std.proofs.Common.{subst}
 use Rattle.std.proofs.lemmas.Result.{IfOk-weaker}
-use Rattle.lfs_tool.specs.Unpackings.{IsMountedStill}
+use Rattle.lfs_tool.specs.Unpackings.{IsStillMounted}
 use Rattle.lfs_tool.proofs.Common.{IfErr-weaker, on_ok_weaker, ram_blocks, ram_geometry, Disk}
 use Rattle.lfs_device.specs.DeviceDisk.{disk_of_blocks as shown}
 use Rattle.lfs_device.specs.declared.ram.RamDevice.{RamDevice}
@@ -23,4 +23,4 @@ returns-in-Ok-clause-failed g c =
 
 pub returns-in-Ok-clause-mounted : goal.returns-in-Ok-clause-mounted
 returns-in-Ok-clause-mounted g c =
-    IfOk-weaker c.unpack_ram_device.result _ _ (λ image still. subst (λ (d : Disk). IsMountedStill d image) c.in-Ok.ensures.disk still) c.unpack_ram_device.ensures.mounted
+    IfOk-weaker c.unpack_ram_device.result _ _ (λ image still. subst (λ (d : Disk). IsStillMounted d image) c.in-Ok.ensures.disk still) c.unpack_ram_device.ensures.mounted

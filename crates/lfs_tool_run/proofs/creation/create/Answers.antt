@@ -1,5 +1,5 @@
 use Rattle.std.proofs.Common.{◌≡◌, ◌∙◌, refl, subst, sym}
-use Rattle.lfs_tool_run.proofs.Common.{IfOk-weaker, ram_bytes, RefusesEntries}
+use Rattle.lfs_tool_run.proofs.Common.{IfOk-weaker, ram_bytes, IsFirstEntriesRefusal}
 use Rattle.lfs_tool.proofs.Writers.{reports_written}
 use Rattle.lfs_tool_run.proofs.ImagesMade.{made, passed}
 use Rattle.lfs_tool_run.proofs.Walking.{carry_over}
@@ -24,4 +24,4 @@ returns-in-Ok-clause-beginning g c = λ _.
 pub returns-in-Err-clause-refused : goal.returns-in-Err-clause-refused
 returns-in-Err-clause-refused g c = λ e is not_memory.
     let error : c.in-Err.error ≡ e = cc in
-    subst (RefusesEntries c.args.geometry c.args.order c.args.entries.now) error (c.in-Err.ensures.err (λ x. not_memory (sym error ∙ x)))
+    subst (IsFirstEntriesRefusal c.args.geometry c.args.order c.args.entries.now) error (c.in-Err.ensures.err (λ x. not_memory (sym error ∙ x)))

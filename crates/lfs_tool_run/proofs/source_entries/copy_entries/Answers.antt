@@ -1,5 +1,5 @@
 use Rattle.std.proofs.Common.{◌∙◌, ap, subst, sym, take}
-use Rattle.lfs_tool_run.proofs.Common.{fault_count, system_state, AreApplied, RunsToError, entry_operations}
+use Rattle.lfs_tool_run.proofs.Common.{fault_count, system_state, AreApplied, AppliesUpToError, entry_operations}
 use Rattle.lfs_tool.specs.declared.entries.SourceEntry.{SourceEntry}
 use Rattle.lfs_tool_run.proofs.Refusing.{first_refused, no_file}
 use Rattle.lfs_tool_run.proofs.Runs.{entry_more}
@@ -13,7 +13,7 @@ pub returns-in-Err-clause-refused : goal.returns-in-Err-clause-refused
 returns-in-Err-clause-refused g c =
     first_refused c.in-Err.error c.args.entries.now c.loop-entry.entry-index c.entry-item.result (system_state c.args.session.now) (system_state c.loop-entry.session) (system_state c.copy_entry.new.session) c.loop-entry-test.true
     c.loop-entry.invariant
-    (subst (λ (e : SourceEntry). RunsToError c.in-Err.error (system_state c.loop-entry.session) (entry_operations e) (system_state c.copy_entry.new.session)) c.entry-item.is c.in-Err.ensures)
+    (subst (λ (e : SourceEntry). AppliesUpToError c.in-Err.error (system_state c.loop-entry.session) (entry_operations e) (system_state c.copy_entry.new.session)) c.entry-item.is c.in-Err.ensures)
     (ap fault_count (sym c.device-device.ensures.history) ∙ c.device-device.result.now.no_fault)
 
 pub loop-entry-preserved : goal.loop-entry-preserved

@@ -1,5 +1,5 @@
 use Rattle.std.proofs.Common.{ap, map, subst, ◌∙◌}
-use Rattle.lfs_tree.proofs.Common.{last_name, LeadsToResult}
+use Rattle.lfs_tree.proofs.Common.{last_name, IsResultOfPath}
 use Rattle.lfs_lookup.proofs.Roots.{root_leads}
 use Rattle.lfs_tree.proofs.entries_at.find_at_path.Goals as goal
 
@@ -11,4 +11,4 @@ returns-clause-target g c =
     let t = c.args.thread.now.kept in
     let first = ap (map (λ name. name.now)) c.deref.ensures.value ∙ c.in_ok-names.ensures in
     let second = ap (map (λ name. name.now)) c.deref-2.ensures.value ∙ c.in_ok-names.ensures in
-    record { leads = subst (λ p. LeadsToResult t p c.in_ok-found.found) first c.in_ok-found.ensures.answer; named = c.last_name_of.ensures ∙ ap last_name second }
+    record { leads = subst (λ p. IsResultOfPath t p c.in_ok-found.found) first c.in_ok-found.ensures.answer; named = c.last_name_of.ensures ∙ ap last_name second }

@@ -1,5 +1,5 @@
 use Rattle.std.proofs.Common.{[], ap, sym, subst, ◌∙◌}
-use Rattle.lfs_tree.proofs.Common.{kept_in_order, ChangesThreadBlocks, anchor_address, address_blocks, IsFormatted}
+use Rattle.lfs_tree.proofs.Common.{kept_in_order, ChangesThreadBlocks, superblock_pair_address, address_blocks, IsFreshlyFormatted}
 use Rattle.lfs_tree.proofs.Formatted.{shows_empty, empty_formatted, empty_kept, wrote}
 use Rattle.lfs_tree.proofs.formats.format.Goals as goal
 
@@ -9,9 +9,9 @@ from_parts-requires-clause-kept g c =
     ((g.met.D.BlockDevice.shape c.write_root_thread.new.device).count ∙ ap (λ k. k.block_count) (c.in-Ok-write_root_thread.ensures.device.geometry ∙ sym c.geometry-block_count.ensures))
     c.in-Ok-write_root_thread.ensures.root c.in-Ok.ensures.map
 
-is_formatted : (g : _) (c : goal.After-from_parts g) → IsFormatted c.from_parts.result.kept
+is_formatted : (g : _) (c : goal.After-from_parts g) → IsFreshlyFormatted c.from_parts.result.kept
 is_formatted g c =
-    subst IsFormatted (sym c.from_parts.ensures.kept)
+    subst IsFreshlyFormatted (sym c.from_parts.ensures.kept)
     (empty_formatted c.args.order _ _ _ _ c.geometry-block_count.result.block_count
     ((g.met.D.BlockDevice.shape c.write_root_thread.new.device).count ∙ ap (λ k. k.block_count) (c.in-Ok-write_root_thread.ensures.device.geometry ∙ sym c.geometry-block_count.ensures))
     c.in-Ok-write_root_thread.ensures.root c.in-Ok.ensures.map)
@@ -24,5 +24,5 @@ returns-in-Ok-write_root_thread-clause-shows g c = shows_empty c.from_parts.resu
 
 pub returns-in-Ok-write_root_thread-clause-writes : goal.returns-in-Ok-write_root_thread-clause-writes
 returns-in-Ok-write_root_thread-clause-writes g c =
-    subst (ChangesThreadBlocks (address_blocks anchor_address) (kept_in_order g.D.BlockDevice c.args.order c.args.device [] [])) (sym c.from_parts.ensures.kept)
-    (wrote g.D.BlockDevice c.args.order _ _ (address_blocks anchor_address) c.in-Ok-write_root_thread.ensures.device)
+    subst (ChangesThreadBlocks (address_blocks superblock_pair_address) (kept_in_order g.D.BlockDevice c.args.order c.args.device [] [])) (sym c.from_parts.ensures.kept)
+    (wrote g.D.BlockDevice c.args.order _ _ (address_blocks superblock_pair_address) c.in-Ok-write_root_thread.ensures.device)

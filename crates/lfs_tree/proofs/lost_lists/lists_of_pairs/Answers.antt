@@ -1,5 +1,5 @@
 use Rattle.std.proofs.Common.{◌<◌, ◌∙◌, ◌++◌, List, ap, length, slice_index_or, subst, sym, take}
-use Rattle.lfs_tree.proofs.Common.{err_from_is_err_and, Pair, numbered_slots, empty_anchor, slots_lists, answered, both, further, passed}
+use Rattle.lfs_tree.proofs.Common.{err_from_is_err_and, Pair, slots_of_pairs_at, empty_anchor, slots_lists, answered, both, further, passed}
 use Rattle.lfs_tree.proofs.LostLists.{named_more}
 use Rattle.lfs_tree.proofs.Recovered.{numbers_below}
 use Rattle.lfs_tree.proofs.lost_lists.lists_of_pairs.Goals as goal
@@ -21,7 +21,7 @@ loop-number-preserved g c =
     let number = slice_index_or c.args.numbers.now c.loop-number.number-index 0 in
     record {
       lists = c.in_ok-push_pair_lists.ensures.lists ∙ ap (λ z. z ++ slots_lists (slice_index_or c.loop-number.thread.kept.pairs number empty_anchor).content.slots) inv.lists
-          ∙ ap (λ (ps : List Pair). slots_lists (numbered_slots c.args.thread.now.kept.pairs (take c.loop-number.number-index c.args.numbers.now)) ++ slots_lists (slice_index_or ps number empty_anchor).content.slots) inv.read.only.pairs
+          ∙ ap (λ (ps : List Pair). slots_lists (slots_of_pairs_at c.args.thread.now.kept.pairs (take c.loop-number.number-index c.args.numbers.now)) ++ slots_lists (slice_index_or ps number empty_anchor).content.slots) inv.read.only.pairs
           ∙ named_more c.args.thread.now.kept.pairs numbers c.loop-number.number-index c.loop-number-test.true;
       read = both _ _ _ inv.read (answered _ _ c.push_pair_lists.result c.in_ok-push_pair_lists.field-0 c.in_ok-push_pair_lists.was c.push_pair_lists.ensures.reading);
     }

@@ -1,5 +1,5 @@
 use Rattle.std.proofs.Common.{ℕ, List, ◌∙◌, ap₂, subst, subst₂, sym, rules}
-use Rattle.lfs_tree.proofs.Common.{err_from_is_err_and, Pair, AreUnreachedNumbers, CanDropPairs, numbered_slots, slots_lists, only_read, answered, both, further}
+use Rattle.lfs_tree.proofs.Common.{err_from_is_err_and, Pair, AreUnreachedNumbers, CanDropPairs, slots_of_pairs_at, slots_lists, only_read, answered, both, further}
 use Rattle.lfs_tree.proofs.ReportedFaults.{called_by_reading}
 use Rattle.lfs_tree.proofs.Recovered.{called_then, called_writing, can_drop, drop_survives, dropped, read_survives, reports_given, reports_reading, reports_then}
 use Rattle.lfs_tree.proofs.lost_recovery.drop_unreached_directories.Goals as goal
@@ -45,7 +45,7 @@ drop_with_lists-requires-clause-can g c =
 pub drop_with_lists-requires-clause-lists : goal.drop_with_lists-requires-clause-lists
 drop_with_lists-requires-clause-lists g c =
     c.deref-3.ensures.value ∙ c.in_ok-lists.ensures.lists
-    ∙ ap₂ (λ (ps : List Pair) (numbers : List ℕ). slots_lists (numbered_slots ps numbers)) (sym c.lists_of_pairs.ensures.reading.only.pairs) (c.deref.ensures.value ∙ sym c.deref-2.ensures.value)
+    ∙ ap₂ (λ (ps : List Pair) (numbers : List ℕ). slots_lists (slots_of_pairs_at ps numbers)) (sym c.lists_of_pairs.ensures.reading.only.pairs) (c.deref.ensures.value ∙ sym c.deref-2.ensures.value)
 
 pub returns-in_err-drop_with_lists-clause-called : goal.returns-in_err-drop_with_lists-clause-called
 returns-in_err-drop_with_lists-clause-called g c =

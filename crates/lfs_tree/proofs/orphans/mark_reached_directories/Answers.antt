@@ -1,5 +1,5 @@
 use Rattle.std.proofs.Common.{◌≡◌, ◌<◌, ◌∙◌, ◌++◌, ◌∷◌, ◌-◌, [], Err, List, Some, ap, arith, false, length, length-append, refl, subst, subst₂, sym, take}
-use Rattle.lfs_tree.proofs.Common.{length-replicate, slice_get_within, err_from_is_err_and, Disk, Pair, pairs_gstate, IsAccepted, items_view, pair_entries_from, DirectoriesBegin, MarksAndQueues, IsNamedPair, answered, answers, begun, both, further, lacks_memory, passed, root_begins}
+use Rattle.lfs_tree.proofs.Common.{length-replicate, slice_get_within, err_from_is_err_and, Disk, Pair, pairs_gstate, IsAccepted, items_view, directory_entries_from, DirectoriesBegin, MarksAndQueues, IsFirstPairOfNamed, answered, answers, begun, both, further, lacks_memory, passed, root_begins}
 use Rattle.lfs_tree.proofs.Reached.{IsMarking, first_begin, marked_within, marking_begun, marking_on, next_marked, reach_marks}
 use Rattle.lfs_tree.proofs.orphans.mark_reached_directories.Goals as goal
 
@@ -51,7 +51,7 @@ mark_directories-requires-clause-begin g c =
     let ps = c.args.thread.now.kept.pairs in
     let read = both _ _ _ inv.read (answered _ _ c.directory_items.result c.in_ok-items.items c.in_ok-items.was c.directory_items.ensures.reading) in
     subst (λ (qs : List Pair). DirectoriesBegin qs (items_view c.in_ok-items.items.items)) (sym read.only.pairs)
-    (subst (DirectoriesBegin ps) (sym (c.in_ok-items.ensures.items ∙ ap (λ (qs : List Pair). pair_entries_from qs (Some c.in-Some.first)) inv.read.only.pairs))
+    (subst (DirectoriesBegin ps) (sym (c.in_ok-items.ensures.items ∙ ap (λ (qs : List Pair). directory_entries_from qs (Some c.in-Some.first)) inv.read.only.pairs))
     (first_begin c.args.thread.now.kept.disk ps c.requires.accepted c.loop-first.marks.items c.loop-first.pending.items c.pop.new.self.items c.in-Some.first c.in-Some.ensures.items inv.marking))
 
 pub mark_directories-requires-clause-len : goal.mark_directories-requires-clause-len
@@ -72,13 +72,13 @@ loop-first-preserved g c =
     let inv = c.loop-first.invariant in
     let ps = c.args.thread.now.kept.pairs in
     let read = both _ _ _ inv.read (answered _ _ c.directory_items.result c.in_ok-items.items c.in_ok-items.was c.directory_items.ensures.reading) in
-    let shapes = c.in_ok-items.ensures.items ∙ ap (λ (qs : List Pair). pair_entries_from qs (Some c.in-Some.first)) inv.read.only.pairs in
+    let shapes = c.in_ok-items.ensures.items ∙ ap (λ (qs : List Pair). directory_entries_from qs (Some c.in-Some.first)) inv.read.only.pairs in
     record {
       read = read;
       marking = marking_on c.args.thread.now.kept.disk ps c.requires.accepted c.loop-first.marks.items c.loop-first.pending.items c.pop.new.self.items c.in-Some.first c.in-Some.ensures.items inv.marking
           c.mark_directories.new.marks.items c.mark_directories.new.pending.items
-          (subst (λ s. MarksAndQueues (IsNamedPair ps s) c.loop-first.marks.items c.pop.new.self.items c.mark_directories.new.marks.items c.mark_directories.new.pending.items) shapes
-          (subst (λ (qs : List Pair). MarksAndQueues (IsNamedPair qs (items_view c.in_ok-items.items.items)) c.loop-first.marks.items c.pop.new.self.items c.mark_directories.new.marks.items c.mark_directories.new.pending.items) read.only.pairs c.in_ok-mark_directories.ensures));
+          (subst (λ s. MarksAndQueues (IsFirstPairOfNamed ps s) c.loop-first.marks.items c.pop.new.self.items c.mark_directories.new.marks.items c.mark_directories.new.pending.items) shapes
+          (subst (λ (qs : List Pair). MarksAndQueues (IsFirstPairOfNamed qs (items_view c.in_ok-items.items.items)) c.loop-first.marks.items c.pop.new.self.items c.mark_directories.new.marks.items c.mark_directories.new.pending.items) read.only.pairs c.in_ok-mark_directories.ensures));
     }
 
 pub returns-in_err-mark_directories-clause-reading : goal.returns-in_err-mark_directories-clause-reading

@@ -1,6 +1,6 @@
 use Rattle.std.proofs.Common.{◌≡◌, ◌<◌, ◌⊎◌, inl, inr, List, sym, ap, subst, subst₂, ◌∙◌}
 use Rattle.lfs_device.specs.declared.error.Error.TheVariants.{Io, NoMemory, Corrupt}
-use Rattle.lfs_tree.proofs.Common.{Disk, ordered_disk, CallEvent, fault_count, Pair, IsAccepted, KeptThread, IsMountedTree}
+use Rattle.lfs_tree.proofs.Common.{Disk, disk_with_order, CallEvent, fault_count, Pair, IsAccepted, KeptThread, IsMountedTree}
 use Rattle.lfs_model.specs.declared.order.NameOrder.{NameOrder}
 use Rattle.lfs_model.specs.declared.order.NameOrder.TheVariants.{LongerFirst}
 use Rattle.lfs_mount.specs.MountFaults.{MountMayReport}
@@ -16,8 +16,8 @@ same_tree g c = ap (λ (t : ThreadView). thread_state t c.tree-in-Ok.inside.is_w
 
 pub returns-in-Ok-clause-mounted : goal.returns-in-Ok-clause-mounted
 returns-in-Ok-clause-mounted g c = subst (IsRemountedTree c.args.tree) (sym (same_tree g c)) (record {
-  mounted = subst₂ (λ (disk : Disk) (history : List CallEvent). IsMountedTree disk history c.in-Ok.tree) (ap (ordered_disk c.in-Ok.tree.disk.order) c.into_device.ensures.disk) c.into_device.ensures.history c.in-Ok.ensures.mounted;
-  longer = λ shorter ps a. c.in-Ok.ensures.longer shorter ps (subst (λ (disk : Disk). IsAccepted disk ps) (sym (ap (ordered_disk LongerFirst) c.into_device.ensures.disk)) a);
+  mounted = subst₂ (λ (disk : Disk) (history : List CallEvent). IsMountedTree disk history c.in-Ok.tree) (ap (disk_with_order c.in-Ok.tree.disk.order) c.into_device.ensures.disk) c.into_device.ensures.history c.in-Ok.ensures.mounted;
+  longer = λ shorter ps a. c.in-Ok.ensures.longer shorter ps (subst (λ (disk : Disk). IsAccepted disk ps) (sym (ap (disk_with_order LongerFirst) c.into_device.ensures.disk)) a);
 })
 
 pub returns-in-Ok-clause-goes_on : goal.returns-in-Ok-clause-goes_on
@@ -34,7 +34,7 @@ returns-in-Err-clause-errors g c = record {
     here : c.failed_thread-thread.result.kept.history ≡ g.D.BlockDevice.history c.in-Err.device
     here = ap (λ (kept : KeptThread). kept.history) c.failed_thread-thread.ensures.kept
 
-    go : MountMayReport c.in-Err.error → (c.in-Err.error ≡ Io) ⊎ ((c.in-Err.error ≡ NoMemory) ⊎ ((c.in-Err.error ≡ Corrupt) × ((order : NameOrder) (ps : List Pair) → IsAccepted (ordered_disk order c.args.tree.disk) ps → ⊥)))
+    go : MountMayReport c.in-Err.error → (c.in-Err.error ≡ Io) ⊎ ((c.in-Err.error ≡ NoMemory) ⊎ ((c.in-Err.error ≡ Corrupt) × ((order : NameOrder) (ps : List Pair) → IsAccepted (disk_with_order order c.args.tree.disk) ps → ⊥)))
     go (inl is) = inl is
     go (inr (inr is)) = inr (inl is)
-    go (inr (inl is)) = inr (inr (is, λ order ps a. c.in-Err.ensures.corrupt is order ps (subst (λ (disk : Disk). IsAccepted disk ps) (sym (ap (ordered_disk order) c.into_device.ensures.disk)) a)))
+    go (inr (inl is)) = inr (inr (is, λ order ps a. c.in-Err.ensures.corrupt is order ps (subst (λ (disk : Disk). IsAccepted disk ps) (sym (ap (disk_with_order order) c.into_device.ensures.disk)) a)))

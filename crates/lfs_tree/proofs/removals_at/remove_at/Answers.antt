@@ -1,5 +1,5 @@
 use Rattle.std.proofs.Common.{subst, sym}
-use Rattle.lfs_tree.proofs.Common.{err_from_is_err_and, tree_removing, disk_tree, WritesThreadFree, SurvivesEither, CanRemoveFound, HasRemovedEntry, SparesInRemoval, answered, passed}
+use Rattle.lfs_tree.proofs.Common.{err_from_is_err_and, tree_removing, disk_tree, WritesThreadAndFree, PowerLossLeavesEither, CanRemoveFound, HasRemovedEntry, RemovalKeepsUnrelatedBlocks, answered, passed}
 use Rattle.lfs_tree.proofs.Carried.{read_is}
 use Rattle.lfs_tree.proofs.CarryFreed.{ok_then}
 use Rattle.lfs_tree.proofs.CarryGone.{can_go, entry_on, entry_to_remove, remove_does}
@@ -42,7 +42,7 @@ returns g c =
     let e = c.remove_found_entry.ensures in
     let old = subst (λ k. CanRemoveFound k path found) (sym is) can in
     let gone = ok_then c.remove_found_entry.result _ _ (λ h. subst (λ k. HasRemovedEntry k path new.kept) is (h path old)) e.gone in
-    let spared = ok_then c.remove_found_entry.result _ _ (λ h. subst (λ k. SparesInRemoval k path new.kept) is (h path old)) e.alone in
-    remove_does t c.args.root c.requires.rests path mid.kept.history new read.only.reads (subst (λ k. WritesThreadFree k new.kept) is e.device) c.remove_found_entry.result c.lemma_path_bytes.ensures.0 c.lemma_path_bytes.ensures.1
+    let spared = ok_then c.remove_found_entry.result _ _ (λ h. subst (λ k. RemovalKeepsUnrelatedBlocks k path new.kept) is (h path old)) e.alone in
+    remove_does t c.args.root c.requires.rests path mid.kept.history new read.only.reads (subst (λ k. WritesThreadAndFree k new.kept) is e.device) c.remove_found_entry.result c.lemma_path_bytes.ensures.0 c.lemma_path_bytes.ensures.1
     read.same gone spared (record { errors = e.errors.errors; fault = e.errors.fault; no_fault = e.errors.no_fault }) (works_reported new c.remove_found_entry.result e.errors.failed)
-    (subst (λ k. SurvivesEither k new.kept (tree_removing path (disk_tree k.disk k.pairs))) is (e.survives path old))
+    (subst (λ k. PowerLossLeavesEither k new.kept (tree_removing path (disk_tree k.disk k.pairs))) is (e.survives path old))

@@ -1,5 +1,5 @@
 use Rattle.std.proofs.Common.{subst}
-use Rattle.lfs_tree.proofs.Common.{Path, ArePairsBeforeTouched, CanRemoveDirectory, IsDirectoryRemoved, CanRemoveFound, CanRemoveFile, HasRemovedEntry, SparesInRemoval}
+use Rattle.lfs_tree.proofs.Common.{Path, ArePredecessorsChangedOrDropped, CanRemoveDirectory, IsDirectoryRemoved, CanRemoveFound, CanRemoveFile, HasRemovedEntry, RemovalKeepsUnrelatedBlocks}
 use Rattle.lfs_tree.proofs.CarryFreed.{ok_then}
 use Rattle.lfs_tree.proofs.CarryGone.{directory_gone, directory_writes, removal_survives}
 use Rattle.lfs_tree.proofs.CarrySpared.{directory_spares}
@@ -41,7 +41,7 @@ returns-in-File-clause-alone g c =
     let t = c.args.thread.now.kept in
     let new = c.remove_with_list.new.thread.kept in
     let f = c.in-File in
-    ok_then c.remove_with_list.result ((path : Path) → CanRemoveFile t path f.parent f.slot f.contents → SparesInRemoval t path new) ((path : Path) → CanRemoveFound t path c.args.found → SparesInRemoval t path new)
+    ok_then c.remove_with_list.result ((path : Path) → CanRemoveFile t path f.parent f.slot f.contents → RemovalKeepsUnrelatedBlocks t path new) ((path : Path) → CanRemoveFound t path c.args.found → RemovalKeepsUnrelatedBlocks t path new)
     (λ gives path can. gives path (subst (λ k. CanRemoveFound t path k) c.in-File.is can)) c.remove_with_list.ensures.alone
 
 pub returns-in-Directory-clause-alone : goal.returns-in-Directory-clause-alone
@@ -49,5 +49,5 @@ returns-in-Directory-clause-alone g c =
     let t = c.args.thread.now.kept in
     let new = c.remove_directory.new.thread.kept in
     let f = c.in-Directory in
-    ok_then c.remove_directory.result (ArePairsBeforeTouched t f.slot.pair f.parent f.first new) ((path : Path) → CanRemoveFound t path c.args.found → SparesInRemoval t path new)
+    ok_then c.remove_directory.result (ArePredecessorsChangedOrDropped t f.slot.pair f.parent f.first new) ((path : Path) → CanRemoveFound t path c.args.found → RemovalKeepsUnrelatedBlocks t path new)
     (λ alters path can. let k = subst (λ k. CanRemoveFound t path k) c.in-Directory.is can in directory_spares t new path f.slot.pair f.slot.id f.parent f.first k.take k.is alters c.remove_directory.ensures.device) c.remove_directory.ensures.alters

@@ -1,6 +1,6 @@
 use Rattle.std.proofs.Common.{◌≡◌, List, sym, subst}
 use Rattle.lfs_model.specs.declared.order.NameOrder.TheVariants.{LongerFirst, ShorterFirst}
-use Rattle.lfs_model.specs.format.Disk.{ordered_disk}
+use Rattle.lfs_model.specs.format.Disk.{disk_with_order}
 use Rattle.lfs_model.specs.format.Thread.{Pair}
 use Rattle.lfs_model.specs.tree.View.{IsAccepted}
 use Rattle.lfs_thread.specs.Kept.{disk_of_device}
@@ -12,4 +12,4 @@ begin-requires g c = c.in-Ok.ensures.begun.no_files
 
 pub returns-in-Ok-clause-longer : goal.returns-in-Ok-clause-longer
 returns-in-Ok-clause-longer g c =
-    subst (λ (v : VolumeView). v.session.tree.disk.order ≡ ShorterFirst → (ps : List Pair) → IsAccepted (ordered_disk LongerFirst (disk_of_device g.D.BlockDevice c.args.device)) ps → ⊥) (sym c.begin.ensures) c.in-Ok.ensures.longer
+    subst (λ (v : VolumeView). v.session.tree.disk.order ≡ ShorterFirst → (ps : List Pair) → IsAccepted (disk_with_order LongerFirst (disk_of_device g.D.BlockDevice c.args.device)) ps → ⊥) (sym c.begin.ensures) c.in-Ok.ensures.longer

@@ -3,12 +3,12 @@ use Rattle.std.proofs.Common.{ℕ, List, Option, None, Some, ap, length, subst, 
 use Rattle.std.specs.Prelude.{IfSome}
 use Rattle.lfs_device.specs.RamDevice.{ram_history}
 use Rattle.lfs_model.specs.session.History.{DeviceCall, CallEvent}
-use Rattle.littlefs_c.specs.ChangeLog.{AreNoted, history_writes}
+use Rattle.littlefs_c.specs.ChangeLog.{AreRecordedChanges, history_writes}
 use Rattle.littlefs_c.specs.Fetches.{IsNextChange}
 use Rattle.littlefs_c.specs.declared.notes.Change.{Change}
 use Rattle.littlefs_c.proofs.changes.next_change_number.Goals as goal
 
-at_calls : (first : ℕ) (kept : List Change) (calls : List DeviceCall) (o : Option ℕ) → AreNoted first kept calls → IfSome o (λ n. (cs : List DeviceCall) → AreNoted first kept cs → n ≡ length cs) → IsNextChange calls o
+at_calls : (first : ℕ) (kept : List Change) (calls : List DeviceCall) (o : Option ℕ) → AreRecordedChanges first kept calls → IfSome o (λ n. (cs : List DeviceCall) → AreRecordedChanges first kept cs → n ≡ length cs) → IsNextChange calls o
 at_calls first kept calls None noted is = tt
 at_calls first kept calls (Some n) noted is = is calls noted
 

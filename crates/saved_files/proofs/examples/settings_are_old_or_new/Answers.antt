@@ -1,6 +1,6 @@
 use Rattle.std.proofs.Common.{inl, inr, [], ◌∷◌, Some, None, refl}
 use Rattle.std.specs.Prelude.{codes}
-use Rattle.saved_files.specs.Settings.{IsEither, IsOneOf}
+use Rattle.saved_files.specs.Settings.{IsEither, IsOneOfSettings}
 use Rattle.saved_files.proofs.examples.settings_are_old_or_new.Goals as goal
 
 pub returns-clause-either : goal.returns-clause-either
@@ -16,7 +16,7 @@ returns-clause-part c = neither
 pub returns-clause-one : goal.returns-clause-one
 returns-clause-one c = inr (inl refl)
 
-no_other : IsOneOf (codes "a" ∷ []) None → ⊥
+no_other : IsOneOfSettings (codes "a" ∷ []) None → ⊥
 no_other (inl e) = absurd (cc)
 no_other (inr none) = none
 

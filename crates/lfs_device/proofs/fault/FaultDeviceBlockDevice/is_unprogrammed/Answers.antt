@@ -1,7 +1,7 @@
 use Rattle.std.proofs.Common.{rules, ◌≡◌, ◌∙◌, ◌-◌, ◌^◌, ◌∷◌, true, false, min, is_none, None, sym, ap, subst}
 use Rattle.lfs_model.specs.session.History.{call_event}
 use Rattle.lfs_model.specs.session.History.DeviceCall.{Blank}
-use Rattle.lfs_device.specs.Fault.{extent_if_due, numbered_extent}
+use Rattle.lfs_device.specs.Fault.{extent_if_planned, nth_call_extent}
 use Rattle.lfs_device.proofs.Questions.{HasPassed, answered_history, below_still, conforms_still, counts_stay, due_failed_still, has_passed, newest_stays, not_due, premises_still, undue_faults_still}
 use Rattle.lfs_device.proofs.fault.FaultDeviceBlockDevice.is_unprogrammed.Goals as goal
 
@@ -14,10 +14,10 @@ passed : (g : _) (c : goal.After-with_ghost_history-self g) → HasPassed g.D.Bl
 passed g c = subst (λ h. HasPassed g.D.BlockDevice (Blank c.args.block c.args.off c.args.len) c.args.self.now.trace.events h c.args.self.now.inner c.is_unprogrammed-answer.new.self) (sym (events g c))
     (has_passed g.D.BlockDevice c.args.block c.args.off c.args.len c.args.self.now.trace.events c.args.self.now.inner c.is_unprogrammed-answer.new.self c.is_unprogrammed-answer.result c.is_unprogrammed-answer.ensures.asks c.is_unprogrammed-answer.ensures.error)
 
-stopped_not : (g : _) (c : goal.After-with_ghost_history-self g) → is_none (numbered_extent c.args.self.now.fault false c.args.self.now.trace.events) ≡ true
+stopped_not : (g : _) (c : goal.After-with_ghost_history-self g) → is_none (nth_call_extent c.args.self.now.fault false c.args.self.now.trace.events) ≡ true
 stopped_not g c = search rules
 
-none : (g : _) (c : goal.After-with_ghost_history-self g) → extent_if_due c.args.self.now.fault (Blank c.args.block c.args.off c.args.len) c.args.self.now.trace.events ≡ None
+none : (g : _) (c : goal.After-with_ghost_history-self g) → extent_if_planned c.args.self.now.fault (Blank c.args.block c.args.off c.args.len) c.args.self.now.trace.events ≡ None
 none g c = not_due c.args.self.now.fault c.args.block c.args.off c.args.len c.args.self.now.trace.events (stopped_not g c)
 
 pub invariant_of-self-clause-due_failed : goal.invariant_of-self-clause-due_failed

@@ -1,7 +1,7 @@
 use Rattle.std.proofs.Common.{ℕ, slice_index, ◌≡◌, ◌≢◌, ◌<◌, ◌-◌, ◌*◌, ◌%◌, ◌^◌, ap, subst, sym, ◌∙◌, arith, below_more}
 use Rattle.lfs_file.proofs.Common.{one_shl, IsKnownIndex, AreKnownBlocks, OnlyBelowKnown, index_row, word_at}
 use Rattle.lfs_file.specs.declared.block.FullBlocks.{FullBlocks}
-use Rattle.lfs_file.specs.declared.known.KnownBlocks.{KnownBlocks}
+use Rattle.lfs_file.specs.declared.known.IndexCache.{IndexCache}
 use Rattle.lfs_file.proofs.Pointed.{pointer_reach, pointers_apart}
 use Rattle.lfs_file.proofs.block.FullBlocks.begin_before_block.Goals as goal
 use Rattle.lfs_file.proofs.block.FullBlocks.begin_before_block.Goals.{then-k-eq0, else-k-eq0}
@@ -31,7 +31,7 @@ loop-k-preserved c =
       | then-k-eq0 w ↦ ap (λ (f : FullBlocks). f.head) w.self-is ∙ word ∙ ap (λ n. word_at c.args.bytes.now (4 * n)) (let first : k ≡ 0 = omega (arith, w.if-k-eq0.true) in first)
       | else-k-eq0 w ↦ ap (λ (f : FullBlocks). f.head) w.self-is ∙ inv.head (omega (arith, w.if-k-eq0.false))
     ] in
-    let same : (P : KnownBlocks → Type 0) → P c.loop-k.self.known → P c.if-k-eq0.self.known = λ P. subst P (sym known) in
+    let same : (P : IndexCache → Type 0) → P c.loop-k.self.known → P c.if-k-eq0.self.known = λ P. subst P (sym known) in
     let lower = λ (j : ℕ) (less : j < k).
     c.note.ensures.others (index - 2 ^ j) (subst (λ n. index_row (index - 2 ^ j) ≢ index_row (index - n)) (sym back) (pointers_apart index j k (omega arith) less (omega arith)))
     (same (λ v. IsKnownIndex v (index - 2 ^ j)) (inv.pointers j less)) in

@@ -3,7 +3,7 @@ use Rattle.lfs_file.proofs.Common.{common_steps, with_items, length-take-le, app
 use Rattle.lfs_device.specs.declared.geometry.Geometry.{Geometry}
 use Rattle.lfs_file.specs.declared.extender.ExtenderState.{ExtenderState}
 use Rattle.lfs_file.specs.declared.block.FullBlocks.{FullBlocks}
-use Rattle.lfs_file.specs.declared.known.KnownBlocks.{KnownBlocks}
+use Rattle.lfs_file.specs.declared.known.IndexCache.{IndexCache}
 use Rattle.lfs_file.proofs.Chains.{length_back}
 use Rattle.lfs_file.proofs.Pointed.{next_pointers}
 use Rattle.lfs_file.specs.Extending.{CanFollowBlocks}
@@ -80,7 +80,7 @@ write_block-requires g c = record {
 }
 
 -- the front with the block
-abbrev front_with : ℕ → ℕ → KnownBlocks → FullBlocks
+abbrev front_with : ℕ → ℕ → IndexCache → FullBlocks
 front_with count head known = record { count = count; head = head; known = known }
 
 added : (old front new : FullBlocks) (block : ℕ) → front.count ≡ old.count → new ≡ front_with (front.count + 1) block new.known → new ≡ front_with (old.count + 1) block new.known

@@ -1,5 +1,5 @@
 use Rattle.std.proofs.Common.{refl, ℕ, ◌≡◌, ◌≤◌, ◌<◌, ◌+◌, ◌-◌, ◌*◌, ◌^◌, ◌++◌, ◌⊎◌, inl, inr, List, [], ◌∷◌, length, take, drop, slice_index, Result, Err, sym, ap, subst, ◌∙◌, arith, Global, Vec, false, length-append}
-use Rattle.lfs_file.proofs.Common.{with_items, append-nil, length-take, with_items_is, err_from_is_err_and, Blocks, HasBlockSizes, block_bytes, AreListBlocks, IsSkipList, IsBytePlace, pointer_count, bytes_before_block, blocks_to_head, block_count_for, list_bytes, word_at, OnlyBelowKnown, CallEvent, read_count, growing_view, CountsAgree, GrowingList, blocks_data, IsRestShared, IsExtender, length_back, lacks_last_block, rest_block}
+use Rattle.lfs_file.proofs.Common.{with_items, append-nil, length-take, with_items_is, err_from_is_err_and, Blocks, HasBlockSizes, block_bytes, AreListBlocks, IsSkipList, IsByteInListBlock, pointer_count, bytes_before_block, blocks_to_head, skip_list_block_count, list_bytes, word_at, OnlyBelowKnown, CallEvent, read_count, growing_view, CountsAgree, GrowingList, blocks_data, IsRestShared, IsExtender, length_back, lacks_last_block, rest_block}
 use Rattle.lfs_device.specs.declared.error.Error.{Error}
 use Rattle.lfs_device.specs.declared.geometry.Geometry.{Geometry}
 use Rattle.lfs_file.specs.declared.block.FullBlocks.{FullBlocks}
@@ -8,7 +8,7 @@ use Rattle.lfs_file.specs.declared.rest.RestLocation.TheVariants.{Closed, Shared
 use Rattle.lfs_file.specs.Extending.{IsResumedList, IsEmptyList}
 use Rattle.lfs_file.specs.FewReads.{ResumesFew}
 use Rattle.lfs_file.specs.Known.{WalksFew}
-use Rattle.lfs_file.proofs.Sizes.{block_count_for-place, blocks_for-last, place-lt, pointer_count-le, place-le}
+use Rattle.lfs_file.proofs.Sizes.{skip_list_block_count-place, blocks_for-last, place-lt, pointer_count-le, place-le}
 use Rattle.lfs_file.proofs.Chains.{pointer_count-pos}
 use Rattle.lfs_file.proofs.Geometries.{last_is, chain, sized, shaped}
 use Rattle.lfs_file.proofs.Called.{read_on, reported_as}
@@ -56,8 +56,8 @@ overflow_add-index g c =
     omega arith
 
 -- the block that was found
-found_at : (d : Blocks) (geometry made : Geometry) (head size n i block : ℕ) → made ≡ geometry → n ≡ block_count_for made.block_size size → IsSkipList d geometry.block_size head size
-    → (AreListBlocks d (n - 1 + 1) head → block ≡ slice_index (blocks_to_head d (n - 1 + 1) head) i) → block ≡ slice_index (blocks_to_head d (block_count_for made.block_size size) head) i
+found_at : (d : Blocks) (geometry made : Geometry) (head size n i block : ℕ) → made ≡ geometry → n ≡ skip_list_block_count made.block_size size → IsSkipList d geometry.block_size head size
+    → (AreListBlocks d (n - 1 + 1) head → block ≡ slice_index (blocks_to_head d (n - 1 + 1) head) i) → block ≡ slice_index (blocks_to_head d (skip_list_block_count made.block_size size) head) i
 found_at d geometry made head size n i block e is list found =
     found (chain d made.block_size head size n made.valid.no_smaller is (sized d head size geometry made e list))
     ∙ ap (λ k. slice_index (blocks_to_head d k head) i) (last_is made.block_size size n made.valid.no_smaller list.size_low is)
@@ -92,12 +92,12 @@ is_fresh made e f list same has shown empty =
 record IsFull (d : Blocks) (geometry made : Geometry) (head size keep i block : ℕ) : Type 0 where
   chain_is : AreListBlocks d (i + 1) block
   content : blocks_data d (blocks_to_head d (i + 1) block) ++ [] ≡ take keep (list_bytes d geometry.block_size head size)
-  blocks_are : blocks_to_head d (i + 1) block ++ [] ≡ take (block_count_for geometry.block_size keep) (blocks_to_head d (block_count_for geometry.block_size size) head)
-  kept : blocks_to_head d (i + 1) block ++ [] ≡ take (i + 1) (blocks_to_head d (block_count_for geometry.block_size size) head)
+  blocks_are : blocks_to_head d (i + 1) block ++ [] ≡ take (skip_list_block_count geometry.block_size keep) (blocks_to_head d (skip_list_block_count geometry.block_size size) head)
+  kept : blocks_to_head d (i + 1) block ++ [] ≡ take (i + 1) (blocks_to_head d (skip_list_block_count geometry.block_size size) head)
   sum : keep ≡ bytes_before_block made.block_size (i + 1)
 
-is_full : (d : Blocks) (geometry made : Geometry) (head size keep n i off block : ℕ) → made ≡ geometry → n ≡ block_count_for made.block_size size → HasBlockSizes geometry.block_size geometry.block_count d
-    → IsSkipList d geometry.block_size head size → 1 ≤ keep → keep ≤ size → IsBytePlace made.block_size (keep - 1) i off → (AreListBlocks d (n - 1 + 1) head → block ≡ slice_index (blocks_to_head d (n - 1 + 1) head) i)
+is_full : (d : Blocks) (geometry made : Geometry) (head size keep n i off block : ℕ) → made ≡ geometry → n ≡ skip_list_block_count made.block_size size → HasBlockSizes geometry.block_size geometry.block_count d
+    → IsSkipList d geometry.block_size head size → 1 ≤ keep → keep ≤ size → IsByteInListBlock made.block_size (keep - 1) i off → (AreListBlocks d (n - 1 + 1) head → block ≡ slice_index (blocks_to_head d (n - 1 + 1) head) i)
     → off + 1 ≡ made.block_size → IsFull d geometry made head size keep i block
 is_full d geometry made head size keep n i off block e is shape list some within place found ends =
     let here = found_at d geometry made head size n i block e is list found in
@@ -108,9 +108,9 @@ is_full d geometry made head size keep n i off block e is shape list some within
       chain_is = front_chain d made.block_size geometry.block_count head size keep i off block large parts same some within place here;
       content = full_content d made.block_size geometry.block_count head size keep i off block large parts same some within place here ends ∙ ap (λ (k : Geometry). take keep (list_bytes d k.block_size head size)) e;
       blocks_are = full_blocks d made.block_size geometry.block_count head size keep i off block large parts same some within place here ends
-          ∙ ap (λ (k : Geometry). take (block_count_for k.block_size keep) (blocks_to_head d (block_count_for k.block_size size) head)) e;
+          ∙ ap (λ (k : Geometry). take (skip_list_block_count k.block_size keep) (blocks_to_head d (skip_list_block_count k.block_size size) head)) e;
       kept = append-nil (blocks_to_head d (i + 1) block) ∙ front_back d made.block_size geometry.block_count head size keep i off block large parts same some within place here
-          ∙ ap (λ (k : Geometry). take (i + 1) (blocks_to_head d (block_count_for k.block_size size) head)) e;
+          ∙ ap (λ (k : Geometry). take (i + 1) (blocks_to_head d (skip_list_block_count k.block_size size) head)) e;
       sum = keep_full d made.block_size geometry.block_count head size keep i off block large parts same some within place here ends;
     }
 
@@ -118,14 +118,14 @@ is_full d geometry made head size keep n i off block e is shape list some within
 record IsOpen (d : Blocks) (geometry made : Geometry) (head size keep i off block before : ℕ) (rest : List ℕ) : Type 0 where
   chain_is : AreListBlocks d i before
   shared : IsRestShared d i before rest block
-  kept : blocks_to_head d i before ++ [] ≡ take i (blocks_to_head d (block_count_for geometry.block_size size) head)
+  kept : blocks_to_head d i before ++ [] ≡ take i (blocks_to_head d (skip_list_block_count geometry.block_size size) head)
   content : blocks_data d (blocks_to_head d i before) ++ rest ≡ take keep (list_bytes d geometry.block_size head size)
-  blocks_are : blocks_to_head d i before ++ block ∷ [] ≡ take (block_count_for geometry.block_size keep) (blocks_to_head d (block_count_for geometry.block_size size) head)
+  blocks_are : blocks_to_head d i before ++ block ∷ [] ≡ take (skip_list_block_count geometry.block_size keep) (blocks_to_head d (skip_list_block_count geometry.block_size size) head)
   sum : keep ≡ bytes_before_block made.block_size i + length rest
   leads : (k : ℕ) → k < pointer_count i → word_at (block_bytes d block) (4 * k) ≡ slice_index (blocks_to_head d i before) (i - 2 ^ k)
 
-is_open : (d : Blocks) (geometry made : Geometry) (head size keep n i off block before : ℕ) (rest : List ℕ) → made ≡ geometry → n ≡ block_count_for made.block_size size
-    → HasBlockSizes geometry.block_size geometry.block_count d → IsSkipList d geometry.block_size head size → 1 ≤ keep → keep ≤ size → IsBytePlace made.block_size (keep - 1) i off
+is_open : (d : Blocks) (geometry made : Geometry) (head size keep n i off block before : ℕ) (rest : List ℕ) → made ≡ geometry → n ≡ skip_list_block_count made.block_size size
+    → HasBlockSizes geometry.block_size geometry.block_count d → IsSkipList d geometry.block_size head size → 1 ≤ keep → keep ≤ size → IsByteInListBlock made.block_size (keep - 1) i off
     → (AreListBlocks d (n - 1 + 1) head → block ≡ slice_index (blocks_to_head d (n - 1 + 1) head) i) → off + 1 < made.block_size → (0 < i → before ≡ word_at (block_bytes d block) 0)
     → rest ≡ take (off + 1 - 4 * pointer_count i) (drop (4 * pointer_count i) (block_bytes d block)) → IsOpen d geometry made head size keep i off block before rest
 is_open d geometry made head size keep n i off block before rest e is shape list some within place found short named rest_is =
@@ -137,16 +137,16 @@ is_open d geometry made head size keep n i off block before rest e is shape list
       chain_is = before_chain d made.block_size geometry.block_count head size keep i off block large parts same some within place here before named short;
       shared = open_shared d made.block_size geometry.block_count head size keep i off block large parts same some within place here before named short rest rest_is;
       kept = append-nil (blocks_to_head d i before) ∙ before_front d made.block_size geometry.block_count head size keep i off block large parts same some within place here before named short
-          ∙ ap (λ (k : Geometry). take i (blocks_to_head d (block_count_for k.block_size size) head)) e;
+          ∙ ap (λ (k : Geometry). take i (blocks_to_head d (skip_list_block_count k.block_size size) head)) e;
       content = open_content d made.block_size geometry.block_count head size keep i off block large parts same some within place here before named short rest rest_is ∙ ap (λ (k : Geometry). take keep (list_bytes d k.block_size head size)) e;
       blocks_are = open_blocks d made.block_size geometry.block_count head size keep i off block large parts same some within place here before named short
-          ∙ ap (λ (k : Geometry). take (block_count_for k.block_size keep) (blocks_to_head d (block_count_for k.block_size size) head)) e;
+          ∙ ap (λ (k : Geometry). take (skip_list_block_count k.block_size keep) (blocks_to_head d (skip_list_block_count k.block_size size) head)) e;
       sum = (let long = rest_long d made.block_size geometry.block_count head size keep i off block large parts same some within place here before named short rest rest_is in omega (arith, long.0, long.2));
       leads = before_leads d made.block_size geometry.block_count head size keep i off block large parts same some within place here before named short;
     }
 
 -- the block does not end the front
-short_of : (block_size keep i off : ℕ) → 1024 ≤ block_size → IsBytePlace block_size (keep - 1) i off → (off + 1 ≡ block_size → ⊥) → off + 1 < block_size
+short_of : (block_size keep i off : ℕ) → 1024 ≤ block_size → IsByteInListBlock block_size (keep - 1) i off → (off + 1 ≡ block_size → ⊥) → off + 1 < block_size
 short_of block_size keep i off large place other =
     let at = place.at in
     let from = place.from in
@@ -162,7 +162,7 @@ record IsRead (d : Blocks) (i off block : ℕ) (items : List ℕ) : Type 0 where
   rest : take (off + 1 - 4 * pointer_count i) (drop (4 * pointer_count i) items) ≡ take (off + 1 - 4 * pointer_count i) (drop (4 * pointer_count i) (block_bytes d block))
   words : (k : ℕ) → k < pointer_count i → word_at items (4 * k) ≡ word_at (block_bytes d block) (4 * k)
 
-is_read : (d same : Blocks) (geometry made : Geometry) (keep i off block : ℕ) (old new items : List ℕ) → made ≡ geometry → HasBlockSizes geometry.block_size geometry.block_count d → IsBytePlace made.block_size (keep - 1) i off → off + 1 < made.block_size
+is_read : (d same : Blocks) (geometry made : Geometry) (keep i off block : ℕ) (old new items : List ℕ) → made ≡ geometry → HasBlockSizes geometry.block_size geometry.block_count d → IsByteInListBlock made.block_size (keep - 1) i off → off + 1 < made.block_size
     → block < geometry.block_count → same ≡ d → items ≡ new → new ≡ take 0 old ++ (take (off + 1) (drop 0 (block_bytes same block)) ++ drop (0 + (off + 1)) old) → IsRead d i off block items
 is_read d same geometry made keep i off block old new items e shape place short in_range kept is read =
     let at = place.at in
@@ -179,12 +179,12 @@ items_read : (buffer : Vec ℕ Global) (new : List ℕ) → length new ≡ lengt
 items_read buffer new long = with_items_is buffer new (omega (arith, long, buffer.ok.0))
 
 -- how many reads that took
-few_read : (geometry made : Geometry) (size keep n i off : ℕ) (old mid new : List CallEvent) → made ≡ geometry → n ≡ block_count_for made.block_size size → 1 ≤ keep → keep ≤ size → IsBytePlace made.block_size (keep - 1) i off → WalksFew (n - 1) i old mid
+few_read : (geometry made : Geometry) (size keep n i off : ℕ) (old mid new : List CallEvent) → made ≡ geometry → n ≡ skip_list_block_count made.block_size size → 1 ≤ keep → keep ≤ size → IsByteInListBlock made.block_size (keep - 1) i off → WalksFew (n - 1) i old mid
     → read_count new ≤ read_count mid + 1 → ResumesFew geometry.block_size size keep old new
 few_read geometry made size keep n i off old mid new e is some within place walk one =
     let large = made.valid.no_smaller in
     let last = last_is made.block_size size n large (omega arith) is in
-    let here = block_count_for-place made.block_size keep i off large some place in
+    let here = skip_list_block_count-place made.block_size keep i off large some place in
     subst (λ (k : Geometry). ResumesFew k.block_size size keep old new) e (record {
       few = λ m le. (let k = walk.few m (omega (arith, le, last)) in omega (arith, k, one));
       near = (let k = walk.near in omega (arith, k, one, last, here));

@@ -1,5 +1,5 @@
 use Rattle.std.proofs.Common.{◌≡◌, ◌<◌, ◌≤◌, Some, [], length, ap, arith, subst, sym}
-use Rattle.lfs_fs.proofs.Common.{selected_files, reader_if_any, writer_if_any, writers_among}
+use Rattle.lfs_fs.proofs.Common.{filter_map_files, as_reader, writer_if_any, writers_among}
 use Rattle.lfs_fs.specs.declared.files.OpenFile.TheVariants as file
 use Rattle.lfs_fs.proofs.OpenFiles.{count_set, few_set}
 use Rattle.lfs_fs.proofs.files.Files.add_writer.Goals as goal
@@ -13,7 +13,7 @@ invariant_of-self c =
     let l = ap (λ ws. length ws) none in (
       omega (arith, c.set_in_table.ensures.len, c.self.invariant.0),
       (
-        few_set reader_if_any fs _ c.args.fd 16 _ c.set_in_table.ensures.files lt c.self.invariant.1.0 (omega arith),
-        subst (λ xs. length (selected_files writer_if_any xs) ≤ 1) (sym c.set_in_table.ensures.files) (omega (arith, k, l)),
+        few_set as_reader fs _ c.args.fd 16 _ c.set_in_table.ensures.files lt c.self.invariant.1.0 (omega arith),
+        subst (λ xs. length (filter_map_files writer_if_any xs) ≤ 1) (sym c.set_in_table.ensures.files) (omega (arith, k, l)),
       ),
     )

@@ -1,5 +1,5 @@
 use Rattle.std.proofs.Common.{◌≡◌, Some, is_some, ap, arith, subst, sym}
-use Rattle.lfs_fs.proofs.Common.{open_file_at, reader_if_any, writer_if_any}
+use Rattle.lfs_fs.proofs.Common.{open_file_at, as_reader, writer_if_any}
 use Rattle.lfs_fs.specs.declared.files.OpenFile.TheVariants as file
 use Rattle.lfs_fs.proofs.OpenFiles.{few_set, inside_is}
 use Rattle.lfs_fs.proofs.WritersInPlace.{as_many, same_files_before}
@@ -16,7 +16,7 @@ invariant_of-self g c =
     let lt = inside_is fs c.args.fd (ap is_some e) in (
       omega (arith, c.write_in_table.ensures.len, c.self.invariant.0),
       (
-        few_set reader_if_any fs _ c.args.fd 16 _ h.only lt c.self.invariant.1.0 (omega arith),
+        few_set as_reader fs _ c.args.fd 16 _ h.only lt c.self.invariant.1.0 (omega arith),
         few_set writer_if_any fs _ c.args.fd 1 _ h.only lt c.self.invariant.1.1 (as_many fs c.args.fd h.writer c.requires.0 e),
       ),
     )

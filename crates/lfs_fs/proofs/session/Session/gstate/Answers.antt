@@ -1,7 +1,7 @@
 use Rattle.std.proofs.Common.{◌∙◌, ap, refl, None}
 use Rattle.lfs_device.specs.declared.error.Error.TheVariants as error
 use Rattle.lfs_model.specs.session.Operations as ops
-use Rattle.lfs_fs.specs.GstateView.{disk_reply_gstate}
+use Rattle.lfs_fs.specs.GstateView.{gstate_reply_from_disk}
 use Rattle.lfs_fs.proofs.Common.{session_view}
 use Rattle.lfs_fs.proofs.Questions.{failed_by, works_by, refused_kept, question_kept}
 use Rattle.lfs_fs.proofs.Answered.{sound_by}
@@ -20,4 +20,4 @@ returns g c =
     kept_asking c.self.inside.tree c.self.inside.files _ ops.AskGstate _ c.self.view_is c.self.invariant.ready (λ s. refl) refl
     (kept_ends (session_view c.self.inside.tree c.self.inside.files) _ ops.AskGstate _ c.self.view_is (works_by (session_view c.self.inside.tree c.self.inside.files) ops.AskGstate None c.if-has_failed.ensures refl))
     (question_kept (session_view c.self.inside.tree c.self.inside.files) _ ops.AskGstate _ c.self.view_is (sound_by c.self.inside.tree c.self.inside.files c.self.invariant.ready) refl (works_by (session_view c.self.inside.tree c.self.inside.files) ops.AskGstate None c.if-has_failed.ensures refl)
-    (c.gstate_from_move.ensures ∙ ap disk_reply_gstate c.gstate.ensures))
+    (c.gstate_from_move.ensures ∙ ap gstate_reply_from_disk c.gstate.ensures))

@@ -1,6 +1,6 @@
 use Rattle.std.proofs.Common.{refl, sym, ap, ap₂, []}
 use Rattle.lfs_model.specs.session.Operations as ops
-use Rattle.lfs_fs.proofs.Common.{session_view, tree_creating, DirectoryNode, shown_tree}
+use Rattle.lfs_fs.proofs.Common.{session_view, tree_creating, DirectoryNode, visible_tree}
 use Rattle.lfs_fs.proofs.Checked.{mkdir_can, passed_writable}
 use Rattle.lfs_fs.proofs.Errors.{given_on}
 use Rattle.lfs_fs.proofs.Staying.{mkdir_left}
@@ -39,4 +39,4 @@ returns g c =
     (passed_writable (session_view c.self.inside.tree c.self.inside.files) (ops.Mkdir c.args.path.now) _ refl h.1)
     (mkdir_left _ c.self.inside.tree c.check_mkdir.new.tree c.mkdir-answer.new.self c.self.inside.files c.args.path.now _ c.mkdir-answer.result c.lemma_files_stay.ensures.stay c.self.invariant.ready h.0 h.1 h.2 (mkdir_can (session_view c.self.inside.tree c.self.inside.files) c.args.path.now _ _ (λ works. c.lemma_files_stay.ensures.few c.self.inside.tree c.self.inside.files (c.self.invariant.ready works)) h) c.mkdir-answer.ensures.done (λ f. f (ops.Mkdir c.args.path.now) (c.args.path.now, (refl, sym h.2))) c.mkdir-answer.ensures.broken) c.lemma_calls_conform.ensures
     c.mkdir-answer.ensures.done (λ f. f (ops.Mkdir c.args.path.now) (c.args.path.now, (refl, sym h.2))) c.mkdir-answer.ensures.alone (λ f. f (ops.Mkdir c.args.path.now) (c.args.path.now, (refl, sym h.2))) c.mkdir-answer.ensures.broken c.mkdir-answer.ensures.errors c.mkdir-answer.ensures.survives
-    (ap₂ (λ p t. tree_creating p (DirectoryNode [] []) t) h.2 (ap shown_tree h.0.same))
+    (ap₂ (λ p t. tree_creating p (DirectoryNode [] []) t) h.2 (ap visible_tree h.0.same))

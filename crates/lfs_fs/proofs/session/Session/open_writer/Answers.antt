@@ -1,7 +1,7 @@
 use Rattle.std.proofs.Common.{◌≡◌, ◌<◌, ◌∙◌, [], sym, refl, ap, subst, set, length, Some, None, Ok}
 use Rattle.std.specs.Prelude.{IfSome}
 use Rattle.lfs_model.specs.session.Operations as ops
-use Rattle.lfs_fs.proofs.Common.{node_file_size, IsCreationResult, TreeState, kept_thread, shown_tree, flags_view, open_file_at, writers_among, session_view, view_with_files, system_state, SurvivesStoppedCalls, SparesOthers, fault_count, DeviceConforms}
+use Rattle.lfs_fs.proofs.Common.{node_file_size, IsCreationResult, TreeState, kept_thread, visible_tree, flags_view, open_file_at, writers_among, session_view, view_with_files, system_state, SurvivesStoppedCalls, KeepsUnrelatedIfRecovered, fault_count, DeviceConforms}
 use Rattle.lfs_fs.specs.declared.files.OpenFile.TheVariants as file
 use Rattle.lfs_fs.proofs.Errors.{given_on}
 use Rattle.lfs_fs.proofs.OpenedWriters.{IsOpenedBy, can_begin, can_create, no_writer, opened_new, opened_there, room_made, writer_breaks, writer_opened, writer_ready, writer_lacks_memory}
@@ -30,7 +30,7 @@ reserve_number-requires g c = no_writer c.self.inside.tree c.self.inside.files c
 pub open_existing_file-answer-requires : goal.open_existing_file-answer-requires
 open_existing_file-answer-requires g c =
     let h = c.in_ok-found.ensures in
-    can_begin c.self.inside.tree c.check_open_writer.new.tree c.self.inside.files c.args.path.now (flags_view c.args.flags) c.in-Ok.owned c.in-Some.size c.self.invariant.ready h.0 h.1 c.requires c.in-Ok.ensures.path (ap (λ p. node_file_size (shown_tree c.self.inside.tree p)) (c.in-Ok.ensures.path ∙ sym h.2.path) ∙ h.2.size ∙ c.in-Some.is)
+    can_begin c.self.inside.tree c.check_open_writer.new.tree c.self.inside.files c.args.path.now (flags_view c.args.flags) c.in-Ok.owned c.in-Some.size c.self.invariant.ready h.0 h.1 c.requires c.in-Ok.ensures.path (ap (λ p. node_file_size (visible_tree c.self.inside.tree p)) (c.in-Ok.ensures.path ∙ sym h.2.path) ∙ h.2.size ∙ c.in-Some.is)
 
 pub create_and_open-answer-requires-clause-known : goal.create_and_open-answer-requires-clause-known
 create_and_open-answer-requires-clause-known g c =
@@ -43,7 +43,7 @@ create_and_open-answer-requires-clause-looked_up g c = c.in_ok-found.ensures.2.h
 pub create_and_open-answer-requires-clause-can : goal.create_and_open-answer-requires-clause-can
 create_and_open-answer-requires-clause-can g c =
     let h = c.in_ok-found.ensures in
-    can_create c.self.inside.tree c.check_open_writer.new.tree c.self.inside.files c.args.path.now (flags_view c.args.flags) c.in-Ok.owned c.self.invariant.ready h.0 h.1 c.requires c.in-Ok.ensures.path (ap (λ p. node_file_size (shown_tree c.self.inside.tree p)) (c.in-Ok.ensures.path ∙ sym h.2.path) ∙ h.2.size ∙ c.in-None.is)
+    can_create c.self.inside.tree c.check_open_writer.new.tree c.self.inside.files c.args.path.now (flags_view c.args.flags) c.in-Ok.owned c.self.invariant.ready h.0 h.1 c.requires c.in-Ok.ensures.path (ap (λ p. node_file_size (visible_tree c.self.inside.tree p)) (c.in-Ok.ensures.path ∙ sym h.2.path) ∙ h.2.size ∙ c.in-None.is)
 
 pub add_writer-requires-clause-inside : goal.add_writer-requires-clause-inside
 add_writer-requires-clause-inside g c =
@@ -86,7 +86,7 @@ returns-in_err-writer-in-Some g c =
     (writer_breaks c.self.inside.tree c.check_open_writer.new.tree c.open_existing_file-answer.new.tree c.self.inside.files _ _ c.args.path.now (flags_view c.args.flags) _ c.from_residual-in_err-writer-in-Some.result c.self.view_is h.0 h.1 (c.self.invariant.ready (not_failed (session_view c.self.inside.tree c.self.inside.files) (ops.Open c.args.path.now (flags_view c.args.flags)) h.1)).sound c.requires c.in_err-writer-in-Some.ensures.broken c.in_err-writer-in-Some.ensures.errors
     (given_on _ c.from_residual-in_err-writer-in-Some.result c.from_residual-in_err-writer-in-Some.ensures.1))
     (opened_left c.self.inside.tree c.check_open_writer.new.tree c.open_existing_file-answer.new.tree c.self.inside.files _ c.args.path.now (flags_view c.args.flags) c.in-Ok.owned _ c.self.view_is c.self.invariant.ready
-    (opening_keeps c.self.inside.tree c.check_open_writer.new.tree c.self.inside.files c.args.path.now (flags_view c.args.flags) c.self.invariant.ready h.0 h.1 c.requires) h.1 c.in-Ok.ensures.path (ap (λ p. node_file_size (shown_tree c.self.inside.tree p)) (c.in-Ok.ensures.path ∙ sym h.2.path) ∙ h.2.size ∙ c.in-Some.is)
+    (opening_keeps c.self.inside.tree c.check_open_writer.new.tree c.self.inside.files c.args.path.now (flags_view c.args.flags) c.self.invariant.ready h.0 h.1 c.requires) h.1 c.in-Ok.ensures.path (ap (λ p. node_file_size (visible_tree c.self.inside.tree p)) (c.in-Ok.ensures.path ∙ sym h.2.path) ∙ h.2.size ∙ c.in-Some.is)
     (c.in_err-writer-in-Some.ensures.broken.calls, c.in_err-writer-in-Some.ensures.broken.called) c.open_existing_file-answer.ensures.survives)
 
 pub returns-in_err-writer-in-None : goal.returns-in_err-writer-in-None
@@ -99,7 +99,7 @@ returns-in_err-writer-in-None g c =
     (writer_breaks c.self.inside.tree c.check_open_writer.new.tree c.create_and_open-answer.new.tree c.self.inside.files _ _ c.args.path.now (flags_view c.args.flags) _ c.from_residual-in_err-writer-in-None.result c.self.view_is h.0 h.1 (c.self.invariant.ready (not_failed (session_view c.self.inside.tree c.self.inside.files) (ops.Open c.args.path.now (flags_view c.args.flags)) h.1)).sound c.requires c.in_err-writer-in-None.ensures.broken c.in_err-writer-in-None.ensures.errors
     (given_on _ c.from_residual-in_err-writer-in-None.result c.from_residual-in_err-writer-in-None.ensures.1))
     (created_left c.self.inside.tree c.check_open_writer.new.tree c.create_and_open-answer.new.tree c.self.inside.files _ c.args.path.now (flags_view c.args.flags) c.in-Ok.owned c.self.view_is c.self.invariant.ready
-    (opening_keeps c.self.inside.tree c.check_open_writer.new.tree c.self.inside.files c.args.path.now (flags_view c.args.flags) c.self.invariant.ready h.0 h.1 c.requires) h.1 c.requires c.in-Ok.ensures.path (ap (λ p. node_file_size (shown_tree c.self.inside.tree p)) (c.in-Ok.ensures.path ∙ sym h.2.path) ∙ h.2.size ∙ c.in-None.is)
+    (opening_keeps c.self.inside.tree c.check_open_writer.new.tree c.self.inside.files c.args.path.now (flags_view c.args.flags) c.self.invariant.ready h.0 h.1 c.requires) h.1 c.requires c.in-Ok.ensures.path (ap (λ p. node_file_size (visible_tree c.self.inside.tree p)) (c.in-Ok.ensures.path ∙ sym h.2.path) ∙ h.2.size ∙ c.in-None.is)
     (c.in_err-writer-in-None.ensures.broken.calls, c.in_err-writer-in-None.ensures.broken.called) c.create_and_open-answer.ensures.survives)
 
 pub invariant_of-self-2 : goal.invariant_of-self-2
@@ -108,10 +108,10 @@ invariant_of-self-2 g c =
     let h = c.in_ok-found.ensures in
     let opened : IsOpenedBy c.self.inside.tree c.self.inside.files c.args.path.now (flags_view c.args.flags) c.match-found.self-inside.tree c.match-found.writer = elim c.match-found.branch [
       | in-Some+in_ok-writer-in-Some w ↦ subst (λ i. IsOpenedBy c.self.inside.tree c.self.inside.files c.args.path.now (flags_view c.args.flags) i.tree c.match-found.writer) (sym w.self-inside-is) (subst (λ x. IsOpenedBy c.self.inside.tree c.self.inside.files c.args.path.now (flags_view c.args.flags) w.open_existing_file-answer.new.tree x) (sym w.writer-is)
-          (opened_there c.self.inside.tree c.check_open_writer.new.tree w.open_existing_file-answer.new.tree c.self.inside.files c.args.path.now (flags_view c.args.flags) _ c.in-Ok.owned w.in-Some.size c.self.invariant.ready h.0 h.1 c.requires c.in-Ok.ensures.path (ap (λ p. node_file_size (shown_tree c.self.inside.tree p)) (c.in-Ok.ensures.path ∙ sym h.2.path) ∙ h.2.size ∙ w.in-Some.is)
+          (opened_there c.self.inside.tree c.check_open_writer.new.tree w.open_existing_file-answer.new.tree c.self.inside.files c.args.path.now (flags_view c.args.flags) _ c.in-Ok.owned w.in-Some.size c.self.invariant.ready h.0 h.1 c.requires c.in-Ok.ensures.path (ap (λ p. node_file_size (visible_tree c.self.inside.tree p)) (c.in-Ok.ensures.path ∙ sym h.2.path) ∙ h.2.size ∙ w.in-Some.is)
           w.in_ok-writer-in-Some.ensures.recovered w.in_ok-writer-in-Some.ensures.begun))
       | in-None+in_ok-writer-in-None w ↦ subst (λ i. IsOpenedBy c.self.inside.tree c.self.inside.files c.args.path.now (flags_view c.args.flags) i.tree c.match-found.writer) (sym w.self-inside-is) (subst (λ x. IsOpenedBy c.self.inside.tree c.self.inside.files c.args.path.now (flags_view c.args.flags) w.create_and_open-answer.new.tree x) (sym w.writer-is)
-          (opened_new c.self.inside.tree c.check_open_writer.new.tree w.create_and_open-answer.new.tree c.self.inside.files c.args.path.now (flags_view c.args.flags) _ c.in-Ok.owned c.self.invariant.ready h.0 h.1 c.requires c.in-Ok.ensures.path (ap (λ p. node_file_size (shown_tree c.self.inside.tree p)) (c.in-Ok.ensures.path ∙ sym h.2.path) ∙ h.2.size ∙ w.in-None.is)
+          (opened_new c.self.inside.tree c.check_open_writer.new.tree w.create_and_open-answer.new.tree c.self.inside.files c.args.path.now (flags_view c.args.flags) _ c.in-Ok.owned c.self.invariant.ready h.0 h.1 c.requires c.in-Ok.ensures.path (ap (λ p. node_file_size (visible_tree c.self.inside.tree p)) (c.in-Ok.ensures.path ∙ sym h.2.path) ∙ h.2.size ∙ w.in-None.is)
           (w.in_ok-writer-in-None.ensures.made c.args.path.now (flags_view c.args.flags) (sym c.in-Ok.ensures.path) c.requires).0 w.in_ok-writer-in-None.ensures.begun))
     ] in
     let room = (room_made c.self.inside.files c.reserve_number.new.self c.in-Ok-reserve_number.number (no_writer c.self.inside.tree c.self.inside.files c.args.path.now (flags_view c.args.flags) c.requires c.in_ok-found.ensures.1) c.in-Ok-reserve_number.ensures.number c.in-Ok-reserve_number.ensures.room) in
@@ -131,10 +131,10 @@ returns g c =
     let h = c.in_ok-found.ensures in
     let opened : IsOpenedBy c.self.inside.tree c.self.inside.files c.args.path.now (flags_view c.args.flags) c.match-found.self-inside.tree c.match-found.writer = elim c.match-found.branch [
       | in-Some+in_ok-writer-in-Some w ↦ subst (λ i. IsOpenedBy c.self.inside.tree c.self.inside.files c.args.path.now (flags_view c.args.flags) i.tree c.match-found.writer) (sym w.self-inside-is) (subst (λ x. IsOpenedBy c.self.inside.tree c.self.inside.files c.args.path.now (flags_view c.args.flags) w.open_existing_file-answer.new.tree x) (sym w.writer-is)
-          (opened_there c.self.inside.tree c.check_open_writer.new.tree w.open_existing_file-answer.new.tree c.self.inside.files c.args.path.now (flags_view c.args.flags) _ c.in-Ok.owned w.in-Some.size c.self.invariant.ready h.0 h.1 c.requires c.in-Ok.ensures.path (ap (λ p. node_file_size (shown_tree c.self.inside.tree p)) (c.in-Ok.ensures.path ∙ sym h.2.path) ∙ h.2.size ∙ w.in-Some.is)
+          (opened_there c.self.inside.tree c.check_open_writer.new.tree w.open_existing_file-answer.new.tree c.self.inside.files c.args.path.now (flags_view c.args.flags) _ c.in-Ok.owned w.in-Some.size c.self.invariant.ready h.0 h.1 c.requires c.in-Ok.ensures.path (ap (λ p. node_file_size (visible_tree c.self.inside.tree p)) (c.in-Ok.ensures.path ∙ sym h.2.path) ∙ h.2.size ∙ w.in-Some.is)
           w.in_ok-writer-in-Some.ensures.recovered w.in_ok-writer-in-Some.ensures.begun))
       | in-None+in_ok-writer-in-None w ↦ subst (λ i. IsOpenedBy c.self.inside.tree c.self.inside.files c.args.path.now (flags_view c.args.flags) i.tree c.match-found.writer) (sym w.self-inside-is) (subst (λ x. IsOpenedBy c.self.inside.tree c.self.inside.files c.args.path.now (flags_view c.args.flags) w.create_and_open-answer.new.tree x) (sym w.writer-is)
-          (opened_new c.self.inside.tree c.check_open_writer.new.tree w.create_and_open-answer.new.tree c.self.inside.files c.args.path.now (flags_view c.args.flags) _ c.in-Ok.owned c.self.invariant.ready h.0 h.1 c.requires c.in-Ok.ensures.path (ap (λ p. node_file_size (shown_tree c.self.inside.tree p)) (c.in-Ok.ensures.path ∙ sym h.2.path) ∙ h.2.size ∙ w.in-None.is)
+          (opened_new c.self.inside.tree c.check_open_writer.new.tree w.create_and_open-answer.new.tree c.self.inside.files c.args.path.now (flags_view c.args.flags) _ c.in-Ok.owned c.self.invariant.ready h.0 h.1 c.requires c.in-Ok.ensures.path (ap (λ p. node_file_size (visible_tree c.self.inside.tree p)) (c.in-Ok.ensures.path ∙ sym h.2.path) ∙ h.2.size ∙ w.in-None.is)
           (w.in_ok-writer-in-None.ensures.made c.args.path.now (flags_view c.args.flags) (sym c.in-Ok.ensures.path) c.requires).0 w.in_ok-writer-in-None.ensures.begun))
     ] in
     let room = (room_made c.self.inside.files c.reserve_number.new.self c.in-Ok-reserve_number.number (no_writer c.self.inside.tree c.self.inside.files c.args.path.now (flags_view c.args.flags) c.requires c.in_ok-found.ensures.1) c.in-Ok-reserve_number.ensures.number c.in-Ok-reserve_number.ensures.room) in
@@ -148,9 +148,9 @@ returns g c =
     ] in
     changed_call c.self.inside.tree c.self.inside.files _ (ops.Open c.args.path.now (flags_view c.args.flags)) ops.Opened (Ok c.in-Ok-reserve_number.number) _ c.self.view_is c.self.invariant reported refl refl refl
     (elim c.match-found.branch [
-      | in-Some+in_ok-writer-in-Some w ↦ subst (λ i. SparesOthers (system_state c.args.self.now) (ops.Open c.args.path.now (flags_view c.args.flags)) (system_state (view_with_files i.tree []))) (sym w.self-inside-is)
+      | in-Some+in_ok-writer-in-Some w ↦ subst (λ i. KeepsUnrelatedIfRecovered (system_state c.args.self.now) (ops.Open c.args.path.now (flags_view c.args.flags)) (system_state (view_with_files i.tree []))) (sym w.self-inside-is)
           (begun_others c.self.inside.tree c.check_open_writer.new.tree w.open_existing_file-answer.new.tree c.self.inside.files _ (ops.Open c.args.path.now (flags_view c.args.flags)) c.self.view_is c.self.invariant.ready h.0 w.in_ok-writer-in-Some.ensures.recovered)
-      | in-None+in_ok-writer-in-None w ↦ subst (λ i. SparesOthers (system_state c.args.self.now) (ops.Open c.args.path.now (flags_view c.args.flags)) (system_state (view_with_files i.tree []))) (sym w.self-inside-is)
+      | in-None+in_ok-writer-in-None w ↦ subst (λ i. KeepsUnrelatedIfRecovered (system_state c.args.self.now) (ops.Open c.args.path.now (flags_view c.args.flags)) (system_state (view_with_files i.tree []))) (sym w.self-inside-is)
           (let made = w.in_ok-writer-in-None.ensures.made c.args.path.now (flags_view c.args.flags) (sym c.in-Ok.ensures.path) c.requires in
           rest_others c.self.inside.tree c.check_open_writer.new.tree w.create_and_open-answer.new.tree c.self.inside.files _ (ops.Open c.args.path.now (flags_view c.args.flags)) c.self.view_is c.self.invariant.ready h.0 made.0.sound made.1)
     ])
@@ -160,11 +160,11 @@ returns g c =
     (elim c.match-found.branch [
       | in-Some+in_ok-writer-in-Some w ↦ subst (λ i. SurvivesStoppedCalls (system_state c.args.self.now) (ops.Open c.args.path.now (flags_view c.args.flags)) (system_state (view_with_files i.tree []))) (sym w.self-inside-is)
           (opened_left c.self.inside.tree c.check_open_writer.new.tree w.open_existing_file-answer.new.tree c.self.inside.files _ c.args.path.now (flags_view c.args.flags) c.in-Ok.owned _ c.self.view_is c.self.invariant.ready
-          (opening_keeps c.self.inside.tree c.check_open_writer.new.tree c.self.inside.files c.args.path.now (flags_view c.args.flags) c.self.invariant.ready h.0 h.1 c.requires) h.1 c.in-Ok.ensures.path (ap (λ p. node_file_size (shown_tree c.self.inside.tree p)) (c.in-Ok.ensures.path ∙ sym h.2.path) ∙ h.2.size ∙ w.in-Some.is)
+          (opening_keeps c.self.inside.tree c.check_open_writer.new.tree c.self.inside.files c.args.path.now (flags_view c.args.flags) c.self.invariant.ready h.0 h.1 c.requires) h.1 c.in-Ok.ensures.path (ap (λ p. node_file_size (visible_tree c.self.inside.tree p)) (c.in-Ok.ensures.path ∙ sym h.2.path) ∙ h.2.size ∙ w.in-Some.is)
           (w.in_ok-writer-in-Some.ensures.recovered.calls, w.in_ok-writer-in-Some.ensures.recovered.called) w.open_existing_file-answer.ensures.survives)
       | in-None+in_ok-writer-in-None w ↦ subst (λ i. SurvivesStoppedCalls (system_state c.args.self.now) (ops.Open c.args.path.now (flags_view c.args.flags)) (system_state (view_with_files i.tree []))) (sym w.self-inside-is)
           (let made = (w.in_ok-writer-in-None.ensures.made c.args.path.now (flags_view c.args.flags) (sym c.in-Ok.ensures.path) c.requires).0 in
           created_left c.self.inside.tree c.check_open_writer.new.tree w.create_and_open-answer.new.tree c.self.inside.files _ c.args.path.now (flags_view c.args.flags) c.in-Ok.owned c.self.view_is c.self.invariant.ready
-          (opening_keeps c.self.inside.tree c.check_open_writer.new.tree c.self.inside.files c.args.path.now (flags_view c.args.flags) c.self.invariant.ready h.0 h.1 c.requires) h.1 c.requires c.in-Ok.ensures.path (ap (λ p. node_file_size (shown_tree c.self.inside.tree p)) (c.in-Ok.ensures.path ∙ sym h.2.path) ∙ h.2.size ∙ w.in-None.is)
+          (opening_keeps c.self.inside.tree c.check_open_writer.new.tree c.self.inside.files c.args.path.now (flags_view c.args.flags) c.self.invariant.ready h.0 h.1 c.requires) h.1 c.requires c.in-Ok.ensures.path (ap (λ p. node_file_size (visible_tree c.self.inside.tree p)) (c.in-Ok.ensures.path ∙ sym h.2.path) ∙ h.2.size ∙ w.in-None.is)
           (made.calls, made.called) w.create_and_open-answer.ensures.survives)
     ])

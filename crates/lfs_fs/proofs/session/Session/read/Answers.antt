@@ -1,7 +1,7 @@
 use Rattle.std.proofs.Common.{◌≡◌, ◌+◌, true, is_some, sym, subst, arith}
 use Rattle.lfs_device.specs.declared.error.Error.TheVariants as error
 use Rattle.lfs_model.specs.session.Operations as ops
-use Rattle.lfs_fs.proofs.Common.{open_file_at, files_view, writers_paths, ReadsFew, session_view}
+use Rattle.lfs_fs.proofs.Common.{open_file_at, files_view, writers_paths, BoundsFileReads, session_view}
 use Rattle.lfs_fs.proofs.Errors.{given_on}
 use Rattle.lfs_fs.proofs.OpenFiles.{none_reader, reader_there}
 use Rattle.lfs_fs.proofs.Questions.{failed_by}
@@ -18,7 +18,7 @@ bytes_for_reader-requires-clause-blocks g c = known_of_reader c.self.inside.tree
 
 pub seek-requires : goal.seek-requires
 seek-requires g c =
-    subst (λ fs. is_some (open_file_at fs c.args.fd) ≡ true) (sym c.note_known.ensures)
+    subst (λ fs. is_some (open_file_at fs c.args.fd) ≡ true) (sym c.set_index_cache.ensures)
     (there_noted c.bytes_for_reader.new.known c.self.inside.files c.args.fd (reader_there (open_file_at c.self.inside.files c.args.fd) c.in-Some.reader.now c.in-Some.ensures))
 
 -- a check refuses it
@@ -41,17 +41,17 @@ returns-in_err-bytes-clause-call g c =
 -- it is done
 pub invariant_of-self-2 : goal.invariant_of-self-2
 invariant_of-self-2 g c =
-    read_invariant c.self.inside.tree c.bytes_for_reader.new.tree c.self.inside.files c.note_known.new.self c.seek.new.self c.args.fd (c.in-Some.reader.now.position + c.len.result) c.in-Some.reader.now c.bytes_for_reader.new.known c.self.invariant.ready c.if-has_failed.ensures c.in-Some.ensures
-    c.in_ok-bytes.ensures.reading.asked c.note_known.ensures c.seek.ensures c.self.invariant c.in_ok-bytes.ensures.blocks
+    read_invariant c.self.inside.tree c.bytes_for_reader.new.tree c.self.inside.files c.set_index_cache.new.self c.seek.new.self c.args.fd (c.in-Some.reader.now.position + c.len.result) c.in-Some.reader.now c.bytes_for_reader.new.known c.self.invariant.ready c.if-has_failed.ensures c.in-Some.ensures
+    c.in_ok-bytes.ensures.reading.asked c.set_index_cache.ensures c.seek.ensures c.self.invariant c.in_ok-bytes.ensures.blocks
 
 pub returns-clause-call : goal.returns-clause-call
 returns-clause-call g c =
-    done_read c.self.inside.tree c.bytes_for_reader.new.tree c.self.inside.files c.note_known.new.self c.seek.new.self c.args.fd (c.in-Some.reader.now.position + c.len.result) c.in-Some.reader.now c.bytes_for_reader.new.known c.self.invariant.ready c.if-has_failed.ensures c.in-Some.ensures
-    c.in_ok-bytes.ensures.reading.asked c.note_known.ensures c.seek.ensures _ c.args.count c.in_ok-bytes.bytes.items c.self.view_is c.in_ok-bytes.ensures.bytes
+    done_read c.self.inside.tree c.bytes_for_reader.new.tree c.self.inside.files c.set_index_cache.new.self c.seek.new.self c.args.fd (c.in-Some.reader.now.position + c.len.result) c.in-Some.reader.now c.bytes_for_reader.new.known c.self.invariant.ready c.if-has_failed.ensures c.in-Some.ensures
+    c.in_ok-bytes.ensures.reading.asked c.set_index_cache.ensures c.seek.ensures _ c.args.count c.in_ok-bytes.bytes.items c.self.view_is c.in_ok-bytes.ensures.bytes
     (omega (arith, c.len.ensures, c.in_ok-bytes.bytes.ok.0))
 
 pub returns-clause-few : goal.returns-clause-few
 returns-clause-few g c =
     let kept = kept_reader c.self.inside.tree c.self.inside.files c.args.fd c.in-Some.reader.now c.self.invariant.ready c.if-has_failed.ensures c.in-Some.ensures in
-    subst (λ h. ReadsFew h c.args.fd c.args.count (session_view c.bytes_for_reader.new.tree c.seek.new.self)) c.self.view_is
+    subst (λ h. BoundsFileReads h c.args.fd c.args.count (session_view c.bytes_for_reader.new.tree c.seek.new.self)) c.self.view_is
     (few_reads c.self.inside.tree c.bytes_for_reader.new.tree c.self.inside.files (files_view c.bytes_for_reader.new.tree c.seek.new.self) c.args.fd c.args.count c.in-Some.reader.now _ _ c.in-Some.ensures kept.contents c.in_ok-bytes.ensures.none c.in_ok-bytes.ensures.few)

@@ -2,7 +2,7 @@ use Rattle.std.proofs.Common.{◌≡◌, ◌+◌, true, length, take, is_some, s
 use Rattle.std.proofs.lemmas.List.{length-take-le}
 use Rattle.lfs_device.specs.declared.error.Error.TheVariants as error
 use Rattle.lfs_model.specs.session.Operations as ops
-use Rattle.lfs_fs.proofs.Common.{open_file_at, files_view, ReadsFew, session_view}
+use Rattle.lfs_fs.proofs.Common.{open_file_at, files_view, BoundsFileReads, session_view}
 use Rattle.lfs_fs.proofs.Errors.{given_on}
 use Rattle.lfs_fs.proofs.OpenFiles.{none_reader, reader_there}
 use Rattle.lfs_fs.proofs.Questions.{failed_by}
@@ -19,7 +19,7 @@ read-requires-clause-blocks g c = known_of_reader c.self.inside.tree c.self.insi
 
 pub seek-requires : goal.seek-requires
 seek-requires g c =
-    subst (λ fs. is_some (open_file_at fs c.args.fd) ≡ true) (sym c.note_known.ensures)
+    subst (λ fs. is_some (open_file_at fs c.args.fd) ≡ true) (sym c.set_index_cache.ensures)
     (there_noted c.read.new.known c.self.inside.files c.args.fd (reader_there (open_file_at c.self.inside.files c.args.fd) c.in-Some.reader.now c.in-Some.ensures))
 
 -- a check refuses it
@@ -42,18 +42,18 @@ returns-in_err-count-clause-call g c =
 -- it is done
 pub invariant_of-self-2 : goal.invariant_of-self-2
 invariant_of-self-2 g c =
-    read_invariant c.self.inside.tree c.read.new.self c.self.inside.files c.note_known.new.self c.seek.new.self c.args.fd (c.in-Some.reader.now.position + c.in_ok-count.count) c.in-Some.reader.now c.read.new.known c.self.invariant.ready c.if-has_failed.ensures c.in-Some.ensures
-    c.in_ok-count.ensures.asks.asked c.note_known.ensures c.seek.ensures c.self.invariant c.in_ok-count.ensures.blocks
+    read_invariant c.self.inside.tree c.read.new.self c.self.inside.files c.set_index_cache.new.self c.seek.new.self c.args.fd (c.in-Some.reader.now.position + c.in_ok-count.count) c.in-Some.reader.now c.read.new.known c.self.invariant.ready c.if-has_failed.ensures c.in-Some.ensures
+    c.in_ok-count.ensures.asks.asked c.set_index_cache.ensures c.seek.ensures c.self.invariant c.in_ok-count.ensures.blocks
 
 pub returns-clause-call : goal.returns-clause-call
 returns-clause-call g c =
     let kept = kept_reader c.self.inside.tree c.self.inside.files c.args.fd c.in-Some.reader.now c.self.invariant.ready c.if-has_failed.ensures c.in-Some.ensures in
-    done_read c.self.inside.tree c.read.new.self c.self.inside.files c.note_known.new.self c.seek.new.self c.args.fd (c.in-Some.reader.now.position + c.in_ok-count.count) c.in-Some.reader.now c.read.new.known c.self.invariant.ready c.if-has_failed.ensures c.in-Some.ensures
-    c.in_ok-count.ensures.asks.asked c.note_known.ensures c.seek.ensures _ (length c.args.buf.now) (take c.in_ok-count.count c.read.new.buf) c.self.view_is (c.in_ok-count.ensures.bytes c.in-Some.reader.now.path kept.contents)
+    done_read c.self.inside.tree c.read.new.self c.self.inside.files c.set_index_cache.new.self c.seek.new.self c.args.fd (c.in-Some.reader.now.position + c.in_ok-count.count) c.in-Some.reader.now c.read.new.known c.self.invariant.ready c.if-has_failed.ensures c.in-Some.ensures
+    c.in_ok-count.ensures.asks.asked c.set_index_cache.ensures c.seek.ensures _ (length c.args.buf.now) (take c.in_ok-count.count c.read.new.buf) c.self.view_is (c.in_ok-count.ensures.bytes c.in-Some.reader.now.path kept.contents)
     (ap (λ k. c.in-Some.reader.now.position + k) (sym (length-take-le c.in_ok-count.count c.read.new.buf (omega (arith, c.in_ok-count.ensures.count.0)))))
 
 pub returns-clause-few : goal.returns-clause-few
 returns-clause-few g c =
     let kept = kept_reader c.self.inside.tree c.self.inside.files c.args.fd c.in-Some.reader.now c.self.invariant.ready c.if-has_failed.ensures c.in-Some.ensures in
-    subst (λ h. ReadsFew h c.args.fd (length c.args.buf.now) (session_view c.read.new.self c.seek.new.self)) c.self.view_is
+    subst (λ h. BoundsFileReads h c.args.fd (length c.args.buf.now) (session_view c.read.new.self c.seek.new.self)) c.self.view_is
     (few_reads c.self.inside.tree c.read.new.self c.self.inside.files (files_view c.read.new.self c.seek.new.self) c.args.fd (length c.args.buf.now) c.in-Some.reader.now _ _ c.in-Some.ensures kept.contents c.in_ok-count.ensures.none c.in_ok-count.ensures.few)

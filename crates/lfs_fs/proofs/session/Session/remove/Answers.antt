@@ -1,6 +1,6 @@
 use Rattle.std.proofs.Common.{refl, sym, ap, ap₂}
 use Rattle.lfs_model.specs.session.Operations as ops
-use Rattle.lfs_fs.proofs.Common.{session_view, tree_removing, shown_tree}
+use Rattle.lfs_fs.proofs.Common.{session_view, tree_removing, visible_tree}
 use Rattle.lfs_fs.proofs.Errors.{given_on}
 use Rattle.lfs_fs.proofs.RemoveAnswered.{removed_left}
 use Rattle.lfs_fs.proofs.RemoveChecks.{remove_can}
@@ -36,4 +36,4 @@ returns g c =
     (passed_writable (session_view c.self.inside.tree c.self.inside.files) (ops.Remove c.args.path.now) _ refl h.1)
     (removed_left _ c.self.inside.tree c.check_remove.new.tree c.remove-answer.new.self c.self.inside.files c.args.path.now c.remove-answer.result c.lemma_files_stay.ensures.stay c.self.invariant.ready h.0 h.1 c.remove-answer.ensures.done (λ f. f (ops.Remove c.args.path.now) (c.args.path.now, (refl, sym h.2))) c.remove-answer.ensures.broken) c.lemma_calls_conform.ensures
     c.remove-answer.ensures.done (λ f. f (ops.Remove c.args.path.now) (c.args.path.now, (refl, sym h.2))) c.remove-answer.ensures.alone (λ f. f (ops.Remove c.args.path.now) (c.args.path.now, (refl, sym h.2))) c.remove-answer.ensures.broken c.remove-answer.ensures.errors c.remove-answer.ensures.survives
-    (ap₂ (λ p t. tree_removing p t) h.2 (ap shown_tree h.0.same))
+    (ap₂ (λ p t. tree_removing p t) h.2 (ap visible_tree h.0.same))

@@ -1,6 +1,6 @@
 use Rattle.std.proofs.Common.{refl, sym, ap, ap₂}
 use Rattle.lfs_model.specs.session.Operations as ops
-use Rattle.lfs_fs.proofs.Common.{session_view, attributes_without, shown_tree, tree_with_attributes}
+use Rattle.lfs_fs.proofs.Common.{session_view, attributes_without, visible_tree, tree_with_attributes}
 use Rattle.lfs_fs.proofs.EntryChecks.{remove_attr_can}
 use Rattle.lfs_fs.proofs.Errors.{given_on}
 use Rattle.lfs_fs.proofs.Staying.{remove_attr_left}
@@ -36,4 +36,4 @@ returns g c =
     (passed_writable (session_view c.self.inside.tree c.self.inside.files) (ops.RemoveAttr c.args.path.now c.args.kind) _ refl h.1)
     (remove_attr_left _ c.self.inside.tree c.check_remove_attr.new.tree c.remove_attr-answer.new.self c.self.inside.files c.args.path.now c.args.kind c.remove_attr-answer.result c.lemma_files_stay.ensures.stay c.self.invariant.ready h.0 h.1 c.remove_attr-answer.ensures.done (λ f. f (ops.RemoveAttr c.args.path.now c.args.kind) (c.args.path.now, (refl, sym h.2))) c.remove_attr-answer.ensures.broken) c.lemma_calls_conform.ensures
     c.remove_attr-answer.ensures.done (λ f. f (ops.RemoveAttr c.args.path.now c.args.kind) (c.args.path.now, (refl, sym h.2))) c.remove_attr-answer.ensures.alone (λ f. f (ops.RemoveAttr c.args.path.now c.args.kind) (c.args.path.now, (refl, sym h.2))) c.remove_attr-answer.ensures.broken c.remove_attr-answer.ensures.errors c.remove_attr-answer.ensures.survives
-    (ap₂ (λ p t. tree_with_attributes p (attributes_without c.args.kind) t) h.2 (ap shown_tree h.0.same))
+    (ap₂ (λ p t. tree_with_attributes p (attributes_without c.args.kind) t) h.2 (ap visible_tree h.0.same))

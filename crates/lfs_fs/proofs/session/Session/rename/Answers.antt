@@ -1,5 +1,5 @@
 use Rattle.std.proofs.Common.{◌∙◌, ap₂, refl, sym, ap}
-use Rattle.lfs_fs.proofs.Common.{same_path, tree_renaming, session_view, path_or_root, TreeState, shown_tree}
+use Rattle.lfs_fs.proofs.Common.{same_path, tree_renaming, session_view, path_or_root, TreeState, visible_tree}
 use Rattle.lfs_model.specs.session.Operations as ops
 use Rattle.lfs_fs.proofs.Errors.{given_on}
 use Rattle.lfs_fs.proofs.RenameAnswered.{renamed_left, same_answers}
@@ -64,4 +64,4 @@ returns g c =
     (passed_writable (session_view c.self.inside.tree c.self.inside.files) (ops.Rename c.args.from.now c.args.to.now) _ refl h.1)
     (renamed_left _ c.self.inside.tree c.check_rename.new.tree c.rename-answer.new.self c.self.inside.files c.args.from.now c.args.to.now c.rename-answer.result c.lemma_files_stay.ensures.stay c.self.invariant.ready h.0 h.1 (sym h.2.same ∙ c.if-renaming.false) c.rename-answer.ensures.done (λ f. f (ops.Rename c.args.from.now c.args.to.now) (c.args.from.now, (c.args.to.now, (refl, (sym h.2.from, sym h.2.to))))) c.rename-answer.ensures.broken) c.lemma_calls_conform.ensures
     c.rename-answer.ensures.done (λ f. f (ops.Rename c.args.from.now c.args.to.now) (c.args.from.now, (c.args.to.now, (refl, (sym h.2.from, sym h.2.to))))) c.rename-answer.ensures.alone (λ f. f (ops.Rename c.args.from.now c.args.to.now) (c.args.from.now, (c.args.to.now, (refl, (sym h.2.from, sym h.2.to))))) c.rename-answer.ensures.broken c.rename-answer.ensures.errors c.rename-answer.ensures.survives
-    (ap₂ (λ p q. tree_renaming p q (shown_tree c.check_rename.new.tree)) h.2.from h.2.to ∙ ap (λ t. tree_renaming (path_or_root c.args.from.now) (path_or_root c.args.to.now) (shown_tree t)) h.0.same)
+    (ap₂ (λ p q. tree_renaming p q (visible_tree c.check_rename.new.tree)) h.2.from h.2.to ∙ ap (λ t. tree_renaming (path_or_root c.args.from.now) (path_or_root c.args.to.now) (visible_tree t)) h.0.same)

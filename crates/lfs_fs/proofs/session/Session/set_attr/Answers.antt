@@ -1,6 +1,6 @@
 use Rattle.std.proofs.Common.{refl, sym, ap, ap₂}
 use Rattle.lfs_model.specs.session.Operations as ops
-use Rattle.lfs_fs.proofs.Common.{session_view, attributes_with, shown_tree, tree_with_attributes}
+use Rattle.lfs_fs.proofs.Common.{session_view, attributes_with, visible_tree, tree_with_attributes}
 use Rattle.lfs_fs.proofs.Errors.{given_on}
 use Rattle.lfs_fs.proofs.SetAttrChecks.{set_attr_can}
 use Rattle.lfs_fs.proofs.Staying.{set_attr_left}
@@ -39,4 +39,4 @@ returns g c =
     (passed_writable (session_view c.self.inside.tree c.self.inside.files) (ops.SetAttr c.args.path.now c.args.kind c.args.value.now) _ refl h.1)
     (set_attr_left _ c.self.inside.tree c.check_set_attr.new.tree c.set_attr-answer.new.self c.self.inside.files c.args.path.now c.args.kind c.args.value.now c.set_attr-answer.result c.lemma_files_stay.ensures.stay c.self.invariant.ready h.0 h.1 c.set_attr-answer.ensures.done (λ f. f (ops.SetAttr c.args.path.now c.args.kind c.args.value.now) (c.args.path.now, (refl, sym h.2))) c.set_attr-answer.ensures.broken) c.lemma_calls_conform.ensures
     c.set_attr-answer.ensures.done (λ f. f (ops.SetAttr c.args.path.now c.args.kind c.args.value.now) (c.args.path.now, (refl, sym h.2))) c.set_attr-answer.ensures.alone (λ f. f (ops.SetAttr c.args.path.now c.args.kind c.args.value.now) (c.args.path.now, (refl, sym h.2))) c.set_attr-answer.ensures.broken c.set_attr-answer.ensures.errors c.set_attr-answer.ensures.survives
-    (ap₂ (λ p t. tree_with_attributes p (attributes_with c.args.kind c.args.value.now) t) h.2 (ap shown_tree h.0.same))
+    (ap₂ (λ p t. tree_with_attributes p (attributes_with c.args.kind c.args.value.now) t) h.2 (ap visible_tree h.0.same))

@@ -2,7 +2,7 @@ use Rattle.std.proofs.Common.{◌≡◌, ℕ, false, true, None, Some, Result, O
 use Rattle.std.specs.Prelude.{IfErr, OnErr, OnOk}
 use Rattle.lfs_device.specs.declared.error.Error.{Error}
 use Rattle.lfs_model.specs.session.Operations as ops
-use Rattle.lfs_fs.proofs.Common.{AreBytesStored, DeviceConforms, HasErrorCause, HasSessionInvariant, IsCall, IsFailedTree, IsReady, IsSavedWriter, RuntimeFiles, SessionView, SurvivesStops, TreeState, files_view, is_unsaved_writer, node_with_bytes, open_file_at, refusal_by_checks, reply_from, session_view, shown_tree, synced_writer, tree_with_change, unsaved_or_tree, writer_view}
+use Rattle.lfs_fs.proofs.Common.{IsStoreApplied, DeviceConforms, HasErrorCause, HasSessionInvariant, IsCall, IsFailedTree, IsReady, IsSavedWriter, RuntimeFiles, SessionView, PowerLossesLeaveEither, TreeState, files_view, is_writer_with_draft, node_with_bytes, open_file_at, refusal_by_checks, reply_from, session_view, visible_tree, synced_writer, tree_with_change, draft_or_stored_bytes, writer_view}
 use Rattle.lfs_fs.specs.WriterChanges.{ChangesWriterAt}
 use Rattle.lfs_fs.specs.declared.files.OpenFile.TheVariants as file
 use Rattle.lfs_fs.specs.declared.files.Writer.{Writer}
@@ -37,13 +37,13 @@ returns-then-not-is_unsaved_at g c =
 
 -- the tree's call ends it
 module _ (t new : TreeState) (fs gs : RuntimeFiles) (fd : ℕ) (w : Writer) (between : HasSessionInvariant t fs) (e : refusal_by_checks (session_view t fs) (ops.Sync fd) ≡ None) (is : Some (file.Writing w) ≡ open_file_at fs fd) where
-  ready_after : (r : Result (Unit {0}) Error) → OnOk r (AreBytesStored t w.path (unsaved_or_tree t w.path w.unsaved) new) → ChangesWriterAt fs fd (λ v. OnOk r (IsSavedWriter new (synced_writer (writer_view t w)) v)) gs → OnErr r (IsFailedTree t new) → new.failed ≡ false → IsReady new gs
+  ready_after : (r : Result (Unit {0}) Error) → OnOk r (IsStoreApplied t w.path (draft_or_stored_bytes t w.path w.unsaved) new) → ChangesWriterAt fs fd (λ v. OnOk r (IsSavedWriter new (synced_writer (writer_view t w)) v)) gs → OnErr r (IsFailedTree t new) → new.failed ≡ false → IsReady new gs
   ready_after (Ok u) stored saved broken works = sync_ready t new fs gs fd w saved.writer _ between.ready e is stored saved.holds saved.only
   ready_after (Err x) stored saved broken works = absurd (let k = sym works ∙ broken.failed in cc)
 
-  ended : (now : SessionView) (r : Result (Unit {0}) Error) → session_view t fs ≡ now → is_unsaved_writer (open_file_at fs fd) ≡ true → DeviceConforms new →
-      OnOk r (AreBytesStored t w.path (unsaved_or_tree t w.path w.unsaved) new) → ChangesWriterAt fs fd (λ v. OnOk r (IsSavedWriter new (synced_writer (writer_view t w)) v)) gs → OnErr r (IsFailedTree t new) → IfErr r (HasErrorCause t new) →
-      SurvivesStops t new (tree_with_change w.path (node_with_bytes (unsaved_or_tree t w.path w.unsaved)) (shown_tree t)) → IsCall now (ops.Sync fd) (reply_from (λ u. ops.Done) r) (session_view new gs)
+  ended : (now : SessionView) (r : Result (Unit {0}) Error) → session_view t fs ≡ now → is_writer_with_draft (open_file_at fs fd) ≡ true → DeviceConforms new →
+      OnOk r (IsStoreApplied t w.path (draft_or_stored_bytes t w.path w.unsaved) new) → ChangesWriterAt fs fd (λ v. OnOk r (IsSavedWriter new (synced_writer (writer_view t w)) v)) gs → OnErr r (IsFailedTree t new) → IfErr r (HasErrorCause t new) →
+      PowerLossesLeaveEither t new (tree_with_change w.path (node_with_bytes (draft_or_stored_bytes t w.path w.unsaved)) (visible_tree t)) → IsCall now (ops.Sync fd) (reply_from (λ u. ops.Done) r) (session_view new gs)
   ended now (Ok u) same unsaved reported stored saved broken errors survives =
       changed_call t fs now (ops.Sync fd) (λ u. ops.Done) (Ok u) (session_view new gs) same between reported refl refl refl
       (stored_others t new fs now (ops.Sync fd) fd w _ same between.ready is (λ s. refl) stored)

@@ -2,7 +2,7 @@ use Rattle.std.proofs.Common.{◌≡◌, ◌∙◌, ℕ, Some, None, Result, Ok,
 use Rattle.std.specs.Prelude.{◌==◌, IfErr, OnErr, OnOk}
 use Rattle.lfs_device.specs.declared.error.Error.{Error}
 use Rattle.lfs_model.specs.session.Operations as ops
-use Rattle.lfs_fs.proofs.Common.{CanTruncateBy, DeviceConforms, HasErrorCause, HasSessionInvariant, IsCall, IsChangedWriter, IsFailedTree, IsReady, IsStep, KeepsImage, RuntimeFiles, SessionView, SurvivesStops, TreeState, files_view, open_file_at, refusal_by_checks, reply_from, session_view, shown_tree, system_state, truncated_writer, writer_if_any, writer_view}
+use Rattle.lfs_fs.proofs.Common.{CanTruncateTo, DeviceConforms, HasErrorCause, HasSessionInvariant, IsCall, IsChangedWriter, IsFailedTree, IsReady, IsStep, KeepsImage, RuntimeFiles, SessionView, PowerLossesLeaveEither, TreeState, files_view, open_file_at, refusal_by_checks, reply_from, session_view, visible_tree, system_state, truncated_writer, writer_if_any, writer_view}
 use Rattle.lfs_fs.specs.WriterChanges.{ChangesWriterAt}
 use Rattle.lfs_fs.specs.declared.files.OpenFile.TheVariants as file
 use Rattle.lfs_fs.specs.declared.files.Writer.{Writer}
@@ -43,7 +43,7 @@ module _ (t new : TreeState) (fs gs : RuntimeFiles) (fd size : ℕ) (w : Writer)
   ready : IsReady t fs
   ready = between.ready (not_failed (session_view t fs) (ops.Truncate fd size) e)
 
-  can : CanTruncateBy t w size
+  can : CanTruncateTo t w size
   can = can_now t fs fd size w is e ready other
 
   ready_after : (r : Result (Unit {0}) Error) → ChangesWriterAt fs fd (λ v. OnOk r (IsChangedWriter new (truncated_writer (writer_view t w) size) v)) gs → OnOk r (KeepsImage t new) → OnErr r (IsFailedTree t new) → new.failed ≡ false → IsReady new gs
@@ -51,7 +51,7 @@ module _ (t new : TreeState) (fs gs : RuntimeFiles) (fd size : ℕ) (w : Writer)
   ready_after (Err x) made beside broken works = absurd (let k = sym works ∙ broken.failed in cc)
 
   ended : (now : SessionView) (r : Result (Unit {0}) Error) → session_view t fs ≡ now → DeviceConforms new → ChangesWriterAt fs fd (λ v. OnOk r (IsChangedWriter new (truncated_writer (writer_view t w) size) v)) gs → OnOk r (KeepsImage t new) → OnErr r (IsFailedTree t new) → IfErr r (HasErrorCause t new) →
-      SurvivesStops t new (shown_tree t) → IsCall now (ops.Truncate fd size) (reply_from (λ u. ops.Done) r) (session_view new gs)
+      PowerLossesLeaveEither t new (visible_tree t) → IsCall now (ops.Truncate fd size) (reply_from (λ u. ops.Done) r) (session_view new gs)
   ended now (Ok u) same reported made beside broken errors survives =
       changed_call t fs now (ops.Truncate fd size) (λ u. ops.Done) (Ok u) (session_view new gs) same between reported refl refl refl
       (beside_others t new fs now (ops.Truncate fd size) same between.ready beside)

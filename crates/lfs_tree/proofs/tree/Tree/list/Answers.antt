@@ -10,13 +10,13 @@ list_directory-listing-requires g c =
 
 pub invariant_of-self : goal.invariant_of-self
 invariant_of-self g c =
-    held c.self.inside.thread c.list_directory-listing.new.thread c.self.inside.root c.self.inside.is_writable (rooted_held c.self.inside.thread c.self.inside.root c.self.inside.is_writable c.args.self.now c.self.invariant c.self.view_is c.requires) c.list_directory-listing.result c.mark_failed.new.thread c.mark_failed.ensures c.list_directory-listing.ensures.reading
+    held c.self.inside.thread c.list_directory-listing.new.thread c.self.inside.root c.self.inside.is_writable (rooted_held c.self.inside.thread c.self.inside.root c.self.inside.is_writable c.args.self.now c.self.invariant c.self.view_is c.requires) c.list_directory-listing.result c.fail_on_error.new.thread c.fail_on_error.ensures c.list_directory-listing.ensures.reading
 
 pub returns-clause-asks : goal.returns-clause-asks
 returns-clause-asks g c =
-    asking c.self.inside.thread c.list_directory-listing.new.thread c.self.inside.root c.self.inside.is_writable (rooted_held c.self.inside.thread c.self.inside.root c.self.inside.is_writable c.args.self.now c.self.invariant c.self.view_is c.requires) c.args.self.now c.list_directory-listing.result c.mark_failed.new.thread c.self.view_is c.mark_failed.ensures c.list_directory-listing.ensures.reading
+    asking c.self.inside.thread c.list_directory-listing.new.thread c.self.inside.root c.self.inside.is_writable (rooted_held c.self.inside.thread c.self.inside.root c.self.inside.is_writable c.args.self.now c.self.invariant c.self.view_is c.requires) c.args.self.now c.list_directory-listing.result c.fail_on_error.new.thread c.self.view_is c.fail_on_error.ensures c.list_directory-listing.ensures.reading
 
 pub returns-clause-few : goal.returns-clause-few
 returns-clause-few g c =
-    subst (λ (t : ThreadView). ReadsPairsOnce (ancestor_paths c.args.path.now ++ c.args.path.now ∷ []) c.args.self.now t.kept.history) (sym c.mark_failed.ensures)
+    subst (λ (t : ThreadView). ReadsPairsOnce (ancestor_paths c.args.path.now ++ c.args.path.now ∷ []) c.args.self.now t.kept.history) (sym c.fail_on_error.ensures)
     (subst (λ (s : TreeState). ReadsPairsOnce (ancestor_paths c.args.path.now ++ c.args.path.now ∷ []) s c.list_directory-listing.new.thread.kept.history) c.self.view_is (record { few = c.list_directory-listing.ensures.few; none = c.list_directory-listing.ensures.kept }))

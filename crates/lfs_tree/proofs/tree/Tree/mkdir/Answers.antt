@@ -1,5 +1,5 @@
 use Rattle.std.proofs.Common.{refl}
-use Rattle.lfs_tree.proofs.Common.{err_from_is_err_and, CanAddIn, kept_thread}
+use Rattle.lfs_tree.proofs.Common.{err_from_is_err_and, CanAddEntryIn, kept_thread}
 use Rattle.lfs_model.specs.session.Operations as ops
 use Rattle.lfs_tree.specs.TreeCalls as call
 use Rattle.lfs_tree.proofs.Operated.{plain_mkdir}
@@ -10,28 +10,28 @@ use Rattle.lfs_tree.proofs.tree.Tree.mkdir.Goals as goal
 pub returns-in_err-plan : goal.returns-in_err-plan
 returns-in_err-plan g c =
     let p = err_from_is_err_and c.from_residual.result c.from_residual.ensures.1 in
-    recovery_failed c.args.self.now c.recover_planned.new.self (call.Mkdir c.args.path.now) c.recover_planned.result c.from_residual.result _ p.0 c.in_err-plan.was p.1 p.2 c.recover_planned.ensures.does
+    recovery_failed c.args.self.now c.plan_and_recover.new.self (call.Mkdir c.args.path.now) c.plan_and_recover.result c.from_residual.result _ p.0 c.in_err-plan.was p.1 p.2 c.plan_and_recover.ensures.does
 
 pub make_directory_at-made-requires-clause-rests : goal.make_directory_at-made-requires-clause-rests
-make_directory_at-made-requires-clause-rests g c = rests_behind c.args.self.now c.recover_planned.new.self c.requires.works c.requires.writable (c.in_ok-plan.ensures.does.done ops.Recover refl) c.in_ok-plan.ensures.settled c.self.inside.thread c.self.inside.root c.self.inside.is_writable c.self.invariant c.self.view_is
+make_directory_at-made-requires-clause-rests g c = rests_behind c.args.self.now c.plan_and_recover.new.self c.requires.works c.requires.writable (c.in_ok-plan.ensures.does.done ops.Recover refl) c.in_ok-plan.ensures.settled c.self.inside.thread c.self.inside.root c.self.inside.is_writable c.self.invariant c.self.view_is
 
 pub make_directory_at-made-requires-clause-can : goal.make_directory_at-made-requires-clause-can
 make_directory_at-made-requires-clause-can g c =
-    add_after (kept_thread c.args.self.now) c.self.inside.thread.kept (settled_here c.args.self.now c.recover_planned.new.self c.requires.works c.requires.writable (c.in_ok-plan.ensures.does.done ops.Recover refl) c.in_ok-plan.ensures.settled c.self.inside.thread c.self.inside.root c.self.inside.is_writable c.self.invariant c.self.view_is) c.args.path.now 4
-    (allowed c.args.self.now c.recover_planned.new.self c.requires.works c.requires.writable (c.in_ok-plan.ensures.does.done ops.Recover refl) c.in_ok-plan.ensures.settled c.self.inside.thread c.self.inside.root c.self.inside.is_writable c.self.invariant c.self.view_is (λ s. CanAddIn s c.args.path.now 4) c.requires)
+    add_after (kept_thread c.args.self.now) c.self.inside.thread.kept (settled_here c.args.self.now c.plan_and_recover.new.self c.requires.works c.requires.writable (c.in_ok-plan.ensures.does.done ops.Recover refl) c.in_ok-plan.ensures.settled c.self.inside.thread c.self.inside.root c.self.inside.is_writable c.self.invariant c.self.view_is) c.args.path.now 4
+    (allowed c.args.self.now c.plan_and_recover.new.self c.requires.works c.requires.writable (c.in_ok-plan.ensures.does.done ops.Recover refl) c.in_ok-plan.ensures.settled c.self.inside.thread c.self.inside.root c.self.inside.is_writable c.self.invariant c.self.view_is (λ s. CanAddEntryIn s c.args.path.now 4) c.requires)
 
 pub invariant_of-self : goal.invariant_of-self
 invariant_of-self g c =
-    held_noted c.args.self.now c.recover_planned.new.self c.requires.works c.requires.writable (c.in_ok-plan.ensures.does.done ops.Recover refl) c.in_ok-plan.ensures.settled c.self.inside.thread c.self.inside.root c.self.inside.is_writable c.self.invariant c.self.view_is (call.Mkdir c.args.path.now) (plain_mkdir c.args.path.now) c.recover_planned.ensures.does.survives
-    c.make_directory_at-made.new.thread c.mark_failed.new.thread c.make_directory_at-made.result c.make_directory_at-made.ensures c.mark_failed.ensures
+    held_noted c.args.self.now c.plan_and_recover.new.self c.requires.works c.requires.writable (c.in_ok-plan.ensures.does.done ops.Recover refl) c.in_ok-plan.ensures.settled c.self.inside.thread c.self.inside.root c.self.inside.is_writable c.self.invariant c.self.view_is (call.Mkdir c.args.path.now) (plain_mkdir c.args.path.now) c.plan_and_recover.ensures.does.survives
+    c.make_directory_at-made.new.thread c.fail_on_error.new.thread c.make_directory_at-made.result c.make_directory_at-made.ensures c.fail_on_error.ensures
 
 pub relocate-requires : goal.relocate-requires
 relocate-requires g c =
-    may_move c.args.self.now c.recover_planned.new.self c.requires.works c.requires.writable (c.in_ok-plan.ensures.does.done ops.Recover refl) c.in_ok-plan.ensures.settled c.self.inside.thread c.self.inside.root c.self.inside.is_writable c.self.invariant c.self.view_is (call.Mkdir c.args.path.now) (plain_mkdir c.args.path.now) c.recover_planned.ensures.does.survives
-    c.make_directory_at-made.new.thread c.mark_failed.new.thread c.make_directory_at-made.result c.make_directory_at-made.ensures c.mark_failed.ensures c.in_ok-plan.plan c.in_ok-plan.ensures.planned
+    may_move c.args.self.now c.plan_and_recover.new.self c.requires.works c.requires.writable (c.in_ok-plan.ensures.does.done ops.Recover refl) c.in_ok-plan.ensures.settled c.self.inside.thread c.self.inside.root c.self.inside.is_writable c.self.invariant c.self.view_is (call.Mkdir c.args.path.now) (plain_mkdir c.args.path.now) c.plan_and_recover.ensures.does.survives
+    c.make_directory_at-made.new.thread c.fail_on_error.new.thread c.make_directory_at-made.result c.make_directory_at-made.ensures c.fail_on_error.ensures c.in_ok-plan.plan c.in_ok-plan.ensures.planned
 
 pub returns : goal.returns
 returns g c =
-    operates_moving c.args.self.now c.recover_planned.new.self c.requires.works c.requires.writable (c.in_ok-plan.ensures.does.done ops.Recover refl) c.in_ok-plan.ensures.settled c.self.inside.thread c.self.inside.root c.self.inside.is_writable c.self.invariant c.self.view_is (call.Mkdir c.args.path.now) (plain_mkdir c.args.path.now) c.recover_planned.ensures.does.survives
-    c.make_directory_at-made.new.thread c.mark_failed.new.thread c.make_directory_at-made.result c.make_directory_at-made.ensures c.mark_failed.ensures
+    operates_moving c.args.self.now c.plan_and_recover.new.self c.requires.works c.requires.writable (c.in_ok-plan.ensures.does.done ops.Recover refl) c.in_ok-plan.ensures.settled c.self.inside.thread c.self.inside.root c.self.inside.is_writable c.self.invariant c.self.view_is (call.Mkdir c.args.path.now) (plain_mkdir c.args.path.now) c.plan_and_recover.ensures.does.survives
+    c.make_directory_at-made.new.thread c.fail_on_error.new.thread c.make_directory_at-made.result c.make_directory_at-made.ensures c.fail_on_error.ensures
     c.in_ok-plan.plan c.in_ok-plan.ensures.planned c.relocate.result c.relocate.new.self c.relocate.ensures.does

@@ -7,11 +7,11 @@ use Rattle.lfs_tree.proofs.tree.Tree.profile_breach.Goals as goal
 
 pub invariant_of-self : goal.invariant_of-self
 invariant_of-self g c =
-    held c.self.inside.thread c.find_profile_breach-breach.new.thread c.self.inside.root c.self.inside.is_writable (rooted_held c.self.inside.thread c.self.inside.root c.self.inside.is_writable c.args.self.now c.self.invariant c.self.view_is c.requires) c.find_profile_breach-breach.result c.mark_failed.new.thread c.mark_failed.ensures c.find_profile_breach-breach.ensures.reading
+    held c.self.inside.thread c.find_profile_breach-breach.new.thread c.self.inside.root c.self.inside.is_writable (rooted_held c.self.inside.thread c.self.inside.root c.self.inside.is_writable c.args.self.now c.self.invariant c.self.view_is c.requires) c.find_profile_breach-breach.result c.fail_on_error.new.thread c.fail_on_error.ensures c.find_profile_breach-breach.ensures.reading
 
 pub returns-clause-asks : goal.returns-clause-asks
 returns-clause-asks g c =
-    asking c.self.inside.thread c.find_profile_breach-breach.new.thread c.self.inside.root c.self.inside.is_writable (rooted_held c.self.inside.thread c.self.inside.root c.self.inside.is_writable c.args.self.now c.self.invariant c.self.view_is c.requires) c.args.self.now c.find_profile_breach-breach.result c.mark_failed.new.thread c.self.view_is c.mark_failed.ensures c.find_profile_breach-breach.ensures.reading
+    asking c.self.inside.thread c.find_profile_breach-breach.new.thread c.self.inside.root c.self.inside.is_writable (rooted_held c.self.inside.thread c.self.inside.root c.self.inside.is_writable c.args.self.now c.self.invariant c.self.view_is c.requires) c.args.self.now c.find_profile_breach-breach.result c.fail_on_error.new.thread c.self.view_is c.fail_on_error.ensures c.find_profile_breach-breach.ensures.reading
 
 pub returns-clause-is : goal.returns-clause-is
 returns-clause-is g c =

@@ -11,28 +11,28 @@ use Rattle.lfs_tree.proofs.tree.Tree.set_attr.Goals as goal
 pub returns-in_err-plan : goal.returns-in_err-plan
 returns-in_err-plan g c =
     let p = err_from_is_err_and c.from_residual.result c.from_residual.ensures.1 in
-    recovery_failed c.args.self.now c.recover_planned.new.self (call.SetAttr c.args.path.now c.args.kind c.args.bytes.now) c.recover_planned.result c.from_residual.result _ p.0 c.in_err-plan.was p.1 p.2 c.recover_planned.ensures.does
+    recovery_failed c.args.self.now c.plan_and_recover.new.self (call.SetAttr c.args.path.now c.args.kind c.args.bytes.now) c.plan_and_recover.result c.from_residual.result _ p.0 c.in_err-plan.was p.1 p.2 c.plan_and_recover.ensures.does
 
 pub set_attr_at-set-requires-clause-rests : goal.set_attr_at-set-requires-clause-rests
-set_attr_at-set-requires-clause-rests g c = rests_behind c.args.self.now c.recover_planned.new.self c.requires.works c.requires.writable (c.in_ok-plan.ensures.does.done ops.Recover refl) c.in_ok-plan.ensures.settled c.self.inside.thread c.self.inside.root c.self.inside.is_writable c.self.invariant c.self.view_is
+set_attr_at-set-requires-clause-rests g c = rests_behind c.args.self.now c.plan_and_recover.new.self c.requires.works c.requires.writable (c.in_ok-plan.ensures.does.done ops.Recover refl) c.in_ok-plan.ensures.settled c.self.inside.thread c.self.inside.root c.self.inside.is_writable c.self.invariant c.self.view_is
 
 pub set_attr_at-set-requires-clause-can : goal.set_attr_at-set-requires-clause-can
 set_attr_at-set-requires-clause-can g c =
-    set_attr_after (kept_thread c.args.self.now) c.self.inside.thread.kept (settled_here c.args.self.now c.recover_planned.new.self c.requires.works c.requires.writable (c.in_ok-plan.ensures.does.done ops.Recover refl) c.in_ok-plan.ensures.settled c.self.inside.thread c.self.inside.root c.self.inside.is_writable c.self.invariant c.self.view_is) c.args.path.now c.args.kind c.args.bytes.now
-    (allowed c.args.self.now c.recover_planned.new.self c.requires.works c.requires.writable (c.in_ok-plan.ensures.does.done ops.Recover refl) c.in_ok-plan.ensures.settled c.self.inside.thread c.self.inside.root c.self.inside.is_writable c.self.invariant c.self.view_is (λ s. CanSetAttrIn s c.args.path.now c.args.kind c.args.bytes.now) c.requires)
+    set_attr_after (kept_thread c.args.self.now) c.self.inside.thread.kept (settled_here c.args.self.now c.plan_and_recover.new.self c.requires.works c.requires.writable (c.in_ok-plan.ensures.does.done ops.Recover refl) c.in_ok-plan.ensures.settled c.self.inside.thread c.self.inside.root c.self.inside.is_writable c.self.invariant c.self.view_is) c.args.path.now c.args.kind c.args.bytes.now
+    (allowed c.args.self.now c.plan_and_recover.new.self c.requires.works c.requires.writable (c.in_ok-plan.ensures.does.done ops.Recover refl) c.in_ok-plan.ensures.settled c.self.inside.thread c.self.inside.root c.self.inside.is_writable c.self.invariant c.self.view_is (λ s. CanSetAttrIn s c.args.path.now c.args.kind c.args.bytes.now) c.requires)
 
 pub invariant_of-self : goal.invariant_of-self
 invariant_of-self g c =
-    held_noted c.args.self.now c.recover_planned.new.self c.requires.works c.requires.writable (c.in_ok-plan.ensures.does.done ops.Recover refl) c.in_ok-plan.ensures.settled c.self.inside.thread c.self.inside.root c.self.inside.is_writable c.self.invariant c.self.view_is (call.SetAttr c.args.path.now c.args.kind c.args.bytes.now) (plain_set c.args.path.now c.args.kind c.args.bytes.now) c.recover_planned.ensures.does.survives
-    c.set_attr_at-set.new.thread c.mark_failed.new.thread c.set_attr_at-set.result c.set_attr_at-set.ensures c.mark_failed.ensures
+    held_noted c.args.self.now c.plan_and_recover.new.self c.requires.works c.requires.writable (c.in_ok-plan.ensures.does.done ops.Recover refl) c.in_ok-plan.ensures.settled c.self.inside.thread c.self.inside.root c.self.inside.is_writable c.self.invariant c.self.view_is (call.SetAttr c.args.path.now c.args.kind c.args.bytes.now) (plain_set c.args.path.now c.args.kind c.args.bytes.now) c.plan_and_recover.ensures.does.survives
+    c.set_attr_at-set.new.thread c.fail_on_error.new.thread c.set_attr_at-set.result c.set_attr_at-set.ensures c.fail_on_error.ensures
 
 pub relocate-requires : goal.relocate-requires
 relocate-requires g c =
-    may_move c.args.self.now c.recover_planned.new.self c.requires.works c.requires.writable (c.in_ok-plan.ensures.does.done ops.Recover refl) c.in_ok-plan.ensures.settled c.self.inside.thread c.self.inside.root c.self.inside.is_writable c.self.invariant c.self.view_is (call.SetAttr c.args.path.now c.args.kind c.args.bytes.now) (plain_set c.args.path.now c.args.kind c.args.bytes.now) c.recover_planned.ensures.does.survives
-    c.set_attr_at-set.new.thread c.mark_failed.new.thread c.set_attr_at-set.result c.set_attr_at-set.ensures c.mark_failed.ensures c.in_ok-plan.plan c.in_ok-plan.ensures.planned
+    may_move c.args.self.now c.plan_and_recover.new.self c.requires.works c.requires.writable (c.in_ok-plan.ensures.does.done ops.Recover refl) c.in_ok-plan.ensures.settled c.self.inside.thread c.self.inside.root c.self.inside.is_writable c.self.invariant c.self.view_is (call.SetAttr c.args.path.now c.args.kind c.args.bytes.now) (plain_set c.args.path.now c.args.kind c.args.bytes.now) c.plan_and_recover.ensures.does.survives
+    c.set_attr_at-set.new.thread c.fail_on_error.new.thread c.set_attr_at-set.result c.set_attr_at-set.ensures c.fail_on_error.ensures c.in_ok-plan.plan c.in_ok-plan.ensures.planned
 
 pub returns : goal.returns
 returns g c =
-    operates_moving c.args.self.now c.recover_planned.new.self c.requires.works c.requires.writable (c.in_ok-plan.ensures.does.done ops.Recover refl) c.in_ok-plan.ensures.settled c.self.inside.thread c.self.inside.root c.self.inside.is_writable c.self.invariant c.self.view_is (call.SetAttr c.args.path.now c.args.kind c.args.bytes.now) (plain_set c.args.path.now c.args.kind c.args.bytes.now) c.recover_planned.ensures.does.survives
-    c.set_attr_at-set.new.thread c.mark_failed.new.thread c.set_attr_at-set.result c.set_attr_at-set.ensures c.mark_failed.ensures
+    operates_moving c.args.self.now c.plan_and_recover.new.self c.requires.works c.requires.writable (c.in_ok-plan.ensures.does.done ops.Recover refl) c.in_ok-plan.ensures.settled c.self.inside.thread c.self.inside.root c.self.inside.is_writable c.self.invariant c.self.view_is (call.SetAttr c.args.path.now c.args.kind c.args.bytes.now) (plain_set c.args.path.now c.args.kind c.args.bytes.now) c.plan_and_recover.ensures.does.survives
+    c.set_attr_at-set.new.thread c.fail_on_error.new.thread c.set_attr_at-set.result c.set_attr_at-set.ensures c.fail_on_error.ensures
     c.in_ok-plan.plan c.in_ok-plan.ensures.planned c.relocate.result c.relocate.new.self c.relocate.ensures.does

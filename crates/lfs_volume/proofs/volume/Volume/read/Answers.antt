@@ -10,14 +10,14 @@ use Rattle.lfs_volume.proofs.volume.Volume.read.Goals as goal
 
 pub returns-in_err-found : goal.returns-in_err-found
 returns-in_err-found g c =
-    passed_error (λ v. ops.Bytes v.items) c.from_residual.result _ (λ z. IsVolumeCall c.args.self.now (Read c.args.handle c.args.count) z c.handle_to_read.new.self) c.from_residual.ensures.1 (c.in_err-found.ensures.ended c.args.count)
+    passed_error (λ v. ops.Bytes v.items) c.from_residual.result _ (λ z. IsVolumeCall c.args.self.now (Read c.args.handle c.args.count) z c.find_readable_handle.new.self) c.from_residual.ensures.1 (c.in_err-found.ensures.ended c.args.count)
 
 pub returns-in_err-bytes : goal.returns-in_err-bytes
 returns-in_err-bytes g c =
     let ready = c.in_ok-found.ensures.found in
-    working_call c.args.self.now c.handle_to_read.new.self (Read c.args.handle c.args.count) (reply_from (λ v. ops.Bytes v.items) c.from_residual-in_err-bytes.result) ready.sound.idle.works
-    (ended_call (λ v. ops.Bytes v.items) c.from_residual-in_err-bytes.result _ c.args.self.now c.handle_to_read.new.self (Read c.args.handle c.args.count) c.from_residual-in_err-bytes.ensures.1
-    (no_memory _ c.args.self.now c.handle_to_read.new.self (Read c.args.handle c.args.count) c.in_err-bytes.ensures.none (wants_memory c.args.self.now c.handle_to_read.new.self (Read c.args.handle c.args.count) c.in_ok-found.found.node ready.loaded ready.handles refl)))
+    working_call c.args.self.now c.find_readable_handle.new.self (Read c.args.handle c.args.count) (reply_from (λ v. ops.Bytes v.items) c.from_residual-in_err-bytes.result) ready.sound.idle.works
+    (ended_call (λ v. ops.Bytes v.items) c.from_residual-in_err-bytes.result _ c.args.self.now c.find_readable_handle.new.self (Read c.args.handle c.args.count) c.from_residual-in_err-bytes.ensures.1
+    (no_memory _ c.args.self.now c.find_readable_handle.new.self (Read c.args.handle c.args.count) c.in_err-bytes.ensures.none (wants_memory c.args.self.now c.find_readable_handle.new.self (Read c.args.handle c.args.count) c.in_ok-found.found.node ready.loaded ready.handles refl)))
 
 pub returns : goal.returns
 returns g c =

@@ -3,7 +3,7 @@ use Rattle.lfs_model.specs.format.Disk.{profile_file_max}
 use Rattle.lfs_model.specs.session.Operations as ops
 use Rattle.lfs_volume.specs.Calls.{Seek}
 use Rattle.lfs_volume.specs.Volume.{VolumeView}
-use Rattle.lfs_volume.specs.VolumeCalls.{IsFoundHandle, IsSound, IsVolumeCall}
+use Rattle.lfs_volume.specs.VolumeCalls.{IsHandleLookup, IsSoundIfWorking, IsVolumeCall}
 use Rattle.lfs_volume.proofs.Soundness.{handles_move, sound_moved}
 use Rattle.lfs_volume.proofs.VolumeSteps.{call_in_parts, no_handle, of_whole, passed_error, seek_done, seek_none, seek_too_far, working_call}
 use Rattle.lfs_volume.proofs.volume.Volume.seek.Goals as goal
@@ -27,10 +27,10 @@ returns g c =
     let most = c.file_max.ensures ∙ ap (λ (v : VolumeView). profile_file_max v.session.tree.disk.profile) (sym c.self.view_is) in
     let near : c.args.position ≤ profile_file_max c.self.inside.session.tree.disk.profile = omega arith in
     call_in_parts start c.args.self.now new (Seek c.args.handle c.args.position) (Ok ops.Done) c.self.view_is c.in_ok-find_handle.ensures.sound (λ sound.
-    seek_done start new c.args.handle c.args.position c.in_ok-find_handle.field-0 (subst (λ v. IsFoundHandle v c.args.handle (Ok c.in_ok-find_handle.field-0)) (sym c.self.view_is) c.in_ok-find_handle.ensures.found) near refl refl c.set_position.ensures)
+    seek_done start new c.args.handle c.args.position c.in_ok-find_handle.field-0 (subst (λ v. IsHandleLookup v c.args.handle (Ok c.in_ok-find_handle.field-0)) (sym c.self.view_is) c.in_ok-find_handle.ensures.found) near refl refl c.set_position.ensures)
 
 pub invariant_of-self : goal.invariant_of-self
 invariant_of-self g c =
     let start : VolumeView = record { session = c.self.inside.session; nodes = c.self.inside.nodes.items; handles = c.self.inside.handles.items } in
     let new : VolumeView = record { session = c.self.inside.session; nodes = c.self.inside.nodes.items; handles = c.set_position.new.handles.items } in
-    of_whole start c.args.self.now c.self.view_is (λ v. IsSound new) (λ sound works. sound_moved start new sound refl refl (handles_move start.handles new.handles c.args.handle c.args.position c.set_position.ensures)) c.in_ok-find_handle.ensures.sound
+    of_whole start c.args.self.now c.self.view_is (λ v. IsSoundIfWorking new) (λ sound works. sound_moved start new sound refl refl (handles_move start.handles new.handles c.args.handle c.args.position c.set_position.ensures)) c.in_ok-find_handle.ensures.sound

@@ -2,7 +2,7 @@ use Rattle.std.proofs.Common.{sym, ap, subst, ◌∙◌, ◌≡◌, List, Option
 use Rattle.lfs_model.specs.session.Operations as ops
 use Rattle.lfs_volume.specs.Calls.{Size}
 use Rattle.lfs_volume.specs.Volume.{NodeView, VolumeView, entry_at}
-use Rattle.lfs_volume.specs.VolumeCalls.{IsReplied, IsVolumeCall}
+use Rattle.lfs_volume.specs.VolumeCalls.{IsVolumeReply, IsVolumeCall}
 use Rattle.lfs_volume.proofs.VolumeSteps.{no_handle, node_missing, passed_error, size_found, size_none, working_call}
 use Rattle.lfs_volume.proofs.volume.Volume.size.Goals as goal
 
@@ -16,7 +16,7 @@ returns-in-Some g c =
     let sound = c.in_ok-found.ensures.sound in
     let at : Some c.in-Some.node.now ≡ entry_at c.args.self.now.nodes c.in_ok-found.found.node = c.in-Some.ensures ∙ ap (λ (ns : List (Option NodeView)). entry_at ns c.in_ok-found.found.node) (c.deref.ensures.value ∙ ap (λ (v : VolumeView). v.nodes) c.self.view_is) in
     working_call c.args.self.now c.args.self.now (Size c.args.handle) (Ok (ops.Count c.size.result)) sound.idle.works
-    (subst (λ k. IsReplied c.args.self.now (Size c.args.handle) (ops.Count k) c.args.self.now) (sym c.size.ensures) (size_found c.args.self.now c.args.handle c.in_ok-found.found c.in-Some.node.now c.in_ok-found.ensures.found at))
+    (subst (λ k. IsVolumeReply c.args.self.now (Size c.args.handle) (ops.Count k) c.args.self.now) (sym c.size.ensures) (size_found c.args.self.now c.args.handle c.in_ok-found.found c.in-Some.node.now c.in_ok-found.ensures.found at))
 
 pub returns-in-None : goal.returns-in-None
 returns-in-None g c =

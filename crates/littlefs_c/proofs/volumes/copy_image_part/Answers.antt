@@ -1,5 +1,0 @@
--- The bytes are those of the volume's image.
-use Rattle.littlefs_c.proofs.volumes.copy_image_part.Goals as goal
-
-pub returns-clause-copied : goal.returns-clause-copied
-returns-clause-copied c = record { bytes = c.image_of_volume.result.now; image = c.image_of_volume.ensures; takes = c.copy_part.ensures.count; copied = c.copy_part.ensures.copied }

@@ -44,7 +44,8 @@ class Browser:
         self.script("document.activeElement.dispatchEvent(new KeyboardEvent('keydown', { key: arguments[0], bubbles: true, cancelable: true, ...arguments[1] }))", key, more)
 
     def rows(self):
-        return self.script("return [...document.querySelectorAll('#tree .row')].map((it) => it.title)")
+        """Returns the paths in the tree, or none of them while a dialog is over it."""
+        return self.script("return document.querySelector('#ask').open ? [] : [...document.querySelectorAll('#tree .row')].map((it) => it.title)")
 
     def choose(self, path):
         self.until(f"{path} is in the tree", lambda: self.script("const row = [...document.querySelectorAll('#tree .row')].find((it) => it.title === arguments[0]); row?.click(); return Boolean(row)", path))

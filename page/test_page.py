@@ -106,8 +106,7 @@ class Use:
     def keys(self):
         page = self.page
         page.choose("/")
-        for _ in range(2):
-            page.press("ArrowDown")
+        page.press("ArrowDown"), page.press("ArrowDown")
         same("the second row", page.chosen(), self.listed[1])
         page.press("End")
         same("the last row", page.chosen(), self.listed[-1])

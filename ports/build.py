@@ -24,15 +24,12 @@ CRATES = {"littlefs_c": "liblittlefs_c.a", "mklittlefs": "mklittlefs.o"}  # with
 AARCH64, WASM64, WINDOWS = "aarch64-unknown-linux-gnu", "wasm64-unknown-unknown", "x86_64-w64-windows-gnu"
 WASM_FEATURES = ["-mcpu=mvp", "-mbulk-memory", "-msign-ext", "-mmutable-globals"]
 STACK = 1 << 20
+CLANG = rattle_words.kit() / "toolchain/bin/clang"
 EMSCRIPTEN = Path("/usr/share/emscripten/system")
 
 
 def run(*words, **how):
     subprocess.run([str(it) for it in words], check=True, **how)
-
-
-def clang():
-    return rattle_words.kit() / "toolchain/bin/clang"
 
 
 def exports():
@@ -117,7 +114,7 @@ def c_for_wasm(made):
         words += ["-isystem", EMSCRIPTEN / folder]
     sources = [PORTS / "wasm.c", *[EMSCRIPTEN / f"lib/compiler-rt/lib/builtins/{it}.c" for it in ("multi3", "ashlti3", "lshrti3")]]
     for source in sources:
-        run(clang(), *words, "-ffunction-sections", "-c", source, "-o", made / f"{source.stem}.o")
+        run(CLANG, *words, "-ffunction-sections", "-c", source, "-o", made / f"{source.stem}.o")
     return [made / f"{it.stem}.o" for it in sources]
 
 
@@ -125,7 +122,7 @@ def link_wasm(made, objects, names, imports, to):
     """Links a module. The stack is below the data, so it can't run into it: it traps. What isn't there is the host's to give."""
     linker = made / "wasm-ld"
     linker.unlink(missing_ok=True)
-    linker.symlink_to(clang())
+    linker.symlink_to(CLANG)
     run(linker, "-mwasm64", "--no-entry", "--gc-sections", "--strip-all", "--stack-first", "-z", f"stack-size={STACK}", *["--import-undefined"] * imports,
         *[f"--export={it}" for it in names], "-o", to, *objects)
 

@@ -13,7 +13,7 @@ With --times it prints instead how long the same work takes natively and by the 
 """
 
 import argparse
-import functools
+from concurrent.futures import ThreadPoolExecutor
 import http.server
 import os
 from pathlib import Path
@@ -114,16 +114,16 @@ def session(rnd, folder, work):
     ]
 
 
-def tool(work, rnd, count):
-    programs = {"proved": [TOP / "crates/mklittlefs/out/mklittlefs"], **{machine: [*RUNS[machine], OUT / machine / "mklittlefs"] for machine in ("x86_64", "aarch64")},
-                "node": ["node", JS / "mklittlefs.js"]}
-    runs = images = 0
-    for number in range(count):
-        folder = work / f"folder{number}"
-        make_folder(rnd, folder)
-        words, wanted = session(rnd, folder, work), None
-        for name, program in programs.items():
-            at, found = work / f"{name}{number}", []
+def tool(work, seed, count):
+    programs = {"proved": [TOP / "crates/mklittlefs/out/mklittlefs"], **{machine: [*RUNS[machine], OUT / machine / "mklittlefs"] for machine in ("x86_64", "aarch64")}}
+
+    def runs_on(number):
+        rnd, place, wanted = random.Random(f"{seed} {number}"), work / f"life{number}", None
+        make_folder(rnd, place / "folder")
+        words = session(rnd, place / "folder", place)
+        node = ["node", *["--liftoff-only"] * (number % 10 > 0), JS / "mklittlefs.js"]  # V8's optimizer takes most of the time: nine of ten go without
+        for name, program in {**programs, "node": node}.items():
+            at, found = place / name, []
             at.mkdir()
             for line in words:
                 done, image = ran([*program, *line], cwd=at), at / "disk.img"
@@ -131,10 +131,11 @@ def tool(work, rnd, count):
             wanted = wanted or found
             for got, it in zip(found, wanted):
                 same(f"mklittlefs for {name}, folder {number}, {' '.join(got[0])}", got[1:], it[1:])
-        runs, images = runs + len(words), images + (wanted[0][1] == 0)
-        for at in work.glob(f"*{number}"):
-            shutil.rmtree(at)
-    print(f"mklittlefs: {count} folders, {images} images made, {runs} runs, the same by {', '.join(list(programs)[1:])}", flush=True)
+        shutil.rmtree(place)
+        return len(words), wanted[0][1] == 0
+    with ThreadPoolExecutor() as pool:
+        runs, images = map(sum, zip(*pool.map(runs_on, range(count))))
+    print(f"mklittlefs: {count} folders, {images} images made, {runs} runs, the same by {', '.join(list(programs)[1:])}, node", flush=True)
 
 
 # ---- calls on images
@@ -179,7 +180,7 @@ def lines_of(number, rnd, work):
 def in_browser(kind, work, has_times):
     """What calls.mjs gives in a browser, which is served the files in `work`."""
     handler = type("Quiet", (http.server.SimpleHTTPRequestHandler,), {"log_message": lambda *_: None})
-    server = http.server.ThreadingHTTPServer(("127.0.0.1", 0), functools.partial(handler, directory=work))
+    server = http.server.ThreadingHTTPServer(("127.0.0.1", 0), lambda *given: handler(*given, directory=work))
     threading.Thread(target=server.serve_forever, daemon=True).start()
     with tempfile.TemporaryDirectory(ignore_cleanup_errors=True) as profile:
         page = kind(f"http://127.0.0.1:{server.server_port}/", Path(profile), work)
@@ -197,19 +198,22 @@ def answers(work, lines, libraries, *more):
     (work / "list").write_text("\n".join(lines) + "\n")
     programs = {f"{machine}, {library}": compiled(TOP / "ports/calls.c", machine, library, work) for machine, library in libraries}
     programs |= {name: [*words, JS / "test/calls.mjs", OUT / "wasm" / name] for name, words in MODULES.items()}
-    for name, words in programs.items():
-        status, found, errors = ran([*words, "list", *more], cwd=work)
-        same(f"calls for {name}: status, with {errors.decode()!r}", status, 0)
-        yield name, found.decode().splitlines()
     shutil.copytree(JS, work / "js", dirs_exist_ok=True)
     shutil.copy(OUT / "wasm/littlefs.wasm", work)
-    for kind in (browsers.Chromium, browsers.Firefox):
-        yield f"littlefs.wasm in {kind.name}", in_browser(kind, work, bool(more))
+
+    def by(name):
+        if kind := getattr(browsers, name, None):
+            return f"littlefs.wasm in {name}", in_browser(kind, work, bool(more))
+        status, found, errors = ran([*programs[name], "list", *more], cwd=work)
+        same(f"calls for {name}: status, with {errors.decode()!r}", status, 0)
+        return name, found.decode().splitlines()
+    with ThreadPoolExecutor(1 if more else None) as pool:
+        return dict(pool.map(by, [*programs, "Chromium", "Firefox"]))
 
 
 def calls(work, rnd, count):
     lines = [line for number in range(count) for line in lines_of(number, rnd, work)]
-    found = dict(answers(work, lines, LIBRARIES))
+    found = answers(work, lines, LIBRARIES)
     wanted = next(iter(found.values()))
     for name, theirs in found.items():
         same(f"calls for {name}: lines", len(theirs), len(lines))
@@ -234,15 +238,15 @@ def work_of_times():
 
 
 def times(work):
-    """Prints the middle of the last twenty of sixty rounds, and the first, while an engine compiles what it runs."""
+    """Prints the least of the last forty of sixty rounds, and the first, while an engine compiles what it runs."""
     parts = list(work_of_times())
     lines = [line for _ in range(60) for _, lines in parts for line in [*lines, line_of("time")]]
-    found = {name: [float(it) for it in them] for name, them in answers(work, lines, LIBRARIES[:1], "times")}
+    found = {name: [float(it) for it in them] for name, them in answers(work, lines, LIBRARIES[:1], "times").items()}
     print("| milliseconds | " + " | ".join(f"{name} | at first" for name in found) + " |\n|---|" + "---|---|" * len(found))
     for at, (part, _) in enumerate(parts):
         if part:
             rows = [them[at :: len(parts)] for them in found.values()]
-            print(f"| {part} | " + " | ".join(f"{sorted(it[-20:])[10]:.1f} | {it[0]:.1f}" for it in rows) + " |")
+            print(f"| {part} | " + " | ".join(f"{min(it[-40:]):.1f} | {it[0]:.1f}" for it in rows) + " |")
 
 
 # ---- scripts
@@ -269,7 +273,7 @@ def main():
             shutil.copy(OUT / "wasm" / name, JS)
         shutil.copy(OUT / "windows/littlefs_c.dll", work)
         library(work)
-        tool(work, random.Random(given.seed), given.folders)
+        tool(work, given.seed, given.folders)
         calls(work, random.Random(given.seed), given.images)
         (work / "rows").mkdir()
         scripts(work / "rows")

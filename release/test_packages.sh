@@ -5,8 +5,7 @@
 # and as root, where MIRROR is an address of Debian's packages, the Debian package in a system of its own.
 set -eu
 top=$(realpath "$(dirname "$0")/..") made=$(realpath "$(dirname "$0")/out") work=$(mktemp -d)
-trap 'rm -rf "$work"' EXIT
-cd "$work"
+trap 'rm -rf "$work"' EXIT; cd "$work"
 (cd "$made"; sha256sum --quiet -c SHA256SUMS)
 
 # a folder, its image, and what is in it
